@@ -1,0 +1,4 @@
+pub mod Ifs
+pub mod Puts
+pub mod Past
+pub mod Digits

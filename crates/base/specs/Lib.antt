@@ -1,0 +1,5 @@
+pub mod If
+pub mod Answer
+pub mod Limits
+pub mod Bytes
+pub mod Put

@@ -1,0 +1,37 @@
+-- Document 01's limits ("Limits", and those of single calls), each named once. The code's own are in src/lib.rt.
+use Prim.Native.Nat.{ℕ}
+
+-- "numbers of 24 bits": the first number that is over the limit, 2^24
+abbrev pub numbers24 : ℕ
+numbers24 = 16777216
+
+-- "channel 0 to 31": how many channels there are (`MAX_ORD_CHANS`)
+abbrev pub maxOrdChans : ℕ
+maxOrdChans = 32
+
+-- "piece count 1 to 1,024 (`MAX_FRAGS`)"
+abbrev pub maxFrags : ℕ
+maxFrags = 1024
+
+-- "2,048 places above the lowest missing number": a window's reach
+abbrev pub windowPlaces : ℕ
+windowPlaces = 2048
+
+-- "number lists up to 2,048"
+abbrev pub maxList : ℕ
+maxList = 2048
+
+-- "body 8,191": the longest body whose bits fit 16 bits
+abbrev pub maxBody : ℕ
+maxBody = 8191
+
+-- "mtu outside 61 to 1,500"
+abbrev pub minMtu : ℕ
+minMtu = 61
+
+abbrev pub maxMtu : ℕ
+maxMtu = 1500
+
+-- "chunk mtu - 60" (`RAKNET_HEADER_FRAME_OVERHEAD`)
+abbrev pub frameOverhead : ℕ
+frameOverhead = 60

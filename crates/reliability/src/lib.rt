@@ -1,0 +1,84 @@
+// One table of eight rows gives each kind's fields. Kinds 0 to 7 are those of the Rust's `Reliability`: Unreliable, UnreliableSeq, Reliable,
+// ReliableOrd, ReliableSeq, UnreliableAck, ReliableAck, ReliableOrdAck.
+ghost use mathlib.Core.Path.{_≡_};
+ghost use Prim.Native.Nat.{_≤_};
+ghost use Rattle.reliability.specs.Kinds.{fieldsOf, Small};
+
+// What a frame of a kind carries: for each field the place in the header, counted from the frame's first byte, or 0 where the kind lacks it;
+// and how many bytes the header takes, without a piece's.
+pub struct KindFields {
+    pub reliable: usize,
+    pub sequence: usize,
+    pub order: usize,
+    pub channel: usize,
+    pub header: usize,
+}
+
+const KINDS: [KindFields; 8] = [
+    KindFields {
+        reliable: 0,
+        sequence: 0,
+        order: 0,
+        channel: 0,
+        header: 3,
+    },
+    KindFields {
+        reliable: 0,
+        sequence: 3,
+        order: 6,
+        channel: 9,
+        header: 10,
+    },
+    KindFields {
+        reliable: 3,
+        sequence: 0,
+        order: 0,
+        channel: 0,
+        header: 6,
+    },
+    KindFields {
+        reliable: 3,
+        sequence: 0,
+        order: 6,
+        channel: 9,
+        header: 10,
+    },
+    KindFields {
+        reliable: 3,
+        sequence: 6,
+        order: 0,
+        channel: 0,
+        header: 9,
+    },
+    KindFields {
+        reliable: 0,
+        sequence: 0,
+        order: 0,
+        channel: 0,
+        header: 3,
+    },
+    KindFields {
+        reliable: 0,
+        sequence: 0,
+        order: 0,
+        channel: 0,
+        header: 3,
+    },
+    KindFields {
+        reliable: 3,
+        sequence: 0,
+        order: 6,
+        channel: 9,
+        header: 10,
+    },
+];
+
+// The row of kind `k`, taken modulo 8.
+pub fn fields(k: u8) -> KindFields
+    ensures is { λ r. ⌜ r ≡ fieldsOf k ⌝ }
+    ensures small { λ r. ⌜ Small r ⌝ }
+{
+    let i = (k % 8) as usize;
+    let f = KINDS[i];
+    f
+}
