@@ -2,3 +2,12 @@ pub mod Ifs
 pub mod Puts
 pub mod Past
 pub mod Digits
+pub mod Choices
+pub mod Lists
+pub mod Counts
+pub mod Indices
+pub mod Alike
+pub mod EachAt
+pub mod IfCases
+pub mod Runs
+pub mod Answers

@@ -1,5 +1,7 @@
 pub mod If
 pub mod Answer
 pub mod Limits
-pub mod Bytes
+pub mod Numbers
 pub mod Put
+pub mod Bytes
+pub mod Lists

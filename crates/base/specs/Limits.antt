@@ -35,3 +35,10 @@ maxMtu = 1500
 -- "chunk mtu - 60" (`RAKNET_HEADER_FRAME_OVERHEAD`)
 abbrev pub frameOverhead : ℕ
 frameOverhead = 60
+
+-- "1 to 4,096 cells of 1,500 bytes"
+abbrev pub maxCells : ℕ
+maxCells = 4096
+
+abbrev pub cellBytes : ℕ
+cellBytes = 1500

@@ -1,0 +1,8 @@
+pub mod ReadCases
+pub mod Grown
+pub mod RunLaws
+pub mod PassCases
+pub mod WriteCases
+pub mod ReadBack
+pub mod WriteLaws
+pub mod Bench

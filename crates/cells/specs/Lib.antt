@@ -1,0 +1,9 @@
+pub mod Cell
+pub mod Datagram
+pub mod Take
+pub mod Sound
+pub mod Store
+pub mod Room
+pub mod Calls
+pub mod Claim
+pub mod Memory

@@ -1,0 +1,54 @@
+-- "Sound means no more than this", as far as it speaks of cells and nexts (windows and unsent numbers come with the code): a test over the records.
+use Prim.Native.Nat.{ℕ, _*_, _≤_, _<_}
+use mathlib.Core.Bool.{Bool, cond, not, _&&_, _||_}
+use mathlib.Core.List.{List}
+use lib.ListN.{length}
+use lib.Dec.{ltb, leb, eqb}
+use Rattle.base.specs.Limits.{numbers24, maxOrdChans, maxFrags, maxCells, cellBytes}
+use Rattle.base.specs.Lists.{any, every, countOf, below}
+use Rattle.line.specs.Frame.{Frame}
+use Rattle.cells.specs.Cell.{Cell, Key, openAs, heldAs, readyAs, bears, at}
+
+-- "each used cell belongs to one open, held or ready message": to which
+unfoldable pub keyOf : Cell → Key
+keyOf c = cond (eqb (c .used) 1) (openAs (c .id)) (cond (eqb (c .used) 2) (heldAs (c .channel) (c .order)) (readyAs (c .turn)))
+
+-- "values and body lengths obey the limits" (an id's limit is its type's)
+unfoldable pub limits : Cell → Bool
+limits c =
+    leb (c .used) 3 && (leb (c .kind) 7 && (ltb (c .channel) maxOrdChans && (ltb (c .sequence) numbers24 && (ltb (c .order) numbers24
+    && (leb 1 (c .count) && (leb (c .count) maxFrags && (ltb (c .index) (c .count) && leb (c .length) cellBytes)))))))
+
+-- "the pieces of a message agree as in step 3"
+unfoldable pub agree : Cell → Cell → Bool
+agree c d = eqb (c .count) (d .count) && (eqb (c .kind) (d .kind) && (eqb (c .sequence) (d .sequence) && (eqb (c .order) (d .order) && eqb (c .channel) (d .channel))))
+
+-- are all indices below n there?
+unfoldable pub lacksNone : Key → List Cell → ℕ → Bool
+lacksNone k cs n = below n (λ i. any (at k i) cs)
+
+-- A cell is unused (then nothing else of it is looked at); or it is within the limits, "under an index no other cell of [its message] has", and agrees
+-- with the message's other cells; "held and ready messages lack no index", open ones do; held order numbers "exceed [the channel's] next".
+unfoldable pub soundCell : List Cell → (ℕ → ℕ) → Cell → Bool
+soundCell cs next c =
+    eqb (c .used) 0
+    || (limits c
+    && (eqb (countOf (at (keyOf c) (c .index)) cs) 1
+    && (every (λ d. not (bears (keyOf c) d) || agree c d) cs
+    && (cond (eqb (c .used) 1) (not (lacksNone (keyOf c) cs (c .count))) (lacksNone (keyOf c) cs (c .count))
+    && (not (eqb (c .used) 2) || ltb (next (c .channel)) (c .order))))))
+
+-- all cells are; and of the receiver's own values, each channel's next is at most 2^24
+unfoldable pub sound : List Cell → (ℕ → ℕ) → Bool
+sound cs next = every (soundCell cs next) cs && below maxOrdChans (λ c. leb (next c) numbers24)
+
+-- "1 to 4,096 cells of 1,500 bytes"; "the store is exactly one cell for each record"
+unfoldable pub lengths : ℕ → ℕ → Bool
+lengths cells bytes = leb 1 cells && (leb cells maxCells && eqb bytes (cellBytes * cells))
+
+-- What the reading of a datagram gives of each frame: a kind of three bits, numbers of 24, a body no longer than a cell.
+pub record Readable (f : Frame) : Type 0 where
+  pub kind : f .kind ≤ 7
+  pub sequence : f .sequence < numbers24
+  pub order : f .order < numbers24
+  pub body : length (f .body) ≤ cellBytes

@@ -1,0 +1,76 @@
+-- How large the values of a frame that was read can be.
+-- Assumes nothing.
+use mathlib.Core.Path.{_≡_, refl}
+use mathlib.Core.Bool.{Bool, true, false}
+use mathlib.Core.List.{List, List·Memᴰ}
+use Prim.Native.Nat.{ℕ, _+_, _^_, _<_, _≤_}
+use native.Mathlib.Decide.{ℕ-discrete}
+use native.Mathlib.Omega.{arith}
+use lib.ListN.{getD}
+use Rattle.base.specs.Answer.{gives}
+use Rattle.base.specs.Bytes.{le24, Bytes}
+use Rattle.base.specs.If.{ifTrue, ifEq}
+use Rattle.base.specs.Limits.{numbers24, maxBody}
+use Rattle.base.proofs.Ifs.{eq-yes, eq-no}
+use Rattle.reliability.specs.Kinds.{fieldsOf}
+use Rattle.frame.specs.declared.FragmentMeta.{FragmentMeta}
+use Rattle.frame.specs.declared.Frame.{Frame}
+use Rattle.frame.specs.declared.Placed.{Placed}
+use Rattle.frame.specs.Read.{kindOf, isPiece, numberAt, metaAt, frameAt, placedAt, readFrameOf}
+use Rattle.frame.specs.Frames.{framesOf}
+use Rattle.frame.specs.Valid.{maxKind}
+use Rattle.frame.proofs.FramesOf.{frames-read}
+use Rattle.frame.proofs.Reading.{read-whole}
+use Rattle.frame.proofs.Stands.{le24-small, be16-small, be32-small}
+
+pub record MetaSmall (m : FragmentMeta) : Type 0 where
+  pub count : m .count < 2 ^ 32
+  pub id : m .id < 2 ^ 16
+  pub index : m .index < 2 ^ 32
+
+pub record FrameSmall (f : Frame) : Type 0 where
+  pub kind : f .kind ≤ maxKind
+  pub reliable : f .reliable < numbers24
+  pub sequence : f .sequence < numbers24
+  pub order : f .order < numbers24
+  pub channel : f .channel < 2 ^ 8
+  pub meta : MetaSmall (f .meta)
+
+field-small : (limit off v : ℕ) → 0 < limit → v < limit → ifEq off 0 0 v < limit
+field-small limit off v z h = go (ℕ-discrete off 0)
+  where
+    go : Dec (off ≡ 0) → ifEq off 0 0 v < limit
+    go (yes e) = rw (← eq-yes off 0 0 0 v e refl) z
+    go (no n) = rw (← eq-no off 0 v 0 v n refl) h
+
+module _ (s : List ℕ) (by : Bytes s) where
+  meta-small : (b : Bool) (p : ℕ) → MetaSmall (metaAt b s p)
+  unfolding ifTrue
+  meta-small true p = record { count = be32-small s by p; id = be16-small s by (p + 4); index = be32-small s by (p + 6) }
+  meta-small false p = record { count = omega arith; id = omega arith; index = omega arith }
+
+  number-small : (at off : ℕ) → numberAt s at off < numbers24
+  number-small at off = field-small numbers24 off (le24 s (at + off)) (omega arith) (le24-small s by (at + off))
+
+  frame-small : (at : ℕ) → FrameSmall (frameAt s at)
+  unfolding frameAt
+  frame-small at =
+      let k = fieldsOf (kindOf (getD s at 0)) in
+      record {
+        kind = omega (arith, by at);
+        reliable = number-small at (k .reliable);
+        sequence = number-small at (k .sequence);
+        order = number-small at (k .order);
+        channel = field-small 256 (k .channel) (getD s (at + k .channel) 0) (omega arith) (by (at + k .channel));
+        meta = meta-small (isPiece (getD s at 0)) (at + k .header);
+      }
+
+  -- The header values of a frame read from bytes fit their bits, and its body is at most as long as 16 bits of length can say.
+  pub read-small : (at : ℕ) (p : Placed) (next : ℕ) → readFrameOf s at ≡ gives (p, next) → FrameSmall (p .frame) × (p .len ≤ maxBody)
+  unfolding placedAt
+  read-small at p next e =
+      rw (read-whole s at p next e .placed) (frame-small at, omega (arith, be16-small s by (at + 1)))
+
+  -- So it is with each of a datagram's frames.
+  pub frames-small : (at : ℕ) (p : Placed) → List·Memᴰ p (framesOf s at) → FrameSmall (p .frame) × (p .len ≤ maxBody)
+  frames-small at p m = let r = frames-read s at p m in read-small (r .place) p (r .next) (r .read)

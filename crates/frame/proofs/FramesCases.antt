@@ -1,0 +1,52 @@
+-- The turns of the loop of `read_frames`, each with the facts as the code finds them.
+-- Assumes nothing.
+use mathlib.Core.Path.{_≡_, _∙_, ap, refl}
+use mathlib.Core.List.{List}
+use Prim.Native.Nat.{ℕ, _+_, _-_, _<_, _≤_}
+use native.Mathlib.Omega.{arith}
+use lib.ListN.{length}
+use Rattle.frame.specs.declared.FramesRead.{FramesRead}
+use Rattle.frame.specs.declared.Placed.{Placed}
+use Rattle.frame.specs.declared.ReadFrame.{ReadFrame}
+use Rattle.frame.specs.declared.ReadFrame.the-variants.{Whole, Cut}
+use Rattle.frame.specs.Read.{readFrameOf, readAnswer}
+use Rattle.frame.specs.Frames.{framesOf, endOf, readFramesOf}
+use Rattle.frame.proofs.FramesOf.{frames-more, end-more, frames-cut, end-cut}
+use Rattle.frame.proofs.ReadCases.{told-cut, told-whole}
+use Rattle.frame.proofs.Reading.{read-whole}
+
+-- `count` frames were passed on the way from `at` to `place`
+pub record Passed (s : List ℕ) (at place count : ℕ) : Type 0 where
+  pub behind : count ≤ place
+  pub few : count ≤ length s
+  pub frames : length (framesOf s at) ≡ count + length (framesOf s place)
+  pub end : endOf s at ≡ endOf s place
+
+pub passed-none : (s : List ℕ) (at : ℕ) → Passed s at at 0
+passed-none s at = record { behind = omega arith; few = omega arith; frames = omega arith; end = refl }
+
+module _ (s : List ℕ) (at place count : ℕ) (r : ReadFrame) (e : readAnswer r ≡ readFrameOf s place) where
+  -- the first frame that does not fit: that many frames, and the bytes from it on are left
+  pub passed-all : r ≡ Cut → Passed s at place count → (left : ℕ) → left ≡ length s - place
+      → _≡_ {A = FramesRead} (record { count = count; left = left }) (readFramesOf s at)
+  unfolding readFramesOf
+  passed-all i a left l =
+      let c = told-cut s place r e i in
+      let n : count ≡ length (framesOf s at) = omega (arith, ap length (frames-cut s place 1 c), a .frames) in
+      let f : left ≡ length s - endOf s at = l ∙ rw (a .end, end-cut s place 1 c) in
+      λ j. record { count = n j; left = f j }
+
+  module _ (p : Placed) (next : ℕ) (i : r ≡ Whole p next) where
+    pub passed-more : Passed s at place count → Passed s at next (count + 1)
+    passed-more a =
+        let g = told-whole s place r e p next i in
+        let w = read-whole s place p next g in
+        record {
+          behind = omega arith;
+          few = omega arith;
+          frames = omega (arith, ap length (frames-more s place p next g));
+          end = a .end ∙ end-more s place p next g;
+        }
+
+    pub passed-less : length s - next < length s - place
+    passed-less = let w = read-whole s place p next (told-whole s place r e p next i) in omega arith

@@ -1,0 +1,5 @@
+pub mod Read
+pub mod Write
+pub mod Valid
+pub mod Frames
+pub mod Head

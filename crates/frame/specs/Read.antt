@@ -1,0 +1,88 @@
+-- A frame read: document 01, "Bytes", paragraph "Frame", and the call "Read frame".
+-- Past the end of the slice a byte reads as 0. No frame that is given depends on it: one that reaches past the end is cut.
+use Prim.Native.Nat.{ℕ, _+_, _/_, _%_}
+use mathlib.Core.Bool.{Bool}
+use mathlib.Core.List.{List}
+use lib.ListN.{getD, length, take, drop}
+use lib.Dec.{eqb}
+use Rattle.base.specs.Answer.{Answer, refused, gives}
+use Rattle.base.specs.Bytes.{be16, be32, le24}
+use Rattle.base.specs.If.{ifTrue, ifLt, ifEq}
+use Rattle.reliability.specs.Kinds.{fieldsOf}
+use Rattle.reliability.specs.declared.KindFields.{KindFields}
+use Rattle.frame.specs.declared.FragmentMeta.{FragmentMeta}
+use Rattle.frame.specs.declared.Frame.{Frame}
+use Rattle.frame.specs.declared.Placed.{Placed}
+use Rattle.frame.specs.declared.ReadFrame.{ReadFrame}
+use Rattle.frame.specs.declared.ReadFrame.the-variants.{Whole, Cut}
+
+-- "kind in the top three bits"
+abbrev pub kindOf : ℕ → ℕ
+kindOf flags = flags / 32
+
+-- "10 marks a piece": hexadecimal, the fifth bit
+abbrev pub isPiece : ℕ → Bool
+isPiece flags = eqb (flags / 16 % 2) 1
+
+-- "reliable, sequence and order number, 24 bits little-endian each": the one at place off of the header; "uncarried fields are 0"
+abbrev pub numberAt : List ℕ → ℕ → ℕ → ℕ
+numberAt s at off = ifEq off 0 0 (le24 s (at + off))
+
+-- "and channel, one byte"
+abbrev pub channelAt : List ℕ → ℕ → ℕ → ℕ
+channelAt s at off = ifEq off 0 0 (getD s (at + off) 0)
+
+-- "for a piece count (32), id (16), index (32), big-endian"
+abbrev pub metaAt : Bool → List ℕ → ℕ → FragmentMeta
+metaAt piece s p = ifTrue piece (record { count = be32 s p; id = be16 s (p + 4); index = be32 s (p + 6) }) (record { count = 0; id = 0; index = 0 })
+
+-- the bytes that these take
+abbrev pub metaSize : ℕ
+metaSize = 10
+
+-- the header's bytes: those of the kind's row, and a piece's ten
+abbrev pub headerSize : Bool → ℕ → ℕ
+headerSize piece header = ifTrue piece (header + metaSize) header
+
+-- the header whose flags are given, by the row of its kind
+abbrev pub frameBy : KindFields → ℕ → List ℕ → ℕ → Frame
+frameBy k flags s at =
+    record {
+      kind = kindOf flags;
+      reliable = numberAt s at (k .reliable);
+      sequence = numberAt s at (k .sequence);
+      order = numberAt s at (k .order);
+      channel = channelAt s at (k .channel);
+      piece = isPiece flags;
+      meta = metaAt (isPiece flags) s (at + k .header);
+    }
+
+-- the header at a place
+unfoldable pub frameAt : List ℕ → ℕ → Frame
+frameAt s at = frameBy (fieldsOf (kindOf (getD s at 0))) (getD s at 0) s at
+
+-- the frame at a place and its body: "length in bits, 16 bits big-endian", "the remainder after dividing by 8 is dropped"
+unfoldable pub placedAt : List ℕ → ℕ → Placed
+placedAt s at =
+    record {
+      frame = frameAt s at;
+      start = at + headerSize (isPiece (getD s at 0)) (fieldsOf (kindOf (getD s at 0)) .header);
+      len = be16 s (at + 1) / 8;
+    }
+
+-- the body of a frame that stands in s
+abbrev pub bodyOf : List ℕ → Placed → List ℕ
+bodyOf s p = take (p .len) (drop (p .start) s)
+
+-- where a frame ends
+abbrev pub endsAt : Placed → ℕ
+endsAt p = p .start + p .len
+
+-- "Read frame. 1 cut.": the frame and the place after it, where its header and its body fit
+unfoldable pub readFrameOf : List ℕ → ℕ → Answer (Placed × ℕ)
+readFrameOf s at = ifLt (length s) (endsAt (placedAt s at)) (refused 1) (gives (placedAt s at, endsAt (placedAt s at)))
+
+-- the code's answer in document 01's numbers and values
+unfoldable pub readAnswer : ReadFrame → Answer (Placed × ℕ)
+readAnswer (Whole p next) = gives (p, next)
+readAnswer Cut = refused 1

@@ -1,0 +1,39 @@
+// Frame after frame, until one does not fit.
+use super::FramesRead;
+use super::ReadFrame;
+use super::read_frame;
+ghost use mathlib.Core.Path.{_≡_};
+ghost use Prim.Native.Nat.{_-_};
+ghost use Rattle.frame.specs.Frames.{readFramesOf};
+
+// How many frames stand one after the other from `at` on, and the bytes left from the first that does not fit.
+pub fn read_frames(s: &[u8], at: usize) -> FramesRead
+    ensures { λ r. ⌜ r ≡ readFramesOf (now (s .entry)) at ⌝ }
+{
+    let mut place = at;
+    let mut count: usize = 0;
+    loop {
+        match read_frame(s, place) {
+            ReadFrame::Cut => {
+                return FramesRead {
+                    count: count,
+                    left: bytes_left(s.len(), place),
+                };
+            }
+            ReadFrame::Whole { placed: _, next } => {
+                place = next;
+                count += 1;
+            }
+        }
+    }
+}
+
+// The bytes from a place on; none past the end.
+fn bytes_left(n: usize, at: usize) -> usize
+    ensures { λ r. ⌜ r ≡ n - at ⌝ }
+{
+    if n < at {
+        return 0;
+    }
+    n - at
+}

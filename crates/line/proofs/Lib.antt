@@ -1,0 +1,10 @@
+pub mod OrderedKinds
+pub mod Tests
+pub mod Channel
+pub mod Join
+pub mod Invariant
+pub mod InOrder
+pub mod Feed
+pub mod Same
+pub mod IsBook
+pub mod Examples

@@ -1,0 +1,4 @@
+pub mod Frame
+pub mod Bare
+pub mod Book
+pub mod Order

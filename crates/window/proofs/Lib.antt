@@ -1,0 +1,10 @@
+pub mod Bits
+pub mod Places
+pub mod Accepted
+pub mod Steps
+pub mod Advance
+pub mod Inserts
+pub mod Laws
+pub mod History
+pub mod Missing
+pub mod Bench

@@ -1,0 +1,6 @@
+pub mod Numbers
+pub mod Places
+pub mod Window
+pub mod Missing
+pub mod Proper
+pub mod History

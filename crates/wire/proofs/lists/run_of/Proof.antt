@@ -1,0 +1,56 @@
+use mathlib.Core.Path.{_≡_}
+use Prim.Native.Nat.{_≤_, _-_}
+use lib.ListN.{length, length-set}
+use native.Mathlib.Omega.{arith}
+use borrow.Author.Needs.{needs}
+use Rattle.wire.proofs.lists.run_of.Statement.{statement}
+use Rattle.wire.proofs.lists.run_of.Tie as tie
+
+abbrev Inv-loop : tie.InvT-loop
+Inv-loop list₀ first step n₀ i₀ list n i = (i ≤ length list) × (length list ≡ length list₀)
+
+abbrev μ-loop : tie.MeasureT-loop
+μ-loop list₀ first step n₀ i₀ list n i = length list - i
+
+loop-holds : tie.Need-loop-holds Inv-loop μ-loop
+loop-holds c = search needs
+
+mul-list : tie.Need-mul-list Inv-loop μ-loop
+mul-list c = search needs
+
+slice-write-list : tie.Need-slice-write-list Inv-loop μ-loop
+slice-write-list c = search needs
+
+wrapping-add-u32-requires : tie.Need-wrapping-add-u32-requires Inv-loop μ-loop
+wrapping-add-u32-requires c κs = search needs
+
+add-i : tie.Need-add-i Inv-loop μ-loop
+add-i c = search needs
+
+loop-less : tie.Need-loop-less Inv-loop μ-loop
+loop-less c = simp length-set (omega arith)
+
+loop-again : tie.Need-loop-again Inv-loop μ-loop
+loop-again c = simp length-set (omega arith)
+
+same-length : tie.Need-same-length Inv-loop μ-loop
+same-length c = search needs
+
+returns : tie.Need-returns Inv-loop μ-loop
+returns c = search needs
+
+pub run-of-spec : {M : Type 1} → statement M
+run-of-spec =
+    tie.close
+    (tie.spec
+    Inv-loop
+    μ-loop
+    loop-holds
+    mul-list
+    slice-write-list
+    wrapping-add-u32-requires
+    add-i
+    loop-less
+    loop-again
+    same-length
+    returns)

@@ -1,0 +1,54 @@
+use Prim.Native.Nat.{_≤_, _<_, _-_}
+use lib.ListN.{length}
+use borrow.Author.Needs.{needs}
+use Rattle.wire.proofs.show.checksum_of_numbers.Statement.{statement}
+use Rattle.wire.proofs.show.checksum_of_numbers.Tie as tie
+
+abbrev Inv-loop : tie.InvT-loop
+Inv-loop list h₀ i₀ h i = (i ≤ length list) × (h < 4294967296)
+
+abbrev μ-loop : tie.MeasureT-loop
+μ-loop list h₀ i₀ h i = length list - i
+
+loop-holds : tie.Need-loop-holds Inv-loop μ-loop
+loop-holds c = search needs
+
+mul-wide32 : tie.Need-mul-wide32 Inv-loop μ-loop
+mul-wide32 c = search needs
+
+shared-slice-read-wide32 : tie.Need-shared-slice-read-wide32 Inv-loop μ-loop
+shared-slice-read-wide32 c = search needs
+
+wide32-requires : tie.Need-wide32-requires Inv-loop μ-loop
+wide32-requires c κs = search needs
+
+mixed-requires : tie.Need-mixed-requires Inv-loop μ-loop
+mixed-requires c κs = search needs
+
+add-i : tie.Need-add-i Inv-loop μ-loop
+add-i c = search needs
+
+loop-less : tie.Need-loop-less Inv-loop μ-loop
+loop-less c = search needs
+
+loop-again : tie.Need-loop-again Inv-loop μ-loop
+loop-again c = search needs
+
+returns : tie.Need-returns Inv-loop μ-loop
+returns c = search needs
+
+pub checksum-of-numbers-spec : {M : Type 1} → statement M
+checksum-of-numbers-spec =
+    tie.close
+    (tie.spec
+    Inv-loop
+    μ-loop
+    loop-holds
+    mul-wide32
+    shared-slice-read-wide32
+    wide32-requires
+    mixed-requires
+    add-i
+    loop-less
+    loop-again
+    returns)

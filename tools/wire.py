@@ -1,0 +1,675 @@
+#!/usr/bin/env python3
+"""Makes crates/wire/stdin and crates/wire/stdout: items for the program `wire`, and the lines that it must print.
+
+The answers come from this file's own reading and writing of frames, acknowledgements, windows and splits, which shares nothing with the
+Rattle code. It was written from the sentences of document 01 alone, in the readings that docs/DECISIONS.md lists: for frames,
+acknowledgements and windows before their Rattle code was looked at; for splits by the hand that had written that crate, in another way.
+The items are the bench lines, the limits, damaged bytes, and random ones from a fixed seed, so that a second run makes the same two files.
+
+An item is a tag (1 byte), a length (16 bits) and a payload; every number of a payload is big-endian. Each answer is one line: a word, then
+'+' and the values, or '-' and document 01's number. Bytes are '=' and hexadecimal; more than 64 of them are '#', how many, ':' and a checksum,
+which is h = (h * 257 + byte + 1) mod 4294967291 over the bytes, from h = 0 (of a list of numbers, over the numbers). A writer's line ends with
+its whole output, which held a pattern before, also after a refusal.
+"""
+import pathlib
+import random
+
+LIMIT_24 = 1 << 24      # numbers have 24 bits
+MAX_CHANNEL = 31
+MAX_FRAGS = 1024
+REACH = 2048            # a window's places above its low
+MAX_LIST = 2048
+MAX_BODY = 8191
+OUTPUT_SEED = 58791
+DATA_SEED = 11029
+
+# ---- document 01, "Bytes"
+
+HAS_RELIABLE = (2, 3, 4, 7)
+HAS_SEQUENCE = (1, 4)
+HAS_ORDER = (1, 3, 7)
+
+
+class Refused(Exception):
+    """A refusal, with document 01's number."""
+
+
+def number24(s, at):
+    return int.from_bytes(s[at:at + 3], "little")
+
+
+def bytes24(n):
+    return n.to_bytes(3, "little")
+
+
+class Frame:
+    FIELDS = ("kind", "reliable", "sequence", "order", "channel", "piece", "count", "id", "index")
+
+    def __init__(self, **fields):
+        for name in self.FIELDS:
+            setattr(self, name, fields.get(name, 0))
+
+    def values(self):
+        return [getattr(self, name) for name in self.FIELDS]
+
+
+def read_frame(s, at):
+    """The frame at a place, its body's place and length, and the place after it."""
+    f = Frame()
+    p = at
+
+    def take(n):
+        nonlocal p
+        if len(s) < p + n:
+            raise Refused(1)
+        p += n
+        return s[p - n:p]
+
+    flags = take(1)[0]
+    f.kind = flags >> 5
+    f.piece = 1 if flags & 0x10 else 0
+    length = int.from_bytes(take(2), "big") // 8
+    if f.kind in HAS_RELIABLE:
+        f.reliable = number24(take(3), 0)
+    if f.kind in HAS_SEQUENCE:
+        f.sequence = number24(take(3), 0)
+    if f.kind in HAS_ORDER:
+        f.order = number24(take(3), 0)
+        f.channel = take(1)[0]
+    if f.piece:
+        f.count = int.from_bytes(take(4), "big")
+        f.id = int.from_bytes(take(2), "big")
+        f.index = int.from_bytes(take(4), "big")
+    start = p
+    take(length)
+    return f, start, length, p
+
+
+def read_frames(s, at):
+    """How many frames fit, one after another, and how many bytes are left."""
+    count = 0
+    while True:
+        try:
+            at = read_frame(s, at)[3]
+        except Refused:
+            return count, max(len(s) - at, 0)
+        count += 1
+
+
+def frame_over_limit(f, body):
+    if f.kind > 7 or len(body) > MAX_BODY:
+        return True
+    if max(f.reliable, f.sequence, f.order) >= LIMIT_24 or f.channel > MAX_CHANNEL:
+        return True
+    if f.reliable and f.kind not in HAS_RELIABLE or f.sequence and f.kind not in HAS_SEQUENCE:
+        return True
+    if (f.order or f.channel) and f.kind not in HAS_ORDER:
+        return True
+    if f.piece:
+        return not 1 <= f.count <= MAX_FRAGS or f.index >= f.count
+    return bool(f.count or f.id or f.index)
+
+
+def frame_bytes(f, body):
+    out = bytes([f.kind << 5 | (0x10 if f.piece else 0)]) + (len(body) * 8).to_bytes(2, "big")
+    if f.kind in HAS_RELIABLE:
+        out += bytes24(f.reliable)
+    if f.kind in HAS_SEQUENCE:
+        out += bytes24(f.sequence)
+    if f.kind in HAS_ORDER:
+        out += bytes24(f.order) + bytes([f.channel])
+    if f.piece:
+        out += f.count.to_bytes(4, "big") + f.id.to_bytes(2, "big") + f.index.to_bytes(4, "big")
+    return out + body
+
+
+def store(out, at, data):
+    if len(out) < at + len(data):
+        raise Refused(12)
+    out[at:at + len(data)] = data
+    return at + len(data)
+
+
+def write_frame(out, at, f, body):
+    if frame_over_limit(f, body):
+        raise Refused(15)
+    return store(out, at, frame_bytes(f, body))
+
+
+def write_head(out, number):
+    if number >= LIMIT_24:
+        raise Refused(13)
+    store(out, 0, b"\x84" + bytes24(number))
+
+
+# ---- acknowledgements
+
+def read_ack_header(s):
+    """Whether it is a NACK, where the records start and how many there are."""
+    if len(s) < 3:
+        raise Refused(1)
+    if s[0] not in (0xC0, 0xA0):
+        raise Refused(3)
+    return s[0] == 0xA0, 3, int.from_bytes(s[1:3], "big")
+
+
+def read_record(s, at):
+    """A Single or a Range, and the place after it."""
+    if len(s) <= at:
+        raise Refused(1)
+    if s[at] > 1:
+        raise Refused(10)
+    numbers = 1 if s[at] == 1 else 2
+    after = at + 1 + 3 * numbers
+    if len(s) < after:
+        raise Refused(1)
+    if numbers == 1:
+        return ("single", number24(s, at + 1)), after
+    first, last = number24(s, at + 1), number24(s, at + 4)
+    if last < first:
+        raise Refused(11)
+    return ("range", first, last), after
+
+
+def runs(numbers):
+    found = []
+    for n in numbers:
+        if found and found[-1][1] + 1 == n:
+            found[-1][1] = n
+        else:
+            found.append([n, n])
+    return found
+
+
+def list_bytes(nack, numbers):
+    records = runs(numbers)
+    out = (b"\xA0" if nack else b"\xC0") + len(records).to_bytes(2, "big")
+    for first, last in records:
+        out += b"\x01" + bytes24(first) if first == last else b"\x00" + bytes24(first) + bytes24(last)
+    return out
+
+
+def write_list(out, nack, numbers):
+    if len(numbers) > MAX_LIST or any(n >= LIMIT_24 for n in numbers):
+        raise Refused(13)
+    if any(a >= b for a, b in zip(numbers, numbers[1:])):
+        raise Refused(14)
+    return store(out, 0, list_bytes(nack, numbers))
+
+
+# ---- the window, and a split
+
+class Window:
+    """The numbers below low are accepted, low is not, and above it those of a set are."""
+
+    def __init__(self, low=0):
+        self.low = low
+        self.above = set()
+
+    def insert(self, n):
+        if n >= LIMIT_24:
+            raise Refused(13)
+        if n < self.low or n in self.above:
+            raise Refused(4)
+        if n > self.low + REACH:
+            raise Refused(5)
+        self.above.add(n)
+        while self.low in self.above:
+            self.above.remove(self.low)
+            self.low += 1
+
+    def missing(self):
+        return [n for n in range(self.low, max(self.above, default=self.low)) if n not in self.above]
+
+
+def split_piece(length, mtu, k):
+    """Where piece k starts and how long it is, and the count and index that it carries."""
+    if not 61 <= mtu <= 1500:
+        raise Refused(16)
+    chunk = mtu - 60
+    if length <= chunk:
+        raise Refused(17)
+    starts = range(0, length, chunk)
+    if len(starts) > MAX_FRAGS:
+        raise Refused(18)
+    if k >= len(starts):
+        raise Refused(19)
+    return starts[k], min(chunk, length - starts[k]), len(starts), k
+
+
+# ---- items, each with the lines that it must give
+
+def pattern(length, seed):
+    made = bytearray()
+    for _ in range(length):
+        seed = (seed * 5 + 1) % 65536
+        made.append(seed // 256)
+    return made
+
+
+def checksum(values):
+    h = 0
+    for v in values:
+        h = (h * 257 + v + 1) % 4294967291
+    return h
+
+
+def shown(data):
+    return "=" + bytes(data).hex() if len(data) <= 64 else f"#{len(data)}:{checksum(data)}"
+
+
+def answer(word, call):
+    """A line of the values that a call gives, or of its refusal."""
+    try:
+        values = call()
+    except Refused as r:
+        return f"{word} - {r}"
+    return " ".join([word, "+"] + [str(int(v)) for v in values])
+
+
+class Items:
+    READ_FRAME, READ_FRAMES, READ_ACK, WRITE_FRAME, WRITE_MADE, WRITE_HEAD, WRITE_LIST, WRITE_RUN = range(1, 9)
+    NEW_WINDOW, WINDOW_AT, INSERT, INSERT_RUN, MISSING, SPLIT = range(9, 15)
+
+    def __init__(self):
+        self.input = bytearray()
+        self.lines = []
+        self.count = 0
+        self.window = Window()
+
+    def add(self, tag, payload, *lines):
+        assert len(payload) < 65536
+        self.input += bytes([tag]) + len(payload).to_bytes(2, "big") + payload
+        self.lines += lines
+        self.count += 1
+
+    def read_frame(self, s, at=0):
+        body = b""
+
+        def call():
+            nonlocal body
+            f, start, length, after = read_frame(s, at)
+            body = s[start:after]
+            return f.values() + [start, length, after]
+        line = answer("frame", call)
+        self.add(self.READ_FRAME, at.to_bytes(2, "big") + s, line + ("" if "-" in line else " " + shown(body)))
+
+    def read_frames(self, s, at=4):
+        self.add(self.READ_FRAMES, at.to_bytes(2, "big") + s, answer("frames", lambda: read_frames(s, at)))
+
+    def frame_payload(self, f, room, at):
+        p = room.to_bytes(2, "big") + at.to_bytes(2, "big") + bytes([f.kind])
+        p += b"".join(n.to_bytes(4, "big") for n in (f.reliable, f.sequence, f.order)) + bytes([f.channel, f.piece])
+        return p + f.count.to_bytes(4, "big") + f.id.to_bytes(2, "big") + f.index.to_bytes(4, "big")
+
+    def written(self, word, room, call):
+        out = pattern(room, OUTPUT_SEED)
+        line = answer(word, lambda: call(out))
+        return line + " " + shown(out)
+
+    def write_frame(self, f, body, room=None, at=0):
+        room = at + len(frame_bytes_if(f, body)) + 2 if room is None else room
+        line = self.written("write", room, lambda out: [write_frame(out, at, f, body)])
+        self.add(self.WRITE_FRAME, self.frame_payload(f, room, at) + body, line)
+
+    def write_made(self, f, length, seed, room, at=0):
+        body = bytes(pattern(length, seed))
+        line = self.written("write", room, lambda out: [write_frame(out, at, f, body)])
+        self.add(self.WRITE_MADE, self.frame_payload(f, room, at) + length.to_bytes(2, "big") + seed.to_bytes(2, "big"), line)
+
+    def write_head(self, room, number):
+        line = self.written("head", room, lambda out: write_head(out, number) or [])
+        self.add(self.WRITE_HEAD, room.to_bytes(2, "big") + number.to_bytes(4, "big"), line)
+
+    def read_ack(self, s):
+        lines = [answer("ack", lambda: read_ack_header(s))]
+        at, left = 3, int.from_bytes(s[1:3], "big")
+        while "-" not in lines[-1] and left:
+            try:
+                record, at = read_record(s, at)
+                left -= 1
+                lines.append(" ".join([record[0], "+"] + [str(v) for v in (*record[1:], at, left)]))
+            except Refused as r:
+                lines.append(f"record - {r}")
+        self.add(self.READ_ACK, s, *(lines if "-" in lines[-1] else lines + ["end +"]))
+
+    def list_line(self, nack, room, numbers):
+        return self.written("list", room, lambda out: [write_list(out, nack, numbers)])
+
+    def write_list(self, nack, numbers, room=None):
+        room = len(list_bytes(nack, [n % LIMIT_24 for n in numbers])) + 2 if room is None else room
+        payload = room.to_bytes(2, "big") + bytes([nack]) + b"".join(n.to_bytes(4, "big") for n in numbers)
+        self.add(self.WRITE_LIST, payload, self.list_line(nack, room, numbers))
+
+    def write_run(self, nack, count, first, step, room):
+        numbers = [first + step * i for i in range(count)]
+        payload = room.to_bytes(2, "big") + bytes([nack]) + count.to_bytes(2, "big") + first.to_bytes(4, "big") + step.to_bytes(4, "big")
+        self.add(self.WRITE_RUN, payload, self.list_line(nack, room, numbers))
+
+    def new_window(self):
+        self.window = Window()
+        self.add(self.NEW_WINDOW, b"", "new + 0")
+
+    def window_at(self, low):
+        self.window = Window(low)
+        self.add(self.WINDOW_AT, low.to_bytes(4, "big"), f"new + {low}")
+
+    def insert(self, n):
+        line = answer("insert", lambda: self.window.insert(n) or [])
+        self.add(self.INSERT, n.to_bytes(4, "big"), f"{line} {self.window.low}")
+
+    def insert_run(self, first, count):
+        accepted = 0
+        for n in range(first, first + count):
+            try:
+                self.window.insert(n)
+                accepted += 1
+            except Refused:
+                pass
+        self.add(self.INSERT_RUN, first.to_bytes(4, "big") + count.to_bytes(2, "big"), f"run + {accepted} {self.window.low}")
+
+    def missing(self):
+        found = self.window.missing()
+        whole = found + [LIMIT_24 + i for i in range(len(found), MAX_LIST)]
+        first = [str(n) for n in found[:16]]
+        self.add(self.MISSING, b"", " ".join(["missing", "+", str(len(found))] + first + [f"#{MAX_LIST}:{checksum(whole)}"]))
+
+    def split(self, length, mtu, k):
+        part = b""
+
+        def call():
+            nonlocal part
+            values = split_piece(length, mtu, k)
+            part = pattern(length, DATA_SEED)[values[0]:values[0] + values[1]]
+            return values
+        line = answer("piece", call)
+        self.add(self.SPLIT, length.to_bytes(2, "big") + mtu.to_bytes(2, "big") + k.to_bytes(4, "big"), f"{line} {shown(part)}")
+
+
+def frame_bytes_if(f, body):
+    """The frame's bytes where it may be written, else as many as its body."""
+    return body if frame_over_limit(f, body) else frame_bytes(f, body)
+
+
+# ---- document 01, "Bench lines"
+
+def bench_lines(items):
+    items.new_window()
+    items.insert(0)
+    items.insert(0)
+    items.new_window()
+    items.insert(2048)
+    items.insert(2049)
+    for text in ("60 00 08 00 00 00 01 00 00 00 42", "00 00 00", "00 00 0C 41"):
+        items.read_frame(bytes.fromhex(text))
+    for numbers in ([0], [0, 1], [3, 5, 6, 7]):
+        items.write_list(0, numbers)
+    for k in (0, 1, 2):
+        items.split(1441, 1500, k)
+    items.split(1440, 1500, 0)
+    items.split(1441, 60, 0)
+    # the datagrams of the program `trace`
+    items.read_frames(bytes.fromhex("84000000 60 0008 000000 010000 00 42"))
+    items.read_frames(bytes.fromhex("84010000 60 0008 010000 000000 00 41"))
+
+
+# ---- the limits
+
+ALL_FIELDS = Frame(reliable=0x030201, sequence=0x060504, order=0x090807, channel=31)
+
+
+def carried(kind, piece=False):
+    """A frame of a kind whose carried fields are all different and not 0."""
+    f = Frame(kind=kind)
+    if kind in HAS_RELIABLE:
+        f.reliable = ALL_FIELDS.reliable
+    if kind in HAS_SEQUENCE:
+        f.sequence = ALL_FIELDS.sequence
+    if kind in HAS_ORDER:
+        f.order, f.channel = ALL_FIELDS.order, ALL_FIELDS.channel
+    if piece:
+        f.piece, f.count, f.id, f.index = 1, 1024, 0xABCD, 1023
+    return f
+
+
+def changed(f, **fields):
+    return Frame(**{**dict(zip(Frame.FIELDS, f.values())), **fields})
+
+
+def frame_limits(items):
+    for kind in range(8):
+        for piece in (False, True):
+            f = carried(kind, piece)
+            whole = frame_bytes(f, b"\x41\x42")
+            items.read_frame(whole)
+            items.read_frame(whole[:-1])
+            items.read_frame(whole[:-3])
+            items.read_frame(b"\xFF" * 3 + whole + b"\x99", 3)
+            items.write_frame(f, b"\x41\x42")
+            items.write_frame(f, b"", room=len(whole) - 2)
+            items.write_frame(f, b"\x41\x42", room=len(whole) - 1)
+            items.write_frame(f, b"\x41\x42", room=len(whole) + 5, at=5)
+            items.write_frame(f, b"\x41\x42", room=len(whole) + 4, at=5)
+    for whole in (frame_bytes(carried(7, True), b"\x41"), frame_bytes(carried(4), b"\x41")):
+        for length in range(len(whole) + 1):
+            items.read_frame(whole[:length])
+    for length in range(4):
+        items.read_frame(bytes(length))
+    items.read_frame(b"\x00\x00\x00", 3)
+    items.read_frame(b"\x00\x00\x00", 4)
+    items.read_frame(b"\x0F\x00\x07")
+    items.read_frame(b"\x0F\x00\x08")
+    items.read_frame(b"\x00\xFF\xFF" + bytes(pattern(8191, 7)))
+    for room in (0, 2, 3):
+        items.write_frame(Frame(), b"", room=room)
+    items.write_frame(Frame(), b"", room=3, at=4)
+    items.write_frame(Frame(), b"", room=3, at=65535)
+
+
+def over_limits(items):
+    for kind in range(8):
+        for name, value in (("reliable", 1), ("sequence", 1), ("order", 1), ("channel", 1)):
+            items.write_frame(Frame(kind=kind, **{name: value}), b"\x05")
+    for kind in (8, 9, 255):
+        items.write_frame(Frame(kind=kind), b"")
+    for n in (LIMIT_24 - 1, LIMIT_24, 2 ** 32 - 1):
+        items.write_frame(Frame(kind=4, reliable=n), b"")
+        items.write_frame(Frame(kind=4, sequence=n), b"")
+        items.write_frame(Frame(kind=3, order=n), b"")
+    for channel in (0, 31, 32, 255):
+        items.write_frame(Frame(kind=7, channel=channel), b"")
+    for count, index in ((0, 0), (1, 0), (1, 1), (2, 2), (1024, 1023), (1024, 1024), (1025, 0), (2 ** 32 - 1, 0), (1024, 2 ** 32 - 1)):
+        items.write_frame(Frame(piece=1, count=count, id=65535, index=index), b"\x06")
+        items.read_frame(b"\x10\x00\x08" + count.to_bytes(4, "big") + b"\xFF\xFF" + index.to_bytes(4, "big") + b"\x06")
+    for name in ("count", "id", "index"):
+        items.write_frame(Frame(**{name: 1}), b"\x07")
+    items.write_made(Frame(), 8191, 11, 8194)
+    items.write_made(Frame(), 8191, 11, 8193)
+    items.write_made(Frame(), 8192, 11, 8200)
+    items.write_made(carried(7, True), 8191, 13, 8220, 6)
+    items.write_made(carried(7, True), 1400, 13, 1500, 4)
+    # 15 comes before 12
+    items.write_frame(Frame(kind=8), b"\x08", room=0)
+    for number in (0, 1, 255, 256, LIMIT_24 - 1, LIMIT_24, 2 ** 32 - 1):
+        for room in (0, 3, 4, 6):
+            items.write_head(room, number)
+
+
+def ack_limits(items):
+    for text in ("", "C0", "C0 00", "A0 00 00", "C0 00 00 99 99", "84 00", "84 00 00", "00 00 00", "C1 00 00", "A0 00 01", "C0 FF FF",
+                 "C0 00 01 01 00 00 00", "C0 00 01 01 00 00", "C0 00 01 01", "C0 00 01 02", "C0 00 01 FF", "C0 00 01 00",
+                 "A0 00 01 00 05 00 00 05 00 00", "A0 00 01 00 05 00 00 04 00 00", "A0 00 01 00 05 00 00 04 00", "C0 00 01 00 FF FF FF FF FF FF",
+                 "C0 00 02 01 03 00 00 00 05 00 00 07 00 00", "C0 00 02 00 05 00 00 07 00 00 01 03 00 00", "C0 00 02 01 03 00 00 02",
+                 "C0 00 03 01 03 00 00 01 03 00 00 00 01 00 00 00 00 00", "C0 00 01 01 FF FF FF 00 00", "C0 01 00 01 07 00 00"):
+        items.read_ack(bytes.fromhex(text))
+    whole = list_bytes(0, [3, 5, 6, 7])
+    for length in range(len(whole)):
+        items.read_ack(whole[:length])
+    for nack in (0, 1):
+        items.write_list(nack, [])
+        items.write_list(nack, [], room=2)
+        items.write_list(nack, [7], room=6)
+        items.write_list(nack, [7, 8], room=9)
+        items.write_list(nack, [7, 9], room=10)
+        items.write_list(nack, [7, 8, 9, 11], room=14)
+        items.write_list(nack, [LIMIT_24 - 2, LIMIT_24 - 1])
+        items.write_list(nack, [LIMIT_24 - 1, LIMIT_24])
+        items.write_list(nack, [2 ** 32 - 1])
+        items.write_list(nack, [5, 5])
+        items.write_list(nack, [5, 4])
+        items.write_list(nack, [5, 4, LIMIT_24])
+        items.write_list(nack, [5, 4], room=0)
+        items.write_list(nack, [LIMIT_24], room=0)
+        items.write_list(nack, [0, 2, 3])
+        items.write_list(nack, [1, 2, 4])
+    for count, first, step, room in ((2048, 0, 1, 10), (2048, 0, 1, 9), (2048, 100, 2, 8195), (2048, 100, 2, 8194), (2049, 0, 1, 8200),
+                                     (2049, 0, 0, 8200), (2048, 0, 0, 8195), (2048, LIMIT_24 - 2048, 1, 40), (2048, LIMIT_24 - 2047, 1, 40)):
+        items.write_run(count % 2, count, first, step, room)
+
+
+def window_limits(items):
+    items.new_window()
+    items.missing()
+    for n in (LIMIT_24 - 1, LIMIT_24, 2 ** 32 - 1, 2049, 2048, 2048, 2047):
+        items.insert(n)
+        items.missing()
+    items.insert(0)
+    for n in (2050, 2049, 1, 2051, 3, 2):
+        items.insert(n)
+        items.missing()
+    # one number that moves low over all places; then the same around the end of the places' bytes
+    items.new_window()
+    items.insert_run(1, 2050)
+    items.missing()
+    items.insert(0)
+    items.missing()
+    items.insert_run(2050, 2047)
+    items.insert(2049)
+    items.new_window()
+    items.insert(1)
+    for n in (0, 2050, 2051, 2, 3):
+        items.insert(n)
+        items.missing()
+    for n in (8, 16, 24, 7, 9, 15, 17, 23, 25, 2052, 4, 6, 5):
+        items.insert(n)
+    items.missing()
+    # the last numbers of 24 bits; a low that no run of inserts reaches
+    items.window_at(LIMIT_24 - 2050)
+    for n in (LIMIT_24 - 1, LIMIT_24 - 2, LIMIT_24, LIMIT_24 - 2050, LIMIT_24 - 1, LIMIT_24 - 2051):
+        items.insert(n)
+        items.missing()
+    items.window_at(LIMIT_24 - 1)
+    for n in (LIMIT_24, LIMIT_24 - 1, LIMIT_24 - 1, 0, LIMIT_24):
+        items.insert(n)
+        items.missing()
+    items.window_at(2 ** 32 - 1)
+    for n in (0, LIMIT_24 - 1, LIMIT_24):
+        items.insert(n)
+        items.missing()
+
+
+def split_limits(items):
+    for mtu in (0, 59, 60, 61, 1500, 1501, 65535):
+        for length in (0, 1, 2, 1439, 1440, 1441, 2881):
+            items.split(length, mtu, 1)
+    for length, k in ((1024, 0), (1024, 1023), (1024, 1024), (1024, 2 ** 32 - 1), (1025, 0), (1025, 2000)):
+        items.split(length, 61, k)
+    for length, mtu, k in ((2880, 1500, 1), (2880, 1500, 2), (65535, 1500, 45), (65535, 1500, 46), (65535, 124, 1023), (65535, 123, 0)):
+        items.split(length, mtu, k)
+    # 16 before 17, 17 before 19, 18 before 19
+    items.split(0, 60, 9)
+    items.split(100, 1500, 9)
+    items.split(65535, 61, 2 ** 32 - 1)
+
+
+# ---- damaged bytes, and random items
+
+def random_frame(rng):
+    f = Frame(kind=rng.randrange(8))
+    small = rng.random() < 0.5
+    limit = 5 if small else LIMIT_24
+    if f.kind in HAS_RELIABLE:
+        f.reliable = rng.randrange(limit)
+    if f.kind in HAS_SEQUENCE:
+        f.sequence = rng.randrange(limit)
+    if f.kind in HAS_ORDER:
+        f.order, f.channel = rng.randrange(limit), rng.randrange(32)
+    if rng.random() < 0.4:
+        f.piece, f.count, f.id = 1, rng.randint(1, 4 if small else 1024), rng.randrange(65536)
+        f.index = rng.randrange(f.count)
+    return f, rng.randbytes(rng.choice((0, 1, 2, 3, 5, 8, 13)))
+
+
+def random_numbers(rng):
+    start = rng.choice((0, 1, rng.randrange(1000), rng.randrange(LIMIT_24 - 300)))
+    numbers = []
+    for _ in range(rng.randrange(9)):
+        numbers.append(start)
+        start += rng.choice((1, 1, 1, 2, 3, 20))
+    return numbers
+
+
+def damaged(rng, s):
+    s = bytearray(s)
+    if rng.random() < 0.5:
+        s = s[:rng.randrange(len(s) + 1)]
+    for _ in range(rng.randrange(3)):
+        if s:
+            s[rng.randrange(len(s))] ^= 1 << rng.randrange(8)
+    return bytes(s)
+
+
+def random_items(items, rng):
+    for _ in range(100):
+        f, body = random_frame(rng)
+        s = frame_bytes(f, body)
+        items.read_frame(damaged(rng, s))
+        items.write_frame(f, body, room=len(s) + rng.randrange(-2, 4) if rng.random() < 0.5 else None, at=rng.randrange(3))
+        name = rng.choice(Frame.FIELDS[1:5] + Frame.FIELDS[6:])
+        items.write_frame(changed(f, **{name: rng.choice((1, 31, 32, 255) if name == "channel" else (1, 1024, 65535))}), body)
+    for _ in range(70):
+        s = bytes([rng.randrange(0x80, 0x8E)]) + rng.randbytes(3)
+        s += b"".join(frame_bytes(*random_frame(rng)) for _ in range(rng.randrange(5)))
+        items.read_frames(s)
+        items.read_frames(s[:4] + damaged(rng, s[4:]))
+    for _ in range(20):
+        items.read_frames(rng.randbytes(rng.randrange(40)), rng.randrange(6))
+    for _ in range(72):
+        numbers = random_numbers(rng)
+        nack = rng.randrange(2)
+        s = list_bytes(nack, numbers)
+        items.read_ack(damaged(rng, s))
+        items.write_list(nack, numbers, room=len(s) + rng.randrange(-2, 3) if rng.random() < 0.5 else None)
+        rng.shuffle(numbers)
+        items.write_list(nack, numbers)
+    for _ in range(60):
+        mtu = rng.choice((rng.randrange(61, 200), rng.randrange(61, 1501)))
+        length = rng.choice((rng.randrange(400), rng.randrange(65536)))
+        items.split(length, mtu, rng.choice((0, length // (mtu - 60), rng.randrange(60))))
+
+
+def random_windows(items, rng):
+    for spread in (4, 40, 2100):
+        items.new_window()
+        for turn in range(60):
+            items.insert(max(items.window.low + rng.randrange(-3, spread), 0))
+            if turn % 12 == 11:
+                items.missing()
+
+
+def main():
+    items = Items()
+    for part in (bench_lines, frame_limits, over_limits, ack_limits, window_limits, split_limits):
+        part(items)
+    rng = random.Random(1)
+    random_items(items, rng)
+    random_windows(items, rng)
+    assert len(items.input) < 65536
+    crate = pathlib.Path(__file__).resolve().parent.parent / "crates" / "wire"
+    (crate / "stdin").write_bytes(items.input)
+    (crate / "stdout").write_text("\n".join(items.lines) + "\n")
+    print(f"{items.count} items, {len(items.input)} bytes, {len(items.lines)} lines")
+
+
+if __name__ == "__main__":
+    main()
