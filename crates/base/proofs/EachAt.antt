@@ -1,10 +1,10 @@
 -- Lists each of whose elements has a property of its place.
 -- Assumes nothing.
-use Prim.Native.Nat.{ℕ, zero, suc, _≤_, _<_}
-use mathlib.Core.Path.{_≡_, refl, sym, _∙_, ap, subst}
-use mathlib.Core.List.{List, [], _∷_, _++_, append-assoc, append-nil}
+use Prim.Native.Nat.{ℕ, zero, suc, _<_}
+use mathlib.Core.Path.{_≡_}
+use mathlib.Core.List.{List, [], _∷_, _++_}
 use native.Mathlib.Omega.{arith}
-use lib.ListN.{length, getD, length-append, List·getD-append}
+use lib.ListN.{length, getD, List·getD-append, length-append}
 use lib.Seq.{getD-at}
 use lib.Dec.{eqb}
 use borrow.Author.Tests.{eqb-true, eqb-false}
@@ -41,23 +41,3 @@ module _ {A : Type 0} where
   EachAt-at P (suc k) l r i lt = cases (eqb i k)
       (λ t. (r .1, rw (eqb-true i k t) (r .3)))
       (λ t. let ne : i ≡ k → ⊥ = eqb-false _ _ t in EachAt-at P k (r .0) (r .2) i (omega arith))
-
-  -- Where P allows one element for each place, such a list is known by its length, and a shorter one begins a longer.
-  module _ {P : ℕ → A → Type 0} (one : (k : ℕ) (x y : A) → P k x → P k y → x ≡ y) where
-    pub EachAt-unique : (k : ℕ) (l l′ : List A) → EachAt P k l → EachAt P k l′ → l ≡ l′
-    EachAt-unique zero l l′ e e′ = e ∙ sym e′
-    EachAt-unique (suc k) l l′ r r′ =
-        let e : r .0 ≡ r′ .0 = EachAt-unique k (r .0) (r′ .0) (r .2) (r′ .2) in
-        let x : r .1 ≡ r′ .1 = one k (r .1) (r′ .1) (r .3) (r′ .3) in
-        cc (r .4, r′ .4)
-
-    pub EachAt-prefix : (k n : ℕ) (l l′ : List A) → EachAt P k l → EachAt P n l′ → k ≤ n → (rest : List A) × (l′ ≡ l ++ rest)
-    EachAt-prefix k zero l l′ r r′ le = ([], r′ ∙ sym (append-nil l ∙ subst (λ (m : ℕ). EachAt P m l) e r))
-      where
-        e : k ≡ zero
-        e = omega arith
-    EachAt-prefix k (suc n) l l′ r r′ le = cases (eqb k (suc n))
-        (λ t. ([], EachAt-unique (suc n) l′ l r′ (subst (λ (m : ℕ). EachAt P m l) (eqb-true k (suc n) t) r) ∙ sym (append-nil l)))
-        (λ t. let ne : k ≡ suc n → ⊥ = eqb-false _ _ t in
-        let w = EachAt-prefix k n l (r′ .0) r (r′ .2) (omega arith) in
-        (w .0 ++ (r′ .1 ∷ []), r′ .4 ∙ ap (λ (s : List A). s ++ (r′ .1 ∷ [])) (w .1) ∙ append-assoc l (w .0) (r′ .1 ∷ [])))

@@ -105,7 +105,7 @@ module _ (a : ℕ → Bool) (ps : List Piece) (r d : ℕ) (h : List Message) whe
 
 -- How far the two go: until none follows.
 
-abbrev pub Stops : ℕ → Sent → Type 0
+abbrev Stops : ℕ → Sent → Type 0
 Stops c s = find (isAt c (s .after .next c)) (s .after .held) ≡ none
 
 follow-stop : (m c : ℕ) (s : Sent) → Stops c s → follow m c s ≡ s

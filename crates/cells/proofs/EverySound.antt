@@ -1,4 +1,4 @@
--- Any sound cells are those of a bare receiver: its counts and its room hold of every sound state, not only of those that calls reach.
+-- Any sound cells are those of a bare receiver: its counts and its room hold of every sound state, not only of those that calls rank-reached.
 -- Assumes nothing.
 use Prim.Native.Nat.{ℕ, zero, suc, _+_, _<_}
 use mathlib.Core.Path.{_≡_, refl, sym, _∙_, ap}
@@ -23,7 +23,7 @@ use Rattle.cells.specs.Store.{cellsOf}
 use Rattle.cells.specs.Room.{isHeldFirst, heldIn, bareOf, exceeds}
 use Rattle.cells.proofs.Keys.{useOf, key-used, of-ready, ready-of, sits-is, none-sits, carried-message, message-none, message-some}
 use Rattle.cells.proofs.Pieces.{opens, pieceAt, Pieces}
-use Rattle.cells.proofs.Ready.{lineOf, has, has-some, Outs}
+use Rattle.cells.proofs.Ready.{readyLine, has, has-some, Outs}
 use Rattle.cells.proofs.Moves.{of-mark-ready, of-held}
 use Rattle.cells.proofs.Placing.{there-first}
 use Rattle.cells.proofs.Frames.{Rel, frames-sim}
@@ -119,14 +119,14 @@ ranked-there l s t m e q = any-mem (of (readyAs t)) _ (retime (rank l) s) (Mem�
 
 -- Every number below the number of ready messages is one's rank.
 module _ (l : List Slot) (v : Core l) where
-  reach : (T t : ℕ) → t < rank l T → (s : Slot) × List·Memᴰ s l × (isReady s ≡ true) × (rank l (s .cell .turn) ≡ t)
+  rank-reached : (T t : ℕ) → t < rank l T → (s : Slot) × List·Memᴰ s l × (isReady s ≡ true) × (rank l (s .cell .turn) ≡ t)
   unfolding rank
-  reach zero t lt = let z = rank-zero in absurd (omega arith)
+  rank-reached zero t lt = let z = rank-zero in absurd (omega arith)
     where
       rank-zero : rank l 0 ≡ 0
       rank-zero = count-none (isBefore 0) l (any-all (isBefore 0) l (λ s m. cases (isBefore 0 s) (λ y. let p = before-of 0 s y .1 in absurd (omega arith)) (λ y. y)))
-  reach (suc T) t lt = cases (ltb t (rank l T))
-      (λ y. reach T t (ltb-true t (rank l T) y))
+  rank-reached (suc T) t lt = cases (ltb t (rank l T))
+      (λ y. rank-reached T t (ltb-true t (rank l T) y))
       (λ y. let a = ltb-false t (rank l T) y in
       let b = rank-suc l T (suc T) refl in
       let u = v .unique (readyAs T) 0 in
@@ -152,7 +152,7 @@ module _ (s : State) (v : Rest (s .next) (s .slots)) where
   unfolding renumber mapIf retime
   drained = drain-by-order (rank (s .slots)) (s .slots) (rank-rising (s .next) (s .slots) v)
 
-  begin-outs : Outs (record { next = s .next; held = bareOf s .out .held; line = lineOf (renumber (s .slots)) 0 (countOf isFirst (s .slots)) }) (s .next) (renumber (s .slots)) 0 (countOf isFirst (s .slots)) []
+  begin-outs : Outs (record { next = s .next; held = bareOf s .out .held; line = readyLine (renumber (s .slots)) 0 (countOf isFirst (s .slots)) }) (s .next) (renumber (s .slots)) 0 (countOf isFirst (s .slots)) []
   unfolding bareOf renumber mapIf retime
   begin-outs = record {
     next-same = refl;
@@ -167,7 +167,7 @@ module _ (s : State) (v : Rest (s .next) (s .slots)) where
       there : (t : ℕ) → t < countOf isFirst (s .slots) → any (of (readyAs t)) (renumber (s .slots)) ≡ true
       there t lt =
           let e = all-ranked (s .slots) (v .core) in
-          let r = reach (s .slots) (v .core) (top (s .slots)) t (omega arith) in
+          let r = rank-reached (s .slots) (v .core) (top (s .slots)) t (omega arith) in
           ranked-there (s .slots) (r .0) t (r .1) (r .2) (r .3)
 
   stands : Rel (bareOf s) (begin s) []

@@ -81,8 +81,8 @@ pub record Agrees (f : Frame) (s : Slot) : Type 0 where
   pub order : s .cell .order ≡ f .order
   pub channel : s .cell .channel ≡ f .channel
 
-five : (a b c d e x : Bool) → (not (a && b && c && d && e) || x) ≡ false → (a ≡ true) × (b ≡ true) × (c ≡ true) × (d ≡ true) × (e ≡ true)
-five a b c d e x h =
+all-five : (a b c d e x : Bool) → (not (a && b && c && d && e) || x) ≡ false → (a ≡ true) × (b ≡ true) × (c ≡ true) × (d ≡ true) × (e ≡ true)
+all-five a b c d e x h =
     let p₄ = not-false (a && b && c && d && e) (or-left (not (a && b && c && d && e)) x h) in
     let p₃ = and-left (a && b && c && d) e p₄ in
     let p₂ = and-left (a && b && c) d p₃ in
@@ -95,7 +95,7 @@ agrees-no-clash f l e s m o =
     let c = no-clash f l e s m o in
     let i = open-of (f .id) s o in
     let d = rw (eq-eqb _ _ (i .1)) at c in
-    let g = five (eqb (s .cell .count) (f .count)) (eqb (s .cell .kind) (f .kind)) (eqb (s .cell .sequence) (f .sequence)) (eqb (s .cell .order) (f .order)) (eqb (s .cell .channel) (f .channel)) (eqb (s .cell .index) (f .index)) d in
+    let g = all-five (eqb (s .cell .count) (f .count)) (eqb (s .cell .kind) (f .kind)) (eqb (s .cell .sequence) (f .sequence)) (eqb (s .cell .order) (f .order)) (eqb (s .cell .channel) (f .channel)) (eqb (s .cell .index) (f .index)) d in
     record { count = eqb-true _ _ (g .0); kind = eqb-true _ _ (g .1); sequence = eqb-true _ _ (g .2); order = eqb-true _ _ (g .3); channel = eqb-true _ _ (g .4) }
 
 pub agrees-new : (f : Frame) (u t : ℕ) → f .piece ≡ true → Agrees f (slotOf f u t)

@@ -1,4 +1,4 @@
--- One frame, and a datagram's frames.
+-- One frame, and a datagram's frames: the slots' four steps are the bare receiver's.
 -- Assumes nothing.
 use Prim.Native.Nat.{ℕ, zero, suc, _≤_}
 use mathlib.Core.Path.{_≡_, refl, sym, _∙_, ap}
@@ -21,10 +21,7 @@ use Rattle.cells.proofs.Placing.{whole-placing, joinedOf, joined-placin
 use Rattle.cells.proofs.Cascade.{Sim, answer}
 use Rattle.cells.proofs.Step.{settle, early≢late, free≢late, due≢late, deliver-sim}
 
--- The bare receiver's answer before a frame.
-abbrev pub before : Bare → Fed
-before b = record { after = b; ready = 0; dropped = 0 }
-
+-- The working state w has what the bare receiver b has; h are the messages handed out before.
 pub record Rel (b : Bare) (w : Work) (h : List Message) : Type 0 where
   pub accepted : b .accepted ≡ w .accepted
   pub pieces : Pieces (b .pieces) (w .slots)
@@ -131,7 +128,7 @@ frame-sim b w h f v full = rw (ap (seenBefore f) (v .accepted)) (cases (seenBefo
 
 -- Once room has run out, that stays said.
 module _ where
-  pub cascade-full : (n c : ℕ) (w : Work) → cascade n c w .full ≡ w .full
+  cascade-full : (n c : ℕ) (w : Work) → cascade n c w .full ≡ w .full
   unfolding cascade goOn rise made
   cascade-full zero c w = refl
   cascade-full (suc n) c w = cases (isHeld c (w .next c) (w .slots)) (λ t. rw t (cascade-full n c (goOn c w))) (λ t. rw t)
@@ -178,7 +175,7 @@ module _ where
   frames-full [] w e = e
   frames-full (f ∷ fs) w e = frames-full fs (frame w f) (frame-full w f e)
 
-  pub not-full : (fs : List Frame) (w : Work) → frames w fs .full ≡ false → w .full ≡ false
+  not-full : (fs : List Frame) (w : Work) → frames w fs .full ≡ false → w .full ≡ false
   not-full fs w e = cases (w .full) (λ t. neither (frames w fs .full) (frames-full fs w t) e) (λ t. t)
 
 -- A datagram's frames.

@@ -81,7 +81,7 @@ sits-of k i s = refl
 pub sits-not : (k : Key) (i : ℕ) (s : Slot) → of k s ≡ false → sits k i s ≡ false
 sits-not k i s e = rw (sits-of k i s, e)
 
-pub sits-free : (k : Key) (i : ℕ) (s : Slot) → isFree s ≡ true → sits k i s ≡ false
+sits-free : (k : Key) (i : ℕ) (s : Slot) → isFree s ≡ true → sits k i s ≡ false
 sits-free k i s e = sits-not k i s (of-free k s e)
 
 pub sits-is : (k : Key) (i : ℕ) (s : Slot) → sits k i s ≡ true → (of k s ≡ true) × (s .cell .index ≡ i)
@@ -107,13 +107,13 @@ unfolding shown mark markCell
 shown-body s = refl
 
 module _ (k k′ : Key) (l l′ : List Slot) (e : (i : ℕ) → look (find (sits k′ i) l′) ≡ look (find (sits k i) l)) where
-  pub join-ext : (n : ℕ) → join k′ l′ n ≡ join k l n
+  join-ext : (n : ℕ) → join k′ l′ n ≡ join k l n
   unfolding join
   join-ext zero = refl
   join-ext (suc n) =
       rw (join-ext n, look-fold (λ (s : Slot). s .body) [] shown-body (find (sits k′ n) l′), look-fold (λ (s : Slot). s .body) [] shown-body (find (sits k n) l), e n)
 
-  pub messageAt-ext : messageAt k′ l′ ≡ messageAt k l
+  messageAt-ext : messageAt k′ l′ ≡ messageAt k l
   unfolding messageAt messageOf shown mark markCell
   messageAt-ext =
       look-fold F′ none seen′ (find (sits k′ 0) l′) ∙ (rw (e 0) (option-arm (look (find (sits k 0) l)) none F′ F (λ s. rw (join-ext (s .cell .count)))) ∙ sym (look-fold F none seen (find (sits k 0) l)))
@@ -136,7 +136,7 @@ pub record Carried (k k′ : Key) (h : Slot → Slot) (l : List Slot) : Type 0 w
   pub same : (s : Slot) → List·Memᴰ s l → of k s ≡ true → shown (h s) ≡ shown s
 
 module _ {k k′ : Key} {h : Slot → Slot} {l : List Slot} (c : Carried k k′ h l) where
-  pub carried-sits : (i : ℕ) (s : Slot) → List·Memᴰ s l → sits k′ i (h s) ≡ sits k i s
+  carried-sits : (i : ℕ) (s : Slot) → List·Memᴰ s l → sits k′ i (h s) ≡ sits k i s
   unfolding shown mark markCell
   carried-sits i s m = rw (sits-of k′ i (h s), sits-of k i s, c .moved s m) (go (of k s) refl)
     where

@@ -18,13 +18,13 @@ pub mod SoundCore
 pub mod SoundCascade
 pub mod SoundFrames
 pub mod SoundRest
+pub mod Store
+pub mod Memory
+pub mod Places
+pub mod Records
 pub mod SoundTest
 pub mod SoundKept
 pub mod EverySound
-pub mod Store
-pub mod Memory
 pub mod Counting
-pub mod Places
-pub mod Records
 pub mod Claim
 pub mod Examples

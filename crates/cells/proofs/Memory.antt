@@ -21,8 +21,8 @@ use Rattle.cells.specs.Calls.{Call, receive, take, Session, call, calls,
 use Rattle.cells.specs.Memory.{Memory, stateOf, sessionOf, received, callIn, callsIn, newMemory}
 use Rattle.cells.proofs.Takes.{taken-freed}
 use Rattle.cells.proofs.Sessions.{afterFrames, afterTake}
+use Rattle.cells.proofs.Store.{AllSized, store-length, Shaped, datagram-worked, datagram-shaped, take-shaped, slots-shaped, datagram-read, take-read}
 use Rattle.cells.proofs.SoundKept.{first-from-bytes}
-use Rattle.cells.proofs.Store.{All, store-length, Shaped, datagram-worked, datagram-shaped, take-shaped, slots-shaped, datagram-read, take-read}
 
 -- One cell of the store for each record, and bodies within them.
 pub record Fit (x : Memory) : Type 0 where
@@ -32,7 +32,7 @@ pub record Fit (x : Memory) : Type 0 where
 fit-shaped : (x : Memory) → Fit x → Shaped (length (x .cells)) (slotsOf (x .cells) (x .store))
 fit-shaped x v = slots-shaped (x .cells) (x .store) (v .bodies) (let e = v .lengths in omega arith)
 
-sized-bodies : (l : List Slot) → All l → (c : Cell) → List·Memᴰ c (cellsOf l) → eqb (c .used) 0 ≡ false → c .length ≤ cellSize
+sized-bodies : (l : List Slot) → AllSized l → (c : Cell) → List·Memᴰ c (cellsOf l) → eqb (c .used) 0 ≡ false → c .length ≤ cellSize
 unfolding cellsOf isFree
 sized-bodies l z c m =
     let a = Memᴰ·of-map (λ (s : Slot). s .cell) l m in

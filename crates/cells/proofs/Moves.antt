@@ -13,7 +13,7 @@ use Rattle.base.proofs.Lists.{any-all, any-map}
 use Rattle.base.proofs.Counts.{count-le-map, count-none}
 use Rattle.cells.specs.Cell.{Slot, Key, openAs, heldAs, readyAs, bears, of, sits, isFree, markCell, mark, change, mapIf, turnTo, putSlot}
 use Rattle.cells.proofs.Keys.{useOf, of-used, of-other, no-key-of-4, sits-not, carried-count, carried-other, carried-moved, put-count}
-use Rattle.cells.proofs.Ready.{Same, same-carried, Unique}
+use Rattle.cells.proofs.Ready.{SameUnder, same-carried, Unique}
 
 pub of-apart : (k k′ : Key) (s : Slot) → (useOf k ≡ useOf k′ → ⊥) → of k s ≡ true → of k′ s ≡ false
 of-apart k k′ s ne e = of-other k′ s (λ u. ne (sym (of-used k s e) ∙ u))
@@ -35,7 +35,7 @@ unfolding of bears
 of-held c k s e = let r = and-right (eqb (s .cell .used) 2) _ e in (eqb-true _ _ (and-left (eqb (s .cell .channel) c) _ r), eqb-true _ _ (and-right (eqb (s .cell .channel) c) _ r))
 
 -- A key that no changed slot bears afterwards: its cells are no more than before.
-pub count-left : (q : Slot → Bool) (g : Slot → Slot) (l : List Slot) (k : Key) (i : ℕ) → ((s : Slot) → List·Memᴰ s l → q s ≡ true → of k (g s) ≡ false) → countOf (sits k i) (mapIf q g l) ≤ countOf (sits k i) l
+count-left : (q : Slot → Bool) (g : Slot → Slot) (l : List Slot) (k : Key) (i : ℕ) → ((s : Slot) → List·Memᴰ s l → q s ≡ true → of k (g s) ≡ false) → countOf (sits k i) (mapIf q g l) ≤ countOf (sits k i) l
 unfolding mapIf change
 count-left q g l k i e = count-le-map (sits k i) (sits k i) (change q g) l (λ s m. cases (q s)
     (λ t. rw t (λ y. neither (sits k i (g s)) y (sits-not k i (g s) (e s m t))))
@@ -45,32 +45,32 @@ pub unique-left : (q : Slot → Bool) (g : Slot → Slot) (l : List Slot) → ((
 unique-left q g l e u k i = let a = count-left q g l k i (e k) in let b = u k i in omega arith
 
 module _ (k₀ : Key) (u t : ℕ) (l : List Slot) where
-  pub turn-other : (k : Key) → ((s : Slot) → List·Memᴰ s l → of k₀ s ≡ true → (of k s ≡ false) × (of k (mark u t s) ≡ false)) → Same k l k (turnTo k₀ u t l)
+  turn-other : (k : Key) → ((s : Slot) → List·Memᴰ s l → of k₀ s ≡ true → (of k s ≡ false) × (of k (mark u t s) ≡ false)) → SameUnder k l k (turnTo k₀ u t l)
   unfolding turnTo mapIf
   turn-other k e = same-carried (carried-other k (of k₀) (mark u t) l e)
 
-  pub turn-moved : (k : Key) → ((s : Slot) → List·Memᴰ s l → of k₀ s ≡ true → of k (mark u t s) ≡ true) → any (of k) l ≡ false → Same k₀ l k (turnTo k₀ u t l)
+  turn-moved : (k : Key) → ((s : Slot) → List·Memᴰ s l → of k₀ s ≡ true → of k (mark u t s) ≡ true) → any (of k) l ≡ false → SameUnder k₀ l k (turnTo k₀ u t l)
   unfolding turnTo mapIf
   turn-moved k e f = same-carried (carried-moved k₀ k u t l e f)
 
-  pub turn-moved-count : (k : Key) (i : ℕ) → ((s : Slot) → List·Memᴰ s l → of k₀ s ≡ true → of k (mark u t s) ≡ true) → any (of k) l ≡ false → countOf (sits k i) (turnTo k₀ u t l) ≡ countOf (sits k₀ i) l
+  turn-moved-count : (k : Key) (i : ℕ) → ((s : Slot) → List·Memᴰ s l → of k₀ s ≡ true → of k (mark u t s) ≡ true) → any (of k) l ≡ false → countOf (sits k i) (turnTo k₀ u t l) ≡ countOf (sits k₀ i) l
   unfolding turnTo mapIf
   turn-moved-count k i e f = carried-count (carried-moved k₀ k u t l e f) i
 
-  pub turn-left : (k : Key) (i : ℕ) → ((s : Slot) → List·Memᴰ s l → of k₀ s ≡ true → of k (mark u t s) ≡ false) → countOf (sits k i) (turnTo k₀ u t l) ≤ countOf (sits k i) l
+  turn-left : (k : Key) (i : ℕ) → ((s : Slot) → List·Memᴰ s l → of k₀ s ≡ true → of k (mark u t s) ≡ false) → countOf (sits k i) (turnTo k₀ u t l) ≤ countOf (sits k i) l
   unfolding turnTo
   turn-left k i e = count-left (of k₀) (mark u t) l k i e
 
-  pub turn-gone : ((s : Slot) → of k₀ (mark u t s) ≡ false) → any (of k₀) (turnTo k₀ u t l) ≡ false
+  turn-gone : ((s : Slot) → of k₀ (mark u t s) ≡ false) → any (of k₀) (turnTo k₀ u t l) ≡ false
   unfolding turnTo mapIf change
   turn-gone e = any-map (of k₀) (λ s. false) (change (of k₀) (mark u t)) l (λ s m. cases (of k₀ s) (λ y. rw y (e s)) (λ y. rw y y)) ∙ any-all (λ s. false) l (λ s m. refl)
 
 -- An open or a held message becomes ready.
 module _ (k₀ : Key) (T : ℕ) (l : List Slot) (not-ready : useOf k₀ ≡ 3 → ⊥) (fresh : any (of (readyAs T)) l ≡ false) where
-  pub ready-moved : Same k₀ l (readyAs T) (turnTo k₀ 3 T l)
+  pub ready-moved : SameUnder k₀ l (readyAs T) (turnTo k₀ 3 T l)
   ready-moved = turn-moved k₀ 3 T l (readyAs T) (λ s m e. of-mark-ready T T s ∙ eq-eqb T T refl) fresh
 
-  pub ready-others : (t : ℕ) → (t ≡ T → ⊥) → Same (readyAs t) l (readyAs t) (turnTo k₀ 3 T l)
+  pub ready-others : (t : ℕ) → (t ≡ T → ⊥) → SameUnder (readyAs t) l (readyAs t) (turnTo k₀ 3 T l)
   ready-others t ne = turn-other k₀ 3 T l (readyAs t) (λ s m e. (of-apart k₀ (readyAs t) s not-ready e, of-mark-ready T t s ∙ ne-eqb T t (λ q. ne (sym q))))
 
   pub ready-unique : Unique l → Unique (turnTo k₀ 3 T l)
@@ -83,7 +83,7 @@ module _ (k₀ : Key) (T : ℕ) (l : List Slot) (not-ready : useOf k₀ ≡ 3 �
   pub ready-gone : any (of k₀) (turnTo k₀ 3 T l) ≡ false
   ready-gone = turn-gone k₀ 3 T l (λ s. of-mark k₀ 3 T s (λ q. not-ready (sym q)))
 
-  pub ready-held : (c o : ℕ) → ((s : Slot) → of k₀ s ≡ true → of (heldAs c o) s ≡ false) → Same (heldAs c o) l (heldAs c o) (turnTo k₀ 3 T l)
+  pub ready-held : (c o : ℕ) → ((s : Slot) → of k₀ s ≡ true → of (heldAs c o) s ≡ false) → SameUnder (heldAs c o) l (heldAs c o) (turnTo k₀ 3 T l)
   ready-held c o h = turn-other k₀ 3 T l (heldAs c o) (λ s m e. (h s e, of-mark (heldAs c o) 3 T s (λ q. omega arith)))
 
 -- An open message, all of one channel and order number, becomes held.
@@ -100,13 +100,13 @@ module _ (id c o : ℕ) (l : List Slot) (agree : (s : Slot) → List·Memᴰ s l
       absurd (ne (sym a ∙ r .0) (sym b ∙ r .1)))
       (λ y. y)
 
-  pub held-moved : Same (openAs id) l (heldAs c o) (turnTo (openAs id) 2 0 l)
+  pub held-moved : SameUnder (openAs id) l (heldAs c o) (turnTo (openAs id) 2 0 l)
   held-moved = turn-moved (openAs id) 2 0 l (heldAs c o) becomes fresh
 
-  pub held-others : (c′ o′ : ℕ) → (c′ ≡ c → o′ ≡ o → ⊥) → Same (heldAs c′ o′) l (heldAs c′ o′) (turnTo (openAs id) 2 0 l)
+  pub held-others : (c′ o′ : ℕ) → (c′ ≡ c → o′ ≡ o → ⊥) → SameUnder (heldAs c′ o′) l (heldAs c′ o′) (turnTo (openAs id) 2 0 l)
   held-others c′ o′ ne = turn-other (openAs id) 2 0 l (heldAs c′ o′) (λ s m e. (of-apart (openAs id) (heldAs c′ o′) s (λ q. omega arith) e, apart c′ o′ ne s m e))
 
-  pub held-ready : (t : ℕ) → Same (readyAs t) l (readyAs t) (turnTo (openAs id) 2 0 l)
+  pub held-ready : (t : ℕ) → SameUnder (readyAs t) l (readyAs t) (turnTo (openAs id) 2 0 l)
   held-ready t = turn-other (openAs id) 2 0 l (readyAs t) (λ s m e. (of-apart (openAs id) (readyAs t) s (λ q. omega arith) e, of-mark (readyAs t) 2 0 s (λ q. omega arith)))
 
   pub held-unique : Unique l → Unique (turnTo (openAs id) 2 0 l)
@@ -118,7 +118,7 @@ module _ (id c o : ℕ) (l : List Slot) (agree : (s : Slot) → List·Memᴰ s l
 
 -- A joined message is dropped.
 module _ (k₀ : Key) (l : List Slot) where
-  pub drop-other : (k : Key) → (useOf k₀ ≡ useOf k → ⊥) → Same k l k (turnTo k₀ 4 0 l)
+  pub drop-other : (k : Key) → (useOf k₀ ≡ useOf k → ⊥) → SameUnder k l k (turnTo k₀ 4 0 l)
   drop-other k ne = turn-other k₀ 4 0 l k (λ s m e. (of-apart k₀ k s ne e, of-mark k 4 0 s (no-key-of-4 k)))
 
   pub drop-unique : Unique l → Unique (turnTo k₀ 4 0 l)

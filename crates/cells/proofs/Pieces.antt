@@ -85,7 +85,7 @@ pub no-clash : (f : Frame) (l : List Slot) → any (clash f) l ≡ false → (s 
 unfolding clash
 no-clash f l e s m o = rw ((open-of (f .id) s o) .0) at (any-false (clash f) l e s m)
 
-pub fresh-index : (f : Frame) (l : List Slot) → any (clash f) l ≡ false → any (sits (openAs (f .id)) (f .index)) l ≡ false
+fresh-index : (f : Frame) (l : List Slot) → any (clash f) l ≡ false → any (sits (openAs (f .id)) (f .index)) l ≡ false
 unfolding conflict pieceOf pieceIn
 fresh-index f l e = any-all (sits (openAs (f .id)) (f .index)) l (λ s m. cases (sits (openAs (f .id)) (f .index) s)
     (λ t. let r = sits-is (openAs (f .id)) (f .index) s t in

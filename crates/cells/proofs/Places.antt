@@ -14,7 +14,7 @@ use Rattle.base.specs.Lists.{any}
 use Rattle.base.proofs.Puts.{put-split}
 use Rattle.cells.specs.Cell.{Cell, Slot, isFree, putSlot}
 use Rattle.cells.specs.Store.{cellSize, bodyOf, slotsOf, cellsOf, laid, storeOf}
-use Rattle.cells.proofs.Store.{Sized, All, laid-length, room-one, first-length, store-length}
+use Rattle.cells.proofs.Store.{Sized, AllSized, laid-length, room-one, first-length, store-length}
 
 -- The lowest-numbered unused record.
 unfoldable pub unusedAt : List Cell → ℕ
@@ -60,7 +60,7 @@ unfolding laid
 laid-used s bytes e = rw e
 
 module _ (x : Slot) (used : isFree x ≡ false) (z : Sized x) where
-  overlaid : (l : List Slot) (store : List ℕ) → All l → any isFree l ≡ true → length l * cellSize ≤ length store → storeOf store (putSlot x l) ≡ overlay (storeOf store l) (unusedAt (cellsOf l) * cellSize) (x .body)
+  overlaid : (l : List Slot) (store : List ℕ) → AllSized l → any isFree l ≡ true → length l * cellSize ≤ length store → storeOf store (putSlot x l) ≡ overlay (storeOf store l) (unusedAt (cellsOf l) * cellSize) (x .body)
   unfolding putSlot unusedAt cellsOf storeOf any isFree
   overlaid [] store zs r le = absurd (false≢true r)
   overlaid (s ∷ l) store zs r le =
@@ -81,7 +81,7 @@ module _ (x : Slot) (used : isFree x ≡ false) (z : Sized x) where
           rw (k r, e) (sym (overlay-after (laid s (take cellSize store)) (storeOf (drop cellSize store) l) (x .body) (unusedAt (cellsOf l) * cellSize)))
 
   -- A slot that is put writes its body at the place of the lowest-numbered unused cell, and no other byte.
-  pub put-store : (l : List Slot) (store : List ℕ) → All l → any isFree l ≡ true → length l * cellSize ≤ length store → storeOf store (putSlot x l) ≡ put (storeOf store l) (unusedAt (cellsOf l) * cellSize) (x .body)
+  pub put-store : (l : List Slot) (store : List ℕ) → AllSized l → any isFree l ≡ true → length l * cellSize ≤ length store → storeOf store (putSlot x l) ≡ put (storeOf store l) (unusedAt (cellsOf l) * cellSize) (x .body)
   unfolding overlay
   put-store l store zs r le =
       let a = z .fits used in

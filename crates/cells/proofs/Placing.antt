@@ -18,7 +18,7 @@ use Rattle.cells.specs.Cell.{Slot, Key, openAs, heldAs, readyAs, of, sit
 use Rattle.cells.specs.Datagram.{Fate, late}
 use Rattle.cells.proofs.Keys.{sits-is, put-any-of, put-whole}
 use Rattle.cells.proofs.Pieces.{Pieces, pieces-put-other, pieces-close}
-use Rattle.cells.proofs.Ready.{Same, same-put, Unique}
+use Rattle.cells.proofs.Ready.{SameUnder, same-put, Unique}
 use Rattle.cells.proofs.Moves.{of-apart, ready-moved, ready-others, ready-unique, ready-held, held-moved, held-others, held-ready, held-unique, drop-other, drop-unique}
 use Rattle.cells.proofs.FrameSlot.{of-slot-held, of-slot-ready, of-slot-other, slot-index, slot-count, slot-message, slot-open, put-fresh, fresh-held, fresh-ready, Agrees}
 
@@ -26,19 +26,19 @@ use Rattle.cells.proofs.FrameSlot.{of-slot-held, of-slot-ready, of-slot
 pub record Holds (m : Message) (l l′ : List Slot) : Type 0 where
   pub is : messageAt (heldAs (m .channel) (m .order)) l′ ≡ some m
   pub here : any (of (heldAs (m .channel) (m .order))) l′ ≡ true
-  pub held : (c k : ℕ) → isAt c k m ≡ false → Same (heldAs c k) l (heldAs c k) l′
-  pub ready : (t : ℕ) → Same (readyAs t) l (readyAs t) l′
+  pub held : (c k : ℕ) → isAt c k m ≡ false → SameUnder (heldAs c k) l (heldAs c k) l′
+  pub ready : (t : ℕ) → SameUnder (readyAs t) l (readyAs t) l′
   pub unique : Unique l′
 
 pub record Readies (m : Message) (T : ℕ) (l l′ : List Slot) : Type 0 where
   pub is : messageAt (readyAs T) l′ ≡ some m
-  pub held : (c k : ℕ) → Same (heldAs c k) l (heldAs c k) l′
-  pub ready : (t : ℕ) → (t ≡ T → ⊥) → Same (readyAs t) l (readyAs t) l′
+  pub held : (c k : ℕ) → SameUnder (heldAs c k) l (heldAs c k) l′
+  pub ready : (t : ℕ) → (t ≡ T → ⊥) → SameUnder (readyAs t) l (readyAs t) l′
   pub unique : Unique l′
 
 pub record Keeps (l l′ : List Slot) : Type 0 where
-  pub held : (c k : ℕ) → Same (heldAs c k) l (heldAs c k) l′
-  pub ready : (t : ℕ) → Same (readyAs t) l (readyAs t) l′
+  pub held : (c k : ℕ) → SameUnder (heldAs c k) l (heldAs c k) l′
+  pub ready : (t : ℕ) → SameUnder (readyAs t) l (readyAs t) l′
   pub unique : Unique l′
 
 pub record Placing (x : Fate) (m : Message) (ps : List Piece) (T : ℕ) (l l₂ l₃ l₄ : List Slot) : Type 0 where
@@ -108,14 +108,14 @@ close-new f ps = rw (eq-eqb (f .id) (f .id) refl)
 
 module _ (f : Frame) (ps : List Piece) (T : ℕ) (l : List Slot) (agree : (s : Slot) → List·Memᴰ s l → of (openAs (f .id)) s ≡ true → Agrees f s) (le : 1 ≤ f .count) (all : allThere (openAs (f .id)) l (f .count) ≡ true)
     (u : Unique l) (v : Pieces (pieceOf f ∷ ps) l) where
-  is-m : messageAt (openAs (f .id)) l ≡ some (joinedOf f l)
-  is-m = joined-message f l agree le all
+  joined-is : messageAt (openAs (f .id)) l ≡ some (joinedOf f l)
+  joined-is = joined-message f l agree le all
 
-  on : (s : Slot) → List·Memᴰ s l → of (openAs (f .id)) s ≡ true → (s .cell .channel ≡ f .channel) × (s .cell .order ≡ f .order)
-  on s i y = (agree s i y .channel, agree s i y .order)
+  on-its-channel : (s : Slot) → List·Memᴰ s l → of (openAs (f .id)) s ≡ true → (s .cell .channel ≡ f .channel) × (s .cell .order ≡ f .order)
+  on-its-channel s i y = (agree s i y .channel, agree s i y .order)
 
-  here-m : any (of (openAs (f .id))) l ≡ true
-  here-m = let t = any-true (sits (openAs (f .id)) 0) l (there-first _ l (f .count) le all) in any-mem (of (openAs (f .id))) l (t .0) (t .1) ((sits-is (openAs (f .id)) 0 (t .0) (t .2)) .0)
+  joined-present : any (of (openAs (f .id))) l ≡ true
+  joined-present = let t = any-true (sits (openAs (f .id)) 0) l (there-first _ l (f .count) le all) in any-mem (of (openAs (f .id))) l (t .0) (t .1) ((sits-is (openAs (f .id)) 0 (t .0) (t .2)) .0)
 
   closed : (u t : ℕ) → eqb u 1 ≡ false → Pieces (without (hasId (f .id)) ps) (turnTo (openAs (f .id)) u t l)
   closed u t e = rw (close-new f ps) at (pieces-close (f .id) u t (pieceOf f ∷ ps) l e v)
@@ -124,14 +124,14 @@ module _ (f : Frame) (ps : List Piece) (T : ℕ) (l : List Slot) (agree : (s : S
   unfolding message
   joined-placing x = record {
     holds = λ ne no. record {
-      is = held-moved (f .id) (f .channel) (f .order) l on no .message ∙ is-m;
-      here = held-moved (f .id) (f .channel) (f .order) l on no .present ∙ here-m;
-      held = λ c k y. held-others (f .id) (f .channel) (f .order) l on no c k (λ p q. neither (isAt c k (joinedOf f l)) (isAt-there c k (joinedOf f l) (sym p) (sym q)) y);
-      ready = held-ready (f .id) (f .channel) (f .order) l on no;
-      unique = held-unique (f .id) (f .channel) (f .order) l on no u;
+      is = held-moved (f .id) (f .channel) (f .order) l on-its-channel no .message ∙ joined-is;
+      here = held-moved (f .id) (f .channel) (f .order) l on-its-channel no .present ∙ joined-present;
+      held = λ c k y. held-others (f .id) (f .channel) (f .order) l on-its-channel no c k (λ p q. neither (isAt c k (joinedOf f l)) (isAt-there c k (joinedOf f l) (sym p) (sym q)) y);
+      ready = held-ready (f .id) (f .channel) (f .order) l on-its-channel no;
+      unique = held-unique (f .id) (f .channel) (f .order) l on-its-channel no u;
     };
     readies = λ ne no. record {
-      is = ready-moved (openAs (f .id)) T l (λ q. omega arith) no .message ∙ is-m;
+      is = ready-moved (openAs (f .id)) T l (λ q. omega arith) no .message ∙ joined-is;
       held = λ c k. ready-held (openAs (f .id)) T l (λ q. omega arith) no c k (λ s y. of-apart (openAs (f .id)) (heldAs c k) s (λ q. omega arith) y);
       ready = ready-others (openAs (f .id)) T l (λ q. omega arith) no;
       unique = ready-unique (openAs (f .id)) T l (λ q. omega arith) no u;

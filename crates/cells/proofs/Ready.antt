@@ -18,9 +18,9 @@ use Rattle.cells.specs.Cell.{Slot, Key, heldAs, readyAs, of, sits, isFre
 use Rattle.cells.proofs.Keys.{none-sits, Carried, carried-message, carried-any, message-none, put-any-of, put-other}
 
 -- The ready messages of n turns from lo on.
-unfoldable pub lineOf : List Slot → ℕ → ℕ → List Message
-lineOf l lo zero = []
-lineOf l lo (suc n) = lineOf l lo n ++ option (messageAt (readyAs (n + lo)) l) [] (λ m. m ∷ [])
+unfoldable pub readyLine : List Slot → ℕ → ℕ → List Message
+readyLine l lo zero = []
+readyLine l lo (suc n) = readyLine l lo n ++ option (messageAt (readyAs (n + lo)) l) [] (λ m. m ∷ [])
 
 abbrev pub has : Option Message → Bool
 has o = option o false (λ m. true)
@@ -30,14 +30,14 @@ has-some none e = absurd (false≢true e)
 has-some (some m) e = (m, refl)
 
 -- Under one key in l′ stands what stood under another in l.
-pub record Same (k : Key) (l : List Slot) (k′ : Key) (l′ : List Slot) : Type 0 where
+pub record SameUnder (k : Key) (l : List Slot) (k′ : Key) (l′ : List Slot) : Type 0 where
   pub message : messageAt k′ l′ ≡ messageAt k l
   pub present : any (of k′) l′ ≡ any (of k) l
 
-pub same-carried : {k k′ : Key} {h : Slot → Slot} {l : List Slot} → Carried k k′ h l → Same k l k′ (map h l)
+pub same-carried : {k k′ : Key} {h : Slot → Slot} {l : List Slot} → Carried k k′ h l → SameUnder k l k′ (map h l)
 same-carried c = record { message = carried-message c; present = carried-any c }
 
-pub same-put : (x : Slot) (l : List Slot) → any isFree l ≡ true → (k : Key) → of k x ≡ false → Same k l k (putSlot x l)
+pub same-put : (x : Slot) (l : List Slot) → any isFree l ≡ true → (k : Key) → of k x ≡ false → SameUnder k l k (putSlot x l)
 same-put x l room k e = record { message = put-other x l room k e; present = put-any-of x l room k ∙ rw e }
 
 abbrev pub Unique : List Slot → Type 0
@@ -47,22 +47,22 @@ pub record Outs (o : Out) (next : ℕ → ℕ) (l : List Slot) (lo n : ℕ) (han
   pub next-same : o .next ≡ next
   pub held : (c k : ℕ) → find (isAt c k) (o .held) ≡ messageAt (heldAs c k) l
   pub first : (c k : ℕ) → any (of (heldAs c k)) l ≡ has (messageAt (heldAs c k) l)
-  pub line : o .line ≡ handed ++ lineOf l lo n
+  pub line : o .line ≡ handed ++ readyLine l lo n
   pub within : (t : ℕ) → any (of (readyAs t)) l ≡ true → (lo ≤ t) × (t < n + lo)
   pub firsts : (t : ℕ) → lo ≤ t → t < n + lo → has (messageAt (readyAs t) l) ≡ true
   pub unique : Unique l
 
-pub lineOf-ext : (l l′ : List Slot) (lo n : ℕ) → ((t : ℕ) → lo ≤ t → t < n + lo → messageAt (readyAs t) l′ ≡ messageAt (readyAs t) l) → lineOf l′ lo n ≡ lineOf l lo n
-unfolding lineOf
-lineOf-ext l l′ lo zero e = refl
-lineOf-ext l l′ lo (suc n) e = rw (lineOf-ext l l′ lo n (λ t a b. e t a (omega arith)), e (n + lo) (omega arith) (omega arith))
+pub readyLine-ext : (l l′ : List Slot) (lo n : ℕ) → ((t : ℕ) → lo ≤ t → t < n + lo → messageAt (readyAs t) l′ ≡ messageAt (readyAs t) l) → readyLine l′ lo n ≡ readyLine l lo n
+unfolding readyLine
+readyLine-ext l l′ lo zero e = refl
+readyLine-ext l l′ lo (suc n) e = rw (readyLine-ext l l′ lo n (λ t a b. e t a (omega arith)), e (n + lo) (omega arith) (omega arith))
 
-pub outs-keep : {o : Out} {next : ℕ → ℕ} {l : List Slot} {lo n : ℕ} {h : List Message} (l′ : List Slot) → Outs o next l lo n h → ((c k : ℕ) → Same (heldAs c k) l (heldAs c k) l′) → ((t : ℕ) → Same (readyAs t) l (readyAs t) l′) → Unique l′ → Outs o next l′ lo n h
+pub outs-keep : {o : Out} {next : ℕ → ℕ} {l : List Slot} {lo n : ℕ} {h : List Message} (l′ : List Slot) → Outs o next l lo n h → ((c k : ℕ) → SameUnder (heldAs c k) l (heldAs c k) l′) → ((t : ℕ) → SameUnder (readyAs t) l (readyAs t) l′) → Unique l′ → Outs o next l′ lo n h
 outs-keep {o} {next} {l} {lo} {n} {h} l′ v sh sr u = record {
   next-same = v .next-same;
   held = λ c k. v .held c k ∙ sym (sh c k .message);
   first = λ c k. sh c k .present ∙ (v .first c k ∙ ap has (sym (sh c k .message)));
-  line = v .line ∙ ap (λ (x : List Message). h ++ x) (sym (lineOf-ext l l′ lo n (λ t a b. sr t .message)));
+  line = v .line ∙ ap (λ (x : List Message). h ++ x) (sym (readyLine-ext l l′ lo n (λ t a b. sr t .message)));
   within = λ t e. v .within t (sym (sr t .present) ∙ e);
   firsts = λ t a b. ap has (sr t .message) ∙ v .firsts t a b;
   unique = u;
@@ -75,14 +75,14 @@ isAt-same x m c k e = let r = isAt-true (m .channel) (m .order) x e in cc
 -- A message is held.
 pub outs-hold : {o : Out} {next : ℕ → ℕ} {l : List Slot} {lo n : ℕ} {h : List Message} (m : Message) (l′ : List Slot) → Outs o next l lo n h
     → messageAt (heldAs (m .channel) (m .order)) l′ ≡ some m → any (of (heldAs (m .channel) (m .order))) l′ ≡ true
-    → ((c k : ℕ) → isAt c k m ≡ false → Same (heldAs c k) l (heldAs c k) l′) → ((t : ℕ) → Same (readyAs t) l (readyAs t) l′) → Unique l′
+    → ((c k : ℕ) → isAt c k m ≡ false → SameUnder (heldAs c k) l (heldAs c k) l′) → ((t : ℕ) → SameUnder (readyAs t) l (readyAs t) l′) → Unique l′
     → Outs (hold m o) next l′ lo n h
 unfolding hold find
 outs-hold {o} {next} {l} {lo} {n} {h} m l′ v is here sh sr u = record {
   next-same = v .next-same;
   held = λ c k. cases (isAt c k m) (λ t. let r = isAt-true c k m t in rw (t, ← r .0, ← r .1) (sym is)) (λ t. rw t (v .held c k ∙ sym (sh c k t .message)));
   first = λ c k. cases (isAt c k m) (λ t. let r = isAt-true c k m t in rw (← r .0, ← r .1) (here ∙ sym (ap has is))) (λ t. sh c k t .present ∙ (v .first c k ∙ ap has (sym (sh c k t .message))));
-  line = v .line ∙ ap (λ (x : List Message). h ++ x) (sym (lineOf-ext l l′ lo n (λ t a b. sr t .message)));
+  line = v .line ∙ ap (λ (x : List Message). h ++ x) (sym (readyLine-ext l l′ lo n (λ t a b. sr t .message)));
   within = λ t e. v .within t (sym (sr t .present) ∙ e);
   firsts = λ t a b. ap has (sr t .message) ∙ v .firsts t a b;
   unique = u;
@@ -90,10 +90,10 @@ outs-hold {o} {next} {l} {lo} {n} {h} m l′ v is here sh sr u = record {
 
 -- A message is made ready.
 module _ {o : Out} {next : ℕ → ℕ} {l : List Slot} {lo n : ℕ} {h : List Message} (m : Message) (l′ : List Slot) (v : Outs o next l lo n h)
-    (T : ℕ) (top : T ≡ n + lo) (is : messageAt (readyAs T) l′ ≡ some m) (sr : (t : ℕ) → (t ≡ T → ⊥) → Same (readyAs t) l (readyAs t) l′) (u : Unique l′) where
-  ready-line : o .line ++ (m ∷ []) ≡ h ++ lineOf l′ lo (suc n)
-  unfolding lineOf
-  ready-line = rw (v .line, lineOf-ext l l′ lo n (λ t a b. sr t (λ e. omega arith) .message), ← top, is, append-assoc)
+    (T : ℕ) (top : T ≡ n + lo) (is : messageAt (readyAs T) l′ ≡ some m) (sr : (t : ℕ) → (t ≡ T → ⊥) → SameUnder (readyAs t) l (readyAs t) l′) (u : Unique l′) where
+  ready-line : o .line ++ (m ∷ []) ≡ h ++ readyLine l′ lo (suc n)
+  unfolding readyLine
+  ready-line = rw (v .line, readyLine-ext l l′ lo n (λ t a b. sr t (λ e. omega arith) .message), ← top, is, append-assoc)
 
   ready-within : (t : ℕ) → any (of (readyAs t)) l′ ≡ true → (lo ≤ t) × (t < suc n + lo)
   ready-within t e = cases (eqb t T) (λ y. let q = eqb-true t T y in (omega arith, omega arith))
@@ -103,7 +103,7 @@ module _ {o : Out} {next : ℕ → ℕ} {l : List Slot} {lo n : ℕ} {h : List M
   ready-firsts t a b = cases (eqb t T) (λ y. rw (eqb-true t T y, is))
       (λ y. let ne : t ≡ T → ⊥ = eqb-false t T y in ap has (sr t ne .message) ∙ v .firsts t a (omega arith))
 
-  pub outs-append : ((c k : ℕ) → Same (heldAs c k) l (heldAs c k) l′) → Outs (append m o) next l′ lo (suc n) h
+  pub outs-append : ((c k : ℕ) → SameUnder (heldAs c k) l (heldAs c k) l′) → Outs (append m o) next l′ lo (suc n) h
   unfolding append
   outs-append sh = record {
     next-same = v .next-same;
@@ -115,7 +115,7 @@ module _ {o : Out} {next : ℕ → ℕ} {l : List Slot} {lo n : ℕ} {h : List M
     unique = u;
   }
 
-  pub outs-emit : (next′ next″ : ℕ → ℕ) → next′ ≡ next″ → any (of (heldAs (m .channel) (m .order))) l′ ≡ false → ((c k : ℕ) → isAt c k m ≡ false → Same (heldAs c k) l (heldAs c k) l′)
+  pub outs-emit : (next′ next″ : ℕ → ℕ) → next′ ≡ next″ → any (of (heldAs (m .channel) (m .order))) l′ ≡ false → ((c k : ℕ) → isAt c k m ≡ false → SameUnder (heldAs c k) l (heldAs c k) l′)
       → Outs (record { next = next′; held = without (isAt (m .channel) (m .order)) (o .held); line = o .line ++ (m ∷ []) }) next″ l′ lo (suc n) h
   outs-emit next′ next″ same gone sh = record {
     next-same = same;

@@ -1,29 +1,43 @@
 -- Every decision looks at the records alone, never at a body: what code that has only the records computes.
 -- Assumes nothing.
-use Prim.Native.Nat.{ℕ, suc}
+use Prim.Native.Nat.{ℕ, zero, suc}
 use mathlib.Core.Path.{_≡_, refl, sym, _∙_, ap}
-use mathlib.Core.Bool.{Bool, true, false, cond, _&&_}
+use mathlib.Core.Bool.{Bool, true, false, cond, _&&_, _||_}
 use mathlib.Core.Option.{Option, none, some}
 use mathlib.Core.List.{List, [], _∷_, map}
 use lib.ListN.{set}
 use lib.Dec.{ltb, eqb}
-use Rattle.base.specs.Lists.{any, countOf}
+use Rattle.base.specs.Lists.{any, countOf, below}
 use Rattle.base.proofs.Choices.{cond-ap}
 use Rattle.line.specs.Frame.{Frame, pieceOf}
 use Rattle.line.specs.Bare.{conflict}
-use Rattle.cells.specs.Cell.{Cell, Slot, Key, heldAs, bears, of, isFree, isOpen, isReady, allThere, pieceIn, clash, markCell, mark, emptyCell, emptySlot, change, mapIf, turnTo, freed, putSlot}
+use Rattle.cells.specs.Cell.{Cell, Slot, Key, heldAs, bears, at, of, sits, isFree, isOpen, isReady, allThere, pieceIn, clash, markCell, mark, emptyCell, emptySlot, change, mapIf, turnTo, freed, putSlot}
 use Rattle.cells.specs.Datagram.{isHeld, isFirst, isBefore, rank, renumber, sweep}
 use Rattle.cells.specs.Take.{lower, earliest}
 use Rattle.cells.specs.Sound.{lacksNone}
 use Rattle.cells.specs.Store.{cellsOf}
-use Rattle.cells.proofs.SoundTest.{any-cells, count-cells, there-cells}
 use Rattle.cells.proofs.Places.{unusedAt}
+
+pub any-cells : (p : Cell → Bool) (l : List Slot) → any p (cellsOf l) ≡ any (λ s. p (s .cell)) l
+unfolding any cellsOf
+any-cells p [] = refl
+any-cells p (s ∷ l) = ap (λ (b : Bool). p (s .cell) || b) (any-cells p l)
+
+pub count-cells : (p : Cell → Bool) (l : List Slot) → countOf p (cellsOf l) ≡ countOf (λ s. p (s .cell)) l
+unfolding countOf cellsOf
+count-cells p [] = refl
+count-cells p (s ∷ l) = ap (λ (n : ℕ). cond (p (s .cell)) (suc n) n) (count-cells p l)
+
+pub there-cells : (k : Key) (l : List Slot) (n : ℕ) → lacksNone k (cellsOf l) n ≡ allThere k l n
+unfolding lacksNone allThere below sits
+there-cells k l zero = refl
+there-cells k l (suc n) = rw (there-cells k l n, any-cells (at k n) l)
 
 unfoldable pub changeCells : (Cell → Bool) → (Cell → Cell) → List Cell → List Cell
 changeCells p g cs = map (λ (c : Cell). cond (p c) (g c) c) cs
 
 -- A change that reads only the record changes only the record.
-pub cells-change : (q : Slot → Bool) (g : Slot → Slot) (p : Cell → Bool) (k : Cell → Cell) → ((s : Slot) → q s ≡ p (s .cell)) → ((s : Slot) → g s .cell ≡ k (s .cell)) → (l : List Slot) → cellsOf (mapIf q g l) ≡ changeCells p k (cellsOf l)
+cells-change : (q : Slot → Bool) (g : Slot → Slot) (p : Cell → Bool) (k : Cell → Cell) → ((s : Slot) → q s ≡ p (s .cell)) → ((s : Slot) → g s .cell ≡ k (s .cell)) → (l : List Slot) → cellsOf (mapIf q g l) ≡ changeCells p k (cellsOf l)
 unfolding cellsOf mapIf change changeCells
 cells-change q g p k e f [] = refl
 cells-change q g p k e f (s ∷ l) =
@@ -66,9 +80,6 @@ held-cells c o l = sym (any-cells (bears (heldAs c o)) l)
 pub room-cells : (l : List Slot) → any isFree l ≡ any (λ c. eqb (c .used) 0) (cellsOf l)
 unfolding isFree
 room-cells l = sym (any-cells (λ c. eqb (c .used) 0) l)
-
-pub there-is : (k : Key) (l : List Slot) (n : ℕ) → allThere k l n ≡ lacksNone k (cellsOf l) n
-there-is k l n = sym (there-cells k l n)
 
 unfoldable pub beforeCell : ℕ → Cell → Bool
 beforeCell t c = (eqb (c .used) 3 && eqb (c .index) 0) && ltb (c .turn) t

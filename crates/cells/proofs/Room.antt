@@ -1,4 +1,4 @@
--- Room runs out exactly when the cells in use before and the frames not dropped as frames are more than all cells.
+-- Room runs out exactly when the cells in use before and the bodies not dropped as frames are more than all cells.
 -- Assumes nothing.
 use Prim.Native.Nat.{ℕ, zero, suc, _+_}
 use mathlib.Core.Path.{_≡_, refl, sym, _∙_, ap}
@@ -27,7 +27,7 @@ use Rattle.cells.proofs.Frames.{Rel, sim-rel, frame-sim, follows-full, 
 use Rattle.cells.proofs.Sessions.{begin-rel, calls-match, new-matches}
 
 -- How a working state's unused slots change: one less for k = 1, unless there was none.
-abbrev pub Outcome : Work → Work → ℕ → Type 0
+abbrev Outcome : Work → Work → ℕ → Type 0
 Outcome w w′ k = ((w′ .full ≡ true) × (countOf isFree (w .slots) ≡ 0) × (k ≡ 1)) ⊎ ((w′ .full ≡ w .full) × (countOf isFree (w .slots) ≡ k + countOf isFree (w′ .slots)))
 
 free-turn : (k : Key) (u t : ℕ) (l : List Slot) → (u ≡ 0 → ⊥) → countOf isFree (turnTo k u t l) ≡ countOf isFree l
@@ -62,14 +62,14 @@ roomy-outcome x w r e q c = byBool (λ (z : Work). Outcome w z 1) (any isFree (w
     (λ t. inr (q, let p = free-put x (w .slots) t e in omega arith))
     (λ t. inl (refl, count-none isFree (w .slots) t, refl))
 
-unfoldable takes : Fate → ℕ
-takes late = 0
-takes early = 1
-takes free = 1
-takes due = 1
+unfoldable cellsFor : Fate → ℕ
+cellsFor late = 0
+cellsFor early = 1
+cellsFor free = 1
+cellsFor due = 1
 
-whole-outcome : (x : Fate) (f : Frame) (w : Work) → Outcome w (whole x f w) (takes x)
-unfolding whole takes dropOne place made
+whole-outcome : (x : Fate) (f : Frame) (w : Work) → Outcome w (whole x f w) (cellsFor x)
+unfolding whole cellsFor dropOne place made
 whole-outcome late f w = inr (refl, omega arith)
 whole-outcome early f w = roomy-outcome (slotOf f 2 0) w _ (slot-free f 2 0 (λ q. omega arith)) refl refl
 whole-outcome free f w = roomy-outcome (slotOf f 3 (w .turn)) w _ (slot-free f 3 (w .turn) (λ q. omega arith)) refl refl
@@ -95,21 +95,21 @@ deliver-dropped m o = cases (ordered (m .kind))
     (λ u. rw u (byBool (λ (s : Sent). s .dropped ≡ 0) (eqb (m .order) (o .next (m .channel))) (λ z. follow-dropped (length (o .held)) (m .channel) (emit m (quiet o 0))) (λ z. refl)))))
     (λ t. rw t)
 
-takes-is : (b : Bare) (w : Work) (h : List Message) (f : Frame) → Rel b w h → takes (fateOf f w) ≡ cond (eqb (deliver (message f (f .body)) (b .out) .dropped) 0) 1 0
-unfolding fateOf fate takes message
-takes-is b w h f v = rw (deliver-dropped (message f (f .body)) (b .out), nx, ← isHeld-is (v .outs) (f .channel) (f .order)) (go (ordered (f .kind)) (ltb (f .order) (w .next (f .channel)) || isHeld (f .channel) (f .order) (w .slots)) (eqb (f .order) (w .next (f .channel))))
+cellsFor-is : (b : Bare) (w : Work) (h : List Message) (f : Frame) → Rel b w h → cellsFor (fateOf f w) ≡ cond (eqb (deliver (message f (f .body)) (b .out) .dropped) 0) 1 0
+unfolding fateOf fate cellsFor message
+cellsFor-is b w h f v = rw (deliver-dropped (message f (f .body)) (b .out), nx, ← isHeld-is (v .outs) (f .channel) (f .order)) (go (ordered (f .kind)) (ltb (f .order) (w .next (f .channel)) || isHeld (f .channel) (f .order) (w .slots)) (eqb (f .order) (w .next (f .channel))))
   where
     nx : b .out .next (f .channel) ≡ w .next (f .channel)
     nx = ap (λ (g : ℕ → ℕ). g (f .channel)) (v .outs .next-same)
 
-    go : (o t u : Bool) → takes (cond o (cond t late (cond u due early)) free) ≡ cond (eqb (cond (o && t) 1 0) 0) 1 0
+    go : (o t u : Bool) → cellsFor (cond o (cond t late (cond u due early)) free) ≡ cond (eqb (cond (o && t) 1 0) 0) 1 0
     go true true u = refl
     go true false true = refl
     go true false false = refl
     go false t u = refl
 
-pub shift : (k x y z : ℕ) → x ≡ k + y → ltb y z ≡ ltb x (k + z)
-shift k x y z e = cases (ltb y z)
+ltb-shift : (k x y z : ℕ) → x ≡ k + y → ltb y z ≡ ltb x (k + z)
+ltb-shift k x y z e = cases (ltb y z)
     (λ t. let p = ltb-true y z t in t ∙ sym (lt-ltb x (k + z) (omega arith)))
     (λ t. let p = ltb-false y z t in t ∙ sym (le-ltb x (k + z) (omega arith)))
 
@@ -120,7 +120,7 @@ keepIn-outcome b w h f v = rw (tests-clash f (b .pieces) (w .slots) (v .pieces))
   where
     go : (t : Bool) → Outcome w (cond t (piece f w) (whole (fateOf f w) f w)) (cond (cond t (not (any (clash f) (w .slots))) (eqb (deliver (message f (f .body)) (b .out) .dropped) 0)) 1 0)
     go true = piece-outcome f w
-    go false = rw (← takes-is b w h f v) (whole-outcome (fateOf f w) f w)
+    go false = rw (← cellsFor-is b w h f v) (whole-outcome (fateOf f w) f w)
 
 frame-outcome : (b : Bare) (w : Work) (h : List Message) (f : Frame) → Rel b w h → Outcome w (frame w f) (cond (keptAsFrame b f) 1 0)
 unfolding frame keptAsFrame dropOne acceptIn
@@ -138,7 +138,7 @@ frames-outcome (f ∷ fs) b w h v e = go (cond (keptAsFrame b f) 1 0) (frame-out
     go : (k : ℕ) → Outcome w (frame w f) k → (Rel (step b f .after) (frame w f) h → frame w f .full ≡ false → frames (frame w f) fs .full ≡ ltb (countOf isFree (frame w f .slots)) (bodies (step b f .after) fs))
         → frames (frame w f) fs .full ≡ ltb (countOf isFree (w .slots)) (k + bodies (step b f .after) fs)
     go k (inl o) rest = frames-full fs (frame w f) (o .0) ∙ sym (lt-ltb (countOf isFree (w .slots)) (k + bodies (step b f .after) fs) (let p = o .1 in let q = o .2 in omega arith))
-    go k (inr o) rest = let f′ = o .0 ∙ e in rest (sim-rel (frame-sim b w h f v f′)) f′ ∙ shift k (countOf isFree (w .slots)) (countOf isFree (frame w f .slots)) (bodies (step b f .after) fs) (o .1)
+    go k (inr o) rest = let f′ = o .0 ∙ e in rest (sim-rel (frame-sim b w h f v f′)) f′ ∙ ltb-shift k (countOf isFree (w .slots)) (countOf isFree (frame w f .slots)) (bodies (step b f .after) fs) (o .1)
 
 free-renumber : (l : List Slot) → countOf isFree (renumber l) ≡ countOf isFree l
 unfolding renumber mapIf change isReady
@@ -150,7 +150,7 @@ unfolding datagram begin exceeds
 related-room b s h fs v =
     let u = count-both isFree (s .slots) in
     frames-outcome fs b (begin s) h v refl
-    ∙ (rw (free-renumber (s .slots)) (shift (countOf (λ x. not (isFree x)) (s .slots)) (length (s .slots)) (countOf isFree (s .slots)) (bodies b fs) (omega arith)))
+    ∙ (rw (free-renumber (s .slots)) (ltb-shift (countOf (λ x. not (isFree x)) (s .slots)) (length (s .slots)) (countOf isFree (s .slots)) (bodies b fs) (omega arith)))
 
 -- After every list of calls: a datagram gets 8 exactly when the cells in use before and the bodies not dropped as frames are more than all cells.
 pub room-runs-out : (n : ℕ) (cs : List Call) (fs : List Frame) → datagram (calls (newSession n) cs .state) fs .full ≡ exceeds (feed new (read n cs) .after) (calls (newSession n) cs .state .slots) fs

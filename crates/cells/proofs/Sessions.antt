@@ -23,7 +23,7 @@ use Rattle.cells.proofs.Ready.{Outs}
 use Rattle.cells.proofs.Cascade.{Sim, isOpen-used}
 use Rattle.cells.proofs.Frames.{Rel, frames-sim}
 use Rattle.cells.proofs.Turns.{renumber-outs, renumber-pieces}
-use Rattle.cells.proofs.Takes.{empty-open, emptied-pieces, sweep-outs, sweep-pieces, lineOf-nil, take-none, take-some, drain-is}
+use Rattle.cells.proofs.Takes.{empty-open, emptied-pieces, sweep-outs, sweep-pieces, readyLine-nil, take-none, take-some, drain-is}
 
 -- The turns of a reached session's ready messages are the n from lo on.
 pub record Matches (b : Bare) (x : Session) : Type 0 where
@@ -91,7 +91,7 @@ new-matches n = record {
     next-same = refl;
     held = λ c k. sym (message-none (heldAs c k) (replicate n emptySlot) (nobody (heldAs c k) 0));
     first = λ c k. rw (message-none (heldAs c k) (replicate n emptySlot) (nobody (heldAs c k) 0)) (any-replicate (of (heldAs c k)) emptySlot n (empty-of (heldAs c k)));
-    line = sym (lineOf-nil (replicate n emptySlot) 0);
+    line = sym (readyLine-nil (replicate n emptySlot) 0);
     within = λ t e. neither (any (of (readyAs t)) (replicate n emptySlot)) e (any-replicate (of (readyAs t)) emptySlot n (empty-of (readyAs t)));
     firsts = λ t a b. absurd (omega arith);
     unique = λ k i. rw (count-none (sits k i) (replicate n emptySlot) (nobody k i)) (omega arith);

@@ -30,23 +30,23 @@ pub record Bounds (s : Slot) : Type 0 where
   pub index : s .cell .index < s .cell .count
   pub length : s .cell .length ≤ cellBytes
 
-pub record Alike (s s′ : Slot) : Type 0 where
+pub record Agreeing (s s′ : Slot) : Type 0 where
   pub count : s .cell .count ≡ s′ .cell .count
   pub kind : s .cell .kind ≡ s′ .cell .kind
   pub sequence : s .cell .sequence ≡ s′ .cell .sequence
   pub order : s .cell .order ≡ s′ .cell .order
   pub channel : s .cell .channel ≡ s′ .cell .channel
 
-pub alike-refl : (s : Slot) → Alike s s
-alike-refl s = record { count = refl; kind = refl; sequence = refl; order = refl; channel = refl }
+agreeing-refl : (s : Slot) → Agreeing s s
+agreeing-refl s = record { count = refl; kind = refl; sequence = refl; order = refl; channel = refl }
 
-pub alike-sym : {s s′ : Slot} → Alike s s′ → Alike s′ s
-alike-sym a = record { count = sym (a .count); kind = sym (a .kind); sequence = sym (a .sequence); order = sym (a .order); channel = sym (a .channel) }
+agreeing-sym : {s s′ : Slot} → Agreeing s s′ → Agreeing s′ s
+agreeing-sym a = record { count = sym (a .count); kind = sym (a .kind); sequence = sym (a .sequence); order = sym (a .order); channel = sym (a .channel) }
 
 pub record Core (l : List Slot) : Type 0 where
   pub bounds : (s : Slot) → List·Memᴰ s l → isFree s ≡ false → Bounds s
   pub unique : Unique l
-  pub alike : (k : Key) (s s′ : Slot) → List·Memᴰ s l → List·Memᴰ s′ l → of k s ≡ true → of k s′ ≡ true → Alike s s′
+  pub alike : (k : Key) (s s′ : Slot) → List·Memᴰ s l → List·Memᴰ s′ l → of k s ≡ true → of k s′ ≡ true → Agreeing s s′
   pub full : (k : Key) → (useOf k ≡ 1 → ⊥) → (s : Slot) → List·Memᴰ s l → of k s ≡ true → allThere k l (s .cell .count) ≡ true
 
 -- Where the cells of a key come from: none, or all cells of another.
@@ -54,9 +54,9 @@ pub data Source (h : Slot → Slot) (l : List Slot) (k′ : Key) : Type 0 where
   gone : any (of k′) (map h l) ≡ false → Source h l k′
   from : (k : Key) → Carried k k′ h l → ((useOf k′ ≡ 1 → ⊥) → (s : Slot) → List·Memᴰ s l → of k s ≡ true → allThere k l (s .cell .count) ≡ true) → Source h l k′
 
-shown-alike : (x y s t : Slot) → shown x ≡ shown s → shown y ≡ shown t → Alike s t → Alike x y
+shown-agreeing : (x y s t : Slot) → shown x ≡ shown s → shown y ≡ shown t → Agreeing s t → Agreeing x y
 unfolding shown mark markCell
-shown-alike x y s t p q a = record {
+shown-agreeing x y s t p q a = record {
   count = ap (λ (z : Slot). z .cell .count) p ∙ (a .count ∙ sym (ap (λ (z : Slot). z .cell .count) q));
   kind = ap (λ (z : Slot). z .cell .kind) p ∙ (a .kind ∙ sym (ap (λ (z : Slot). z .cell .kind) q));
   sequence = ap (λ (z : Slot). z .cell .sequence) p ∙ (a .sequence ∙ sym (ap (λ (z : Slot). z .cell .sequence) q));
@@ -64,7 +64,7 @@ shown-alike x y s t p q a = record {
   channel = ap (λ (z : Slot). z .cell .channel) p ∙ (a .channel ∙ sym (ap (λ (z : Slot). z .cell .channel) q));
 }
 
-pub shown-count : (x s : Slot) → shown x ≡ shown s → x .cell .count ≡ s .cell .count
+shown-count : (x s : Slot) → shown x ≡ shown s → x .cell .count ≡ s .cell .count
 unfolding shown mark markCell
 shown-count x s p = ap (λ (z : Slot). z .cell .count) p
 
@@ -73,14 +73,14 @@ module _ (h : Slot → Slot) (l : List Slot) (v : Core l) (b : (s : Slot) → Li
   map-unique k i (gone e) = rw (count-none (sits k i) (map h l) (none-sits k i (map h l) e)) (omega arith)
   map-unique k i (from k₀ c f) = rw (carried-count c i) (v .unique k₀ i)
 
-  map-alike : (k : Key) → Source h l k → (s s′ : Slot) → List·Memᴰ s (map h l) → List·Memᴰ s′ (map h l) → of k s ≡ true → of k s′ ≡ true → Alike s s′
-  map-alike k (gone e) s s′ m m′ o o′ = neither (of k s) o (any-false (of k) (map h l) e s m)
-  map-alike k (from k₀ c f) s s′ m m′ o o′ =
+  map-agreeing : (k : Key) → Source h l k → (s s′ : Slot) → List·Memᴰ s (map h l) → List·Memᴰ s′ (map h l) → of k s ≡ true → of k s′ ≡ true → Agreeing s s′
+  map-agreeing k (gone e) s s′ m m′ o o′ = neither (of k s) o (any-false (of k) (map h l) e s m)
+  map-agreeing k (from k₀ c f) s s′ m m′ o o′ =
       let a = Memᴰ·of-map h l m in
       let a′ = Memᴰ·of-map h l m′ in
       let p = sym (c .moved (a .0) (a .1)) ∙ (ap (of k) (a .2) ∙ o) in
       let p′ = sym (c .moved (a′ .0) (a′ .1)) ∙ (ap (of k) (a′ .2) ∙ o′) in
-      shown-alike s s′ (a .0) (a′ .0) (ap shown (sym (a .2)) ∙ c .same (a .0) (a .1) p) (ap shown (sym (a′ .2)) ∙ c .same (a′ .0) (a′ .1) p′) (v .alike k₀ (a .0) (a′ .0) (a .1) (a′ .1) p p′)
+      shown-agreeing s s′ (a .0) (a′ .0) (ap shown (sym (a .2)) ∙ c .same (a .0) (a .1) p) (ap shown (sym (a′ .2)) ∙ c .same (a′ .0) (a′ .1) p′) (v .alike k₀ (a .0) (a′ .0) (a .1) (a′ .1) p p′)
 
   map-full : (k : Key) → Source h l k → (useOf k ≡ 1 → ⊥) → (s : Slot) → List·Memᴰ s (map h l) → of k s ≡ true → allThere k (map h l) (s .cell .count) ≡ true
   map-full k (gone e) ne s m o = neither (of k s) o (any-false (of k) (map h l) e s m)
@@ -94,7 +94,7 @@ module _ (h : Slot → Slot) (l : List Slot) (v : Core l) (b : (s : Slot) → Li
   core-map = record {
     bounds = λ s m e. let a = Memᴰ·of-map h l m in subst Bounds (a .2) (b (a .0) (a .1) (ap isFree (a .2) ∙ e));
     unique = λ k i. map-unique k i (src k);
-    alike = λ k. map-alike k (src k);
+    alike = λ k. map-agreeing k (src k);
     full = λ k. map-full k (src k);
   }
 
@@ -121,7 +121,7 @@ there-put x l room k e zero = refl
 there-put x l room k e (suc n) = rw (there-put x l room k e n, put-any-sits x l room k n, sits-not k n x e)
 
 module _ (x : Slot) (l : List Slot) (room : any isFree l ≡ true) (v : Core l) (b : Bounds x) (u : Unique (putSlot x l))
-    (a : (k : Key) → of k x ≡ true → (s : Slot) → List·Memᴰ s l → of k s ≡ true → Alike s x)
+    (a : (k : Key) → of k x ≡ true → (s : Slot) → List·Memᴰ s l → of k s ≡ true → Agreeing s x)
     (w : (k : Key) → of k x ≡ true → (useOf k ≡ 1 → ⊥) → (any (of k) l ≡ false) × (x .cell .index ≡ 0) × (x .cell .count ≡ 1)) where
   put-full : (k : Key) → (useOf k ≡ 1 → ⊥) → (s : Slot) → List·Memᴰ s (putSlot x l) → of k s ≡ true → allThere k (putSlot x l) (s .cell .count) ≡ true
   unfolding allThere below
@@ -148,10 +148,10 @@ module _ (x : Slot) (l : List Slot) (room : any isFree l ≡ true) (v : Core l) 
       bound s e (inl q) = subst Bounds (sym q) b
       bound s e (inr i) = v .bounds s i e
 
-      like : (k : Key) (s s′ : Slot) → of k s ≡ true → of k s′ ≡ true → (s ≡ x) ⊎ List·Memᴰ s l → (s′ ≡ x) ⊎ List·Memᴰ s′ l → Alike s s′
-      like k s s′ o o′ (inl q) (inl q′) = subst (Alike s) (q ∙ sym q′) (alike-refl s)
-      like k s s′ o o′ (inl q) (inr i′) = subst (λ (z : Slot). Alike z s′) (sym q) (alike-sym (a k (ap (of k) (sym q) ∙ o) s′ i′ o′))
-      like k s s′ o o′ (inr i) (inl q′) = subst (Alike s) (sym q′) (a k (ap (of k) (sym q′) ∙ o′) s i o)
+      like : (k : Key) (s s′ : Slot) → of k s ≡ true → of k s′ ≡ true → (s ≡ x) ⊎ List·Memᴰ s l → (s′ ≡ x) ⊎ List·Memᴰ s′ l → Agreeing s s′
+      like k s s′ o o′ (inl q) (inl q′) = subst (Agreeing s) (q ∙ sym q′) (agreeing-refl s)
+      like k s s′ o o′ (inl q) (inr i′) = subst (λ (z : Slot). Agreeing z s′) (sym q) (agreeing-sym (a k (ap (of k) (sym q) ∙ o) s′ i′ o′))
+      like k s s′ o o′ (inr i) (inl q′) = subst (Agreeing s) (sym q′) (a k (ap (of k) (sym q′) ∙ o′) s i o)
       like k s s′ o o′ (inr i) (inr i′) = v .alike k s s′ i i′ o o′
 
 -- Two keys are one, or no cell bears both.
@@ -177,7 +177,7 @@ pub bounds-mark : (u t : ℕ) (s : Slot) → u ≤ 4 → Bounds s → Bounds (ma
 unfolding mark markCell
 bounds-mark u t s le b = record { used = le; kind = b .kind; channel = b .channel; sequence = b .sequence; order = b .order; some-count = b .some-count; count = b .count; index = b .index; length = b .length }
 
--- All slots of a key get another use.
+-- AllSized slots of a key get another use.
 module _ (k₀ : Key) (u t : ℕ) (l : List Slot) (v : Core l) (away : (s : Slot) → of k₀ (mark u t s) ≡ false) (le : u ≤ 4) where
   -- A key whose cells they do not become, or do become.
   abbrev Target : Key → Type 0

@@ -22,7 +22,7 @@ use Rattle.cells.proofs.PutSlot.{mem-put}
 use Rattle.cells.proofs.Keys.{of-used, no-key-of-4, put-any-of}
 use Rattle.cells.proofs.Moves.{of-apart, of-mark, of-mark-held, ready-held, held-others, held-ready, drop-other, put-unique}
 use Rattle.cells.proofs.FrameSlot.{of-slot-held, of-slot-ready, of-slot-other, slot-index, slot-count, put-fresh, fresh-held, fresh-ready, fresh-piece, Agrees, agrees-no-clash, agrees-new, agrees-put}
-use Rattle.cells.proofs.SoundCore.{Bounds, Alike, Core, Lack, there-put, core-put, core-turn, lack-turn}
+use Rattle.cells.proofs.SoundCore.{Bounds, Agreeing, Core, Lack, there-put, core-put, core-turn, lack-turn}
 use Rattle.cells.proofs.SoundCascade.{Sound, fresh, ready-core, ready-below, follows-sound}
 
 slot-bounds : (f : Frame) (u t : ℕ) → Readable f → inLimits f ≡ true → u ≤ 4 → Bounds (slotOf f u t)
@@ -83,45 +83,25 @@ module _ (f : Frame) (w : Work) (ok : Readable f) (lim : inLimits f ≡ true) (v
     }
 
 -- What step 4 found.
-record Found (x : Fate) (f : Frame) (w : Work) : Type 0 where
-  pub above : x ≡ early → (w .next (f .channel) < f .order) × (isHeld (f .channel) (f .order) (w .slots) ≡ false)
-  pub equal : x ≡ due → w .next (f .channel) ≡ f .order
+abbrev Found : Fate → Frame → Work → Type 0
+Found late f w = Unit {0}
+Found early f w = (w .next (f .channel) < f .order) × (isHeld (f .channel) (f .order) (w .slots) ≡ false)
+Found due f w = w .next (f .channel) ≡ f .order
+Found free f w = Unit {0}
 
 found : (f : Frame) (w : Work) → Found (fateOf f w) f w
 unfolding fateOf fate
 found f w = byBool (λ (x : Fate). Found x f w) (ordered (f .kind))
     (λ t. byBool (λ (x : Fate). Found x f w) (ltb (f .order) (w .next (f .channel)) || isHeld (f .channel) (f .order) (w .slots))
-    (λ y. record { above = λ q. clash₁ q; equal = λ q. clash₂ q })
+    (λ y. tt)
     (λ y. byBool (λ (x : Fate). Found x f w) (eqb (f .order) (w .next (f .channel)))
-    (λ z. record { above = λ q. clash₄ q; equal = λ q. sym (eqb-true (f .order) (w .next (f .channel)) z) })
-    (λ z. record {
-      above = λ q.
-          let a = eqb-false (f .order) (w .next (f .channel)) z in
-          let b = ltb-false (f .order) (w .next (f .channel)) (or-left (ltb (f .order) (w .next (f .channel))) _ y) in
-          (omega arith, or-right (ltb (f .order) (w .next (f .channel))) _ y);
-      equal = λ q. clash₃ q;
-    })))
-    (λ t. record { above = λ q. clash₅ q; equal = λ q. clash₆ q })
-  where
-    clash₁ : {A : Type 0} → late ≡ early → A
-    clash₁ q = absurd (let z : _≡_ {A = ℕ} 0 1 = cc in omega arith)
+    (λ z. sym (eqb-true (f .order) (w .next (f .channel)) z))
+    (λ z. let a = eqb-false (f .order) (w .next (f .channel)) z in
+    let b = ltb-false (f .order) (w .next (f .channel)) (or-left (ltb (f .order) (w .next (f .channel))) _ y) in
+    (omega arith, or-right (ltb (f .order) (w .next (f .channel))) _ y))))
+    (λ t. tt)
 
-    clash₂ : {A : Type 0} → late ≡ due → A
-    clash₂ q = absurd (let z : _≡_ {A = ℕ} 0 1 = cc in omega arith)
-
-    clash₃ : {A : Type 0} → early ≡ due → A
-    clash₃ q = absurd (let z : _≡_ {A = ℕ} 0 1 = cc in omega arith)
-
-    clash₄ : {A : Type 0} → due ≡ early → A
-    clash₄ q = absurd (let z : _≡_ {A = ℕ} 0 1 = cc in omega arith)
-
-    clash₅ : {A : Type 0} → free ≡ early → A
-    clash₅ q = absurd (let z : _≡_ {A = ℕ} 0 1 = cc in omega arith)
-
-    clash₆ : {A : Type 0} → free ≡ due → A
-    clash₆ q = absurd (let z : _≡_ {A = ℕ} 0 1 = cc in omega arith)
-
-abbrev pub SoundIn : Work → Type 0
+abbrev SoundIn : Work → Type 0
 SoundIn w = Sound (w .next) (w .slots) (w .turn)
 
 roomy-sound : (w r : Work) → SoundIn w → (any isFree (w .slots) ≡ true → SoundIn r) → SoundIn (roomy w r)
@@ -131,9 +111,9 @@ roomy-sound w r v k = byBool SoundIn (any isFree (w .slots)) k (λ t. v)
 whole-sound : (x : Fate) (f : Frame) (w : Work) → Readable f → inLimits f ≡ true → f .piece ≡ false → Found x f w → SoundIn w → SoundIn (whole x f w)
 unfolding whole dropOne place made
 whole-sound late f w ok lim e p v = v
-whole-sound early f w ok lim e p v = roomy-sound w _ v (λ room. let q = p .above refl in hold-sound f w ok lim v e room (q .0) (q .1))
+whole-sound early f w ok lim e p v = roomy-sound w _ v (λ room. hold-sound f w ok lim v e room (p .0) (p .1))
 whole-sound free f w ok lim e p v = roomy-sound w _ v (λ room. ready-sound f w ok lim v e room)
-whole-sound due f w ok lim e p v = roomy-sound w _ v (λ room. follows-sound (f .channel) (made (putSlot (slotOf f 3 (w .turn)) (w .slots)) w) (let q = p .equal refl in let r = ok .order in omega arith) (ready-sound f w ok lim v e room))
+whole-sound due f w ok lim e p v = roomy-sound w _ v (λ room. follows-sound (f .channel) (made (putSlot (slotOf f 3 (w .turn)) (w .slots)) w) (let r = ok .order in omega (arith, p)) (ready-sound f w ok lim v e room))
 
 -- A piece was put: its own id may lack no index any more.
 record But (id : ℕ) (next : ℕ → ℕ) (l : List Slot) (T : ℕ) : Type 0 where
@@ -151,8 +131,8 @@ slot-used : (f : Frame) (u t : ℕ) → slotOf f u t .cell .used ≡ u
 unfolding slotOf
 slot-used f u t = refl
 
-agree-alike : {f : Frame} {s x : Slot} → Agrees f s → Agrees f x → Alike s x
-agree-alike a b = record { count = a .count ∙ sym (b .count); kind = a .kind ∙ sym (b .kind); sequence = a .sequence ∙ sym (b .sequence); order = a .order ∙ sym (b .order); channel = a .channel ∙ sym (b .channel) }
+agrees-agreeing : {f : Frame} {s x : Slot} → Agrees f s → Agrees f x → Agreeing s x
+agrees-agreeing a b = record { count = a .count ∙ sym (b .count); kind = a .kind ∙ sym (b .kind); sequence = a .sequence ∙ sym (b .sequence); order = a .order ∙ sym (b .order); channel = a .channel ∙ sym (b .channel) }
 
 id-of : (id : ℕ) (s : Slot) → of (openAs id) s ≡ true → id ≡ s .cell .id
 unfolding of bears
@@ -173,8 +153,8 @@ put-but f w ok lim e c room v = record {
     one : slotOf f 1 0 .cell .used ≡ 1
     one = slot-used f 1 0
 
-    like : (k : Key) → of k (slotOf f 1 0) ≡ true → (s : Slot) → List·Memᴰ s (w .slots) → of k s ≡ true → Alike s (slotOf f 1 0)
-    like (openAs id) y s m o = agree-alike (agrees-no-clash f (w .slots) c s m (rw (open-slot f id y) o)) (agrees-new f 1 0 e)
+    like : (k : Key) → of k (slotOf f 1 0) ≡ true → (s : Slot) → List·Memᴰ s (w .slots) → of k s ≡ true → Agreeing s (slotOf f 1 0)
+    like (openAs id) y s m o = agrees-agreeing (agrees-no-clash f (w .slots) c s m (rw (open-slot f id y) o)) (agrees-new f 1 0 e)
     like (heldAs d k) y s m o = neither (of (heldAs d k) (slotOf f 1 0)) y (of-slot-other f 1 0 (heldAs d k) (λ q. omega arith))
     like (readyAs t) y s m o = neither (of (readyAs t) (slotOf f 1 0)) y (of-slot-other f 1 0 (readyAs t) (λ q. omega arith))
 
@@ -247,9 +227,9 @@ module _ (f : Frame) (w : Work) (ok : Readable f) (agree : (s : Slot) → List·
     joins-sound : (x : Fate) → Found x f w → SoundIn (joins x f w)
     unfolding joins dropOne place made
     joins-sound late p = join-late
-    joins-sound early p = let q = p .above refl in join-early (q .0) (q .1)
+    joins-sound early p = join-early (p .0) (p .1)
     joins-sound free p = join-ready
-    joins-sound due p = follows-sound (f .channel) (made (turnTo (openAs (f .id)) 3 (w .turn) (w .slots)) w) (let q = p .equal refl in let r = ok .order in omega arith) join-ready
+    joins-sound due p = follows-sound (f .channel) (made (turnTo (openAs (f .id)) 3 (w .turn) (w .slots)) w) (let r = ok .order in omega (arith, p)) join-ready
 
   kept-sound : SoundIn (kept f w)
   unfolding kept
@@ -260,7 +240,7 @@ unfolding piece dropOne place
 piece-sound f w ok lim e v = byBool SoundIn (any (clash f) (w .slots)) (λ t. v)
     (λ t. roomy-sound w _ v (λ room. kept-sound f (place (putSlot (slotOf f 1 0) (w .slots)) w) ok (agrees-put f (w .slots) e t) (put-but f w ok lim e t room v)))
 
-pub frame-sound : (f : Frame) (w : Work) → Readable f → SoundIn w → SoundIn (frame w f)
+frame-sound : (f : Frame) (w : Work) → Readable f → SoundIn w → SoundIn (frame w f)
 unfolding frame dropOne acceptIn keepIn
 frame-sound f w ok v = byBool SoundIn (seenBefore f (w .accepted)) (λ t. v)
     (λ t. byBool SoundIn (inLimits f)

@@ -49,11 +49,11 @@ module _ (q : Slot → Bool) (l : List Slot) (v : Core l) (g : (k : Key) → ((s
   emptied-source k (inl e) = from-same _ l v k (emptied-carried k e)
   emptied-source k (inr e) = gone e
 
-  pub emptied-core : Core (mapIf q (λ s. emptySlot) l)
+  emptied-core : Core (mapIf q (λ s. emptySlot) l)
   unfolding mapIf change
   emptied-core = core-map (change q (λ s. emptySlot)) l v (λ s m. cases (q s) (λ y. rw y (λ e. neither (isFree emptySlot) empty-free e)) (λ y. rw y (λ e. v .bounds s m e))) (λ k. emptied-source k (g k))
 
-  pub emptied-lack : Lack l → Lack (mapIf q (λ s. emptySlot) l)
+  emptied-lack : Lack l → Lack (mapIf q (λ s. emptySlot) l)
   unfolding mapIf
   emptied-lack w id s m o = go (g (openAs id))
     where
@@ -61,7 +61,7 @@ module _ (q : Slot → Bool) (l : List Slot) (v : Core l) (g : (k : Key) → ((s
       go (inl e) = lack-map (change q (λ s. emptySlot)) l id (w id) (emptied-carried (openAs id) e) s m o
       go (inr e) = neither (of (openAs id) s) o (any-false (of (openAs id)) (map (change q (λ s. emptySlot)) l) e s m)
 
-  pub emptied-ahead : (next : ℕ → ℕ) → ((c o : ℕ) → any (of (heldAs c o)) l ≡ true → next c < o) → (c o : ℕ) → any (of (heldAs c o)) (mapIf q (λ s. emptySlot) l) ≡ true → next c < o
+  emptied-ahead : (next : ℕ → ℕ) → ((c o : ℕ) → any (of (heldAs c o)) l ≡ true → next c < o) → (c o : ℕ) → any (of (heldAs c o)) (mapIf q (λ s. emptySlot) l) ≡ true → next c < o
   unfolding mapIf
   emptied-ahead next w c o y = go (g (heldAs c o))
     where
@@ -80,7 +80,7 @@ unfolding isFree
 free-used s e = eqb-true (s .cell .used) 0 e
 
 -- After a datagram.
-pub end-rest : (w : Work) → Sound (w .next) (w .slots) (w .turn) → Rest (end w .next) (end w .slots)
+end-rest : (w : Work) → Sound (w .next) (w .slots) (w .turn) → Rest (end w .next) (end w .slots)
 unfolding end sweep
 end-rest w v = record {
   core = emptied-core isFour (w .slots) (v .core) keep;

@@ -1,14 +1,14 @@
 -- The test `sound` says what the proofs of soundness say.
 -- Assumes nothing.
-use Prim.Native.Nat.{ℕ, zero, suc, _≤_, _<_}
+use Prim.Native.Nat.{ℕ, _≤_, _<_}
 use mathlib.Core.Path.{_≡_, refl, sym, _∙_, ap, subst}
-use mathlib.Core.Bool.{Bool, true, false, cond, not, _||_}
-use mathlib.Core.List.{List, [], _∷_, Memᴰ·map, Memᴰ·of-map, List·Memᴰ}
+use mathlib.Core.Bool.{true, false, cond, not, _||_}
+use mathlib.Core.List.{List, Memᴰ·map, Memᴰ·of-map, List·Memᴰ}
 use native.Mathlib.Omega.{arith}
 use lib.Dec.{ltb, leb, eqb}
 use borrow.Author.Tests.{ltb-true, lt-ltb, leb-true, le-leb, eqb-true, eqb-false, eq-eqb, ne-eqb, not-true}
 use Rattle.base.specs.Limits.{numbers24, maxOrdChans, maxFrags}
-use Rattle.base.specs.Lists.{any, every, countOf, below}
+use Rattle.base.specs.Lists.{any, every, countOf}
 use Rattle.base.proofs.Choices.{cases, and-left, and-right, and-both, or-implied, implied-or}
 use Rattle.base.proofs.Lists.{any-true, any-mem, every-mem, every-all, below-at, below-all}
 use Rattle.base.proofs.Counts.{count-none, count-some}
@@ -17,29 +17,15 @@ use Rattle.cells.specs.Sound.{keyOf, limits, agree, lacksNone, soundCell
 use Rattle.cells.specs.Store.{cellsOf}
 use Rattle.cells.proofs.Keys.{of-used, key-used, sits-of, sits-is}
 use Rattle.cells.proofs.Moves.{of-held}
-use Rattle.cells.proofs.SoundCore.{Bounds, Alike}
+use Rattle.cells.proofs.SoundCore.{Bounds, Agreeing}
 use Rattle.cells.proofs.SoundRest.{Rest}
-
-pub any-cells : (p : Cell → Bool) (l : List Slot) → any p (cellsOf l) ≡ any (λ s. p (s .cell)) l
-unfolding any cellsOf
-any-cells p [] = refl
-any-cells p (s ∷ l) = ap (λ (b : Bool). p (s .cell) || b) (any-cells p l)
-
-pub count-cells : (p : Cell → Bool) (l : List Slot) → countOf p (cellsOf l) ≡ countOf (λ s. p (s .cell)) l
-unfolding countOf cellsOf
-count-cells p [] = refl
-count-cells p (s ∷ l) = ap (λ (n : ℕ). cond (p (s .cell)) (suc n) n) (count-cells p l)
-
-pub there-cells : (k : Key) (l : List Slot) (n : ℕ) → lacksNone k (cellsOf l) n ≡ allThere k l n
-unfolding lacksNone allThere below sits
-there-cells k l zero = refl
-there-cells k l (suc n) = rw (there-cells k l n, any-cells (at k n) l)
+use Rattle.cells.proofs.Records.{count-cells, there-cells}
 
 count-sits : (k : Key) (i : ℕ) (l : List Slot) → countOf (at k i) (cellsOf l) ≡ countOf (sits k i) l
 unfolding sits
 count-sits k i l = count-cells (at k i) l
 
-pub mem-cells : (l : List Slot) (s : Slot) → List·Memᴰ s l → List·Memᴰ (s .cell) (cellsOf l)
+mem-cells : (l : List Slot) (s : Slot) → List·Memᴰ s l → List·Memᴰ (s .cell) (cellsOf l)
 unfolding cellsOf
 mem-cells l s m = Memᴰ·map (λ (s : Slot). s .cell) m
 
@@ -118,9 +104,9 @@ bounds-limits : (s : Slot) → Bounds s → s .cell .used ≤ 3 → limits (s .c
 unfolding limits
 bounds-limits s b u = and-both _ _ (le-leb _ _ u) (and-both _ _ (le-leb _ _ (b .kind)) (and-both _ _ (lt-ltb _ _ (b .channel)) (and-both _ _ (lt-ltb _ _ (b .sequence)) (and-both _ _ (lt-ltb _ _ (b .order)) (and-both _ _ (le-leb _ _ (b .some-count)) (and-both _ _ (le-leb _ _ (b .count)) (and-both _ _ (lt-ltb _ _ (b .index)) (le-leb _ _ (b .length)))))))))
 
-agree-alike : (s s′ : Slot) → agree (s .cell) (s′ .cell) ≡ true → Alike s s′
+agree-says : (s s′ : Slot) → agree (s .cell) (s′ .cell) ≡ true → Agreeing s s′
 unfolding agree
-agree-alike s s′ e₀ =
+agree-says s s′ e₀ =
     let e₁ = and-right (eqb (s .cell .count) (s′ .cell .count)) _ e₀ in
     let e₂ = and-right (eqb (s .cell .kind) (s′ .cell .kind)) _ e₁ in
     let e₃ = and-right (eqb (s .cell .sequence) (s′ .cell .sequence)) _ e₂ in
@@ -132,9 +118,9 @@ agree-alike s s′ e₀ =
       channel = eqb-true _ _ (and-right (eqb (s .cell .order) (s′ .cell .order)) _ e₃);
     }
 
-alike-agree : (s s′ : Slot) → Alike s s′ → agree (s .cell) (s′ .cell) ≡ true
+agree-holds : (s s′ : Slot) → Agreeing s s′ → agree (s .cell) (s′ .cell) ≡ true
 unfolding agree
-alike-agree s s′ a = and-both _ _ (eq-eqb _ _ (a .count)) (and-both _ _ (eq-eqb _ _ (a .kind)) (and-both _ _ (eq-eqb _ _ (a .sequence)) (and-both _ _ (eq-eqb _ _ (a .order)) (eq-eqb _ _ (a .channel)))))
+agree-holds s s′ a = and-both _ _ (eq-eqb _ _ (a .count)) (and-both _ _ (eq-eqb _ _ (a .kind)) (and-both _ _ (eq-eqb _ _ (a .sequence)) (and-both _ _ (eq-eqb _ _ (a .order)) (eq-eqb _ _ (a .channel)))))
 
 module _ (next : ℕ → ℕ) (l : List Slot) where
   module _ (e : sound (cellsOf l) next ≡ true) where
@@ -142,9 +128,9 @@ module _ (next : ℕ → ℕ) (l : List Slot) where
     unfolding sound isFree
     used s m f = used-is (cellsOf l) next (s .cell) f (every-mem (soundCell (cellsOf l) next) (cellsOf l) (and-left (every (soundCell (cellsOf l) next) (cellsOf l)) _ e) (s .cell) (mem-cells l s m))
 
-    of-of : (k : Key) (s : Slot) → of k s ≡ bears k (s .cell)
+    of-bears : (k : Key) (s : Slot) → of k s ≡ bears k (s .cell)
     unfolding of
-    of-of k s = refl
+    of-bears k s = refl
 
     keyed : (k : Key) (s : Slot) → List·Memᴰ s l → of k s ≡ true → Used (cellsOf l) next (s .cell) × (keyOf (s .cell) ≡ k)
     keyed k s m y = (used s m (key-used k s y), key-of k s y)
@@ -171,7 +157,7 @@ module _ (next : ℕ → ℕ) (l : List Slot) where
       core = record {
         bounds = λ s m f. limits-bounds s (used s m f .limit) .0;
         unique = ones;
-        alike = λ k s s′ m m′ y y′. let u = keyed k s m y in agree-alike s s′ (u .0 .like (s′ .cell) (mem-cells l s′ m′) (rw (u .1) (sym (of-of k s′) ∙ y′)));
+        alike = λ k s s′ m m′ y y′. let u = keyed k s m y in agree-says s s′ (u .0 .like (s′ .cell) (mem-cells l s′ m′) (rw (u .1) (sym (of-bears k s′) ∙ y′)));
         full = λ k ne s m y. let u = keyed k s m y in parts-full k s (u .0) (u .1) (ne-eqb (s .cell .used) 1 (λ q. ne (sym (of-used k s y) ∙ q)));
       };
       uses = λ s m. cases (isFree s) (λ y. free-least s y) (λ y. limits-bounds s (used s m y .limit) .1);
@@ -203,7 +189,7 @@ module _ (next : ℕ → ℕ) (l : List Slot) where
     unfolding cellsOf of
     likes k s m y d i z =
         let a = Memᴰ·of-map (λ (s : Slot). s .cell) l i in
-        subst (λ (d : Cell). agree (s .cell) d ≡ true) (a .2) (alike-agree s (a .0) (v .core .alike k s (a .0) m (a .1) y (ap (bears k) (a .2) ∙ z)))
+        subst (λ (d : Cell). agree (s .cell) d ≡ true) (a .2) (agree-holds s (a .0) (v .core .alike k s (a .0) m (a .1) y (ap (bears k) (a .2) ∙ z)))
 
     open-key : (s : Slot) → eqb (s .cell .used) 1 ≡ true → keyOf (s .cell) ≡ openAs (s .cell .id)
     unfolding keyOf

@@ -1,4 +1,4 @@
--- One frame: the slots' four steps are the bare receiver's.
+-- Step 4 of one message: the slots do what the bare receiver does.
 -- Assumes nothing.
 use Prim.Native.Nat.{ℕ}
 use mathlib.Core.Path.{_≡_, _∙_, ap}
@@ -64,9 +64,9 @@ module _ (x : Fate) (a : ℕ → Bool) (ps : List Piece) (h : List Message) (m :
     dropped = omega arith;
   }
 
-  start : (x ≡ late → ⊥) → isHeld (m .channel) (m .order) (w .slots) ≡ false → Sim (answer a ps (emit m (quiet o 0))) (rise (m .channel) (made l₃ w)) (w .ready) (w .dropped) h
+  emit-sim : (x ≡ late → ⊥) → isHeld (m .channel) (m .order) (w .slots) ≡ false → Sim (answer a ps (emit m (quiet o 0))) (rise (m .channel) (made l₃ w)) (w .ready) (w .dropped) h
   unfolding emit quiet rise made isHeld
-  start ne e = let q = p .readies ne (fresh-turn v) in record {
+  emit-sim ne e = let q = p .readies ne (fresh-turn v) in record {
     accepted = same;
     pieces = p .pieces₃ ne;
     outs = outs-emit m l₃ v (w .turn) (omega arith) (q .is) (q .ready) (q .unique) (bump (m .channel) (o .next)) (bump (m .channel) (w .next)) (ap (bump (m .channel)) (v .next-same)) (q .held (m .channel) (m .order) .present ∙ e) (λ c k t. q .held c k);
@@ -76,7 +76,7 @@ module _ (x : Fate) (a : ℕ → Bool) (ps : List Piece) (h : List Message) (m :
 
   due-sim : (x ≡ late → ⊥) → isHeld (m .channel) (m .order) (w .slots) ≡ false → Sim (answer a ps (follow (length (o .held)) (m .channel) (emit m (quiet o 0)))) (settle due (m .channel) w l₂ l₃ l₄) (w .ready) (w .dropped) h
   unfolding settle follows rise quiet
-  due-sim ne e = cascades a ps (w .ready) (w .dropped) h (length (o .held)) (m .channel) (emit m (quiet o 0)) (rise (m .channel) (made l₃ w)) (emit-not-longer m (quiet o 0)) (start ne e)
+  due-sim ne e = cascades a ps (w .ready) (w .dropped) h (length (o .held)) (m .channel) (emit m (quiet o 0)) (rise (m .channel) (made l₃ w)) (emit-not-longer m (quiet o 0)) (emit-sim ne e)
 
   pub deliver-sim : fate (m .kind) (m .channel) (m .order) w ≡ x → Sim (answer a ps (deliver m o)) (settle x (m .channel) w l₂ l₃ l₄) (w .ready) (w .dropped) h
   unfolding deliver queue fate

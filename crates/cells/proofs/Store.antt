@@ -5,10 +5,10 @@ use mathlib.Core.Path.{_≡_, refl, sym, _∙_, ap, subst}
 use mathlib.Core.Logic.{_⊎_, inl, inr}
 use mathlib.Core.Bool.{Bool, true, false, true≢false}
 use mathlib.Core.Option.{some}
-use mathlib.Core.List.{List, [], _∷_, _++_, map, append-assoc, Memᴰ·of-map, List·Memᴰ, List·Memᴰ·head, List·Memᴰ·tail, List·Memᴰ·cases-cons, List·Memᴰ·not-nil}
+use mathlib.Core.List.{List, [], _∷_, _++_, append-assoc, Memᴰ·of-map, List·Memᴰ, List·Memᴰ·head, List·Memᴰ·tail, List·Memᴰ·cases-cons, List·Memᴰ·not-nil}
 use native.Mathlib.Nat.{suc-mul}
 use native.Mathlib.Omega.{arith}
-use lib.ListN.{length, take, drop, length-append, length-drop, length-take, take-append-drop}
+use lib.ListN.{length, take, drop, length-append, length-drop, length-map, length-take, take-append-drop}
 use lib.Seq.{drop-at, take-at, take-take}
 use lib.Dec.{eqb}
 use borrow.Author.Tests.{eqb-true, ne-eqb}
@@ -30,8 +30,8 @@ pub record Sized (s : Slot) : Type 0 where
   pub exact : isFree s ≡ false → length (s .body) ≡ s .cell .length
   pub fits : isFree s ≡ false → length (s .body) ≤ cellSize
 
-abbrev pub All : List Slot → Type 0
-All l = (s : Slot) → List·Memᴰ s l → Sized s
+abbrev pub AllSized : List Slot → Type 0
+AllSized l = (s : Slot) → List·Memᴰ s l → Sized s
 
 pub laid-length : (s : Slot) (bytes : List ℕ) → Sized s → length bytes ≡ cellSize → length (laid s bytes) ≡ cellSize
 unfolding laid
@@ -45,7 +45,7 @@ room-one n k store le = let e = suc-mul n k in (omega arith, simp length-drop (o
 pub first-length : (store : List ℕ) → cellSize ≤ length store → length (take cellSize store) ≡ cellSize
 first-length store le = simp length-take (omega arith)
 
-pub store-length : (l : List Slot) (store : List ℕ) → All l → length l * cellSize ≤ length store → length (storeOf store l) ≡ length store
+pub store-length : (l : List Slot) (store : List ℕ) → AllSized l → length l * cellSize ≤ length store → length (storeOf store l) ≡ length store
 unfolding storeOf
 store-length [] store z le = refl
 store-length (s ∷ l) store z le =
@@ -62,7 +62,7 @@ laid-body s store rest z = cases (isFree s)
     (λ y. rw y (sym (z .none y)))
     (λ y. rw (y, append-assoc) (take-at (s .body) _ (s .cell .length) (z .exact y)))
 
-pub store-slots : (l : List Slot) (store : List ℕ) → All l → length l * cellSize ≤ length store → slotsOf (cellsOf l) (storeOf store l) ≡ l
+pub store-slots : (l : List Slot) (store : List ℕ) → AllSized l → length l * cellSize ≤ length store → slotsOf (cellsOf l) (storeOf store l) ≡ l
 unfolding slotsOf cellsOf storeOf
 store-slots [] store z le = refl
 store-slots (s ∷ l) store z le =
@@ -73,12 +73,8 @@ store-slots (s ∷ l) store z le =
 
 -- Every call keeps the number of slots, and each body's length.
 pub record Shaped (n : ℕ) (l : List Slot) : Type 0 where
-  pub sized : All l
+  pub sized : AllSized l
   pub many : length l ≡ n
-
-map-length : (h : Slot → Slot) (l : List Slot) → length (map h l) ≡ length l
-map-length h [] = refl
-map-length h (s ∷ l) = ap suc (map-length h l)
 
 empty-sized : Sized emptySlot
 unfolding emptySlot emptyCell isFree
@@ -103,16 +99,16 @@ change-shaped : (n : ℕ) (q : Slot → Bool) (g : Slot → Slot) (l : List Slot
 unfolding mapIf change
 change-shaped n q g l e v = record {
   sized = λ s m. let a = Memᴰ·of-map (change q g) l m in subst Sized (a .2) (byBool Sized (q (a .0)) (λ y. e (a .0) y (v .sized (a .0) (a .1))) (λ y. v .sized (a .0) (a .1)));
-  many = map-length (change q g) l ∙ v .many;
+  many = length-map l (change q g) ∙ v .many;
 }
 
 turn-shaped : (n : ℕ) (k : Key) (u t : ℕ) (l : List Slot) → (u ≡ 0 → ⊥) → Shaped n l → Shaped n (turnTo k u t l)
 unfolding turnTo
 turn-shaped n k u t l ne v = change-shaped n (of k) (mark u t) l (λ s y z. mark-sized u t s ne (key-used k s y) z) v
 
-ready-used : (s : Slot) → isReady s ≡ true → isFree s ≡ false
+ready-not-free : (s : Slot) → isReady s ≡ true → isFree s ≡ false
 unfolding isReady isFree
-ready-used s e = let p = eqb-true (s .cell .used) 3 e in ne-eqb (s .cell .used) 0 (λ q. omega arith)
+ready-not-free s e = let p = eqb-true (s .cell .used) 3 e in ne-eqb (s .cell .used) 0 (λ q. omega arith)
 
 module _ (n : ℕ) where
   cascade-shaped : (i c : ℕ) (w : Work) → Shaped n (w .slots) → Shaped n (cascade i c w .slots)
@@ -166,11 +162,11 @@ module _ (n : ℕ) where
 
   pub datagram-worked : (s : State) (fs : List Frame) → ((f : Frame) → List·Memᴰ f fs → Readable f) → Shaped n (s .slots) → Shaped n (datagram s fs .slots)
   unfolding datagram begin renumber
-  datagram-worked s fs ok v = frames-shaped fs (begin s) ok (change-shaped n isReady _ (s .slots) (λ x y z. mark-sized 3 _ x (λ q. omega arith) (ready-used x y) z) v)
+  datagram-worked s fs ok v = frames-shaped fs (begin s) ok (change-shaped n isReady _ (s .slots) (λ x y z. mark-sized 3 _ x (λ q. omega arith) (ready-not-free x y) z) v)
 
   pub datagram-shaped : (s : State) (fs : List Frame) → ((f : Frame) → List·Memᴰ f fs → Readable f) → Shaped n (s .slots) → Shaped n (end (datagram s fs) .slots)
   unfolding datagram begin end sweep renumber
-  datagram-shaped s fs ok v = change-shaped n _ _ _ (λ x y z. empty-sized) (frames-shaped fs (begin s) ok (change-shaped n isReady _ (s .slots) (λ x y z. mark-sized 3 _ x (λ q. omega arith) (ready-used x y) z) v))
+  datagram-shaped s fs ok v = change-shaped n _ _ _ (λ x y z. empty-sized) (frames-shaped fs (begin s) ok (change-shaped n isReady _ (s .slots) (λ x y z. mark-sized 3 _ x (λ q. omega arith) (ready-not-free x y) z) v))
 
   pub take-shaped : (l : List Slot) (t : Taken) → Shaped n l → taking l ≡ some t → Shaped n (t .slots)
   unfolding freed
@@ -193,7 +189,7 @@ slots-shaped (c ∷ cs) store h le =
     let k = slots-shaped cs (drop cellSize store) (λ d m. h d (List·Memᴰ·tail m)) (r .1) in
     record { sized = λ s m. go s (r .0) (k .sized) (List·Memᴰ·cases-cons m); many = ap suc (k .many) }
   where
-    go : (s : Slot) → cellSize ≤ length store → All (slotsOf cs (drop cellSize store)) → (s ≡ record { cell = c; body = bodyOf c store }) ⊎ List·Memᴰ s (slotsOf cs (drop cellSize store)) → Sized s
+    go : (s : Slot) → cellSize ≤ length store → AllSized (slotsOf cs (drop cellSize store)) → (s ≡ record { cell = c; body = bodyOf c store }) ⊎ List·Memᴰ s (slotsOf cs (drop cellSize store)) → Sized s
     go s a k (inl q) = subst Sized (sym q) (read-sized c store (h c (List·Memᴰ·head refl)) a)
     go s a k (inr i) = k s i
 
@@ -232,7 +228,7 @@ read-one q s store rest z = cases (q s)
     (λ y. rw y (empty-read (laid s store ++ rest)))
     (λ y. rw y (ap {B = Slot} (λ b. record { cell = s .cell; body = b }) (laid-body s store rest z)))
 
-pub read-emptied : (q : Slot → Bool) (l : List Slot) (store : List ℕ) → All l → length l * cellSize ≤ length store → slotsOf (cellsOf (mapIf q (λ s. emptySlot) l)) (storeOf store l) ≡ mapIf q (λ s. emptySlot) l
+read-emptied : (q : Slot → Bool) (l : List Slot) (store : List ℕ) → AllSized l → length l * cellSize ≤ length store → slotsOf (cellsOf (mapIf q (λ s. emptySlot) l)) (storeOf store l) ≡ mapIf q (λ s. emptySlot) l
 unfolding slotsOf cellsOf storeOf mapIf
 read-emptied q [] store z le = refl
 read-emptied q (s ∷ l) store z le =
@@ -244,7 +240,7 @@ read-emptied q (s ∷ l) store z le =
     cc (a, b, d)
 
 -- What a datagram's call leaves, read again, is what its definition says. Bodies of slots that are to be freed were written too.
-pub datagram-read : (s : State) (store : List ℕ) (fs : List Frame) → ((f : Frame) → List·Memᴰ f fs → Readable f) → All (s .slots) → length (s .slots) * cellSize ≡ length store
+pub datagram-read : (s : State) (store : List ℕ) (fs : List Frame) → ((f : Frame) → List·Memᴰ f fs → Readable f) → AllSized (s .slots) → length (s .slots) * cellSize ≡ length store
     → slotsOf (cellsOf (end (datagram s fs) .slots)) (storeOf store (datagram s fs .slots)) ≡ end (datagram s fs) .slots
 unfolding end sweep
 datagram-read s store fs ok z e = let v = datagram-worked (length (s .slots)) s fs ok (record { sized = z; many = refl }) in

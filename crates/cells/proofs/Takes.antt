@@ -1,4 +1,4 @@
--- Takes: all takes until none is ready hand out the ready messages by their turns.
+-- After a datagram and after a take: cells that become unused, and that takes until 20 hand out the ready messages by their turns.
 -- Assumes nothing.
 use Prim.Native.Nat.{ℕ, zero, suc, _+_, _≤_, _<_}
 use mathlib.Core.Path.{_≡_, refl, sym, _∙_, ap}
@@ -21,7 +21,7 @@ use Rattle.cells.specs.Datagram.{sweep}
 use Rattle.cells.specs.Take.{lower, earliest, Taken, taking, drainIn, drain}
 use Rattle.cells.proofs.Keys.{of-other, empty-of, no-key-of-4, ready-of, sits-is, carried-other, message-there}
 use Rattle.cells.proofs.Pieces.{Pieces, pieces-other}
-use Rattle.cells.proofs.Ready.{lineOf, has, has-some, Same, same-carried, Unique, Outs, lineOf-ext, outs-keep}
+use Rattle.cells.proofs.Ready.{readyLine, has, has-some, SameUnder, same-carried, Unique, Outs, readyLine-ext, outs-keep}
 use Rattle.cells.proofs.Moves.{of-apart, unique-left}
 use Rattle.cells.proofs.Cascade.{isOpen-used}
 use Rattle.cells.proofs.Turns.{turn-within}
@@ -31,11 +31,11 @@ unfolding isOpen emptySlot emptyCell
 empty-open = refl
 
 -- Slots whose use is another become empty: a key of its use is left alone.
-pub emptied-same : (q : Slot → Bool) (l : List Slot) (k : Key) → ((s : Slot) → List·Memᴰ s l → q s ≡ true → of k s ≡ false) → Same k l k (mapIf q (λ s. emptySlot) l)
+emptied-same : (q : Slot → Bool) (l : List Slot) (k : Key) → ((s : Slot) → List·Memᴰ s l → q s ≡ true → of k s ≡ false) → SameUnder k l k (mapIf q (λ s. emptySlot) l)
 unfolding mapIf
 emptied-same q l k e = same-carried (carried-other k q (λ s. emptySlot) l (λ s m y. (e s m y, empty-of k)))
 
-pub emptied-unique : (q : Slot → Bool) (l : List Slot) → Unique l → Unique (mapIf q (λ s. emptySlot) l)
+emptied-unique : (q : Slot → Bool) (l : List Slot) → Unique l → Unique (mapIf q (λ s. emptySlot) l)
 emptied-unique q l u = unique-left q (λ s. emptySlot) l (λ k s m y. empty-of k) u
 
 pub emptied-pieces : (q : Slot → Bool) (ps : List Piece) (l : List Slot) → ((s : Slot) → List·Memᴰ s l → q s ≡ true → isOpen s ≡ false) → Pieces ps l → Pieces ps (mapIf q (λ s. emptySlot) l)
@@ -46,7 +46,7 @@ pub sweep-outs : {o : Out} {next : ℕ → ℕ} {l : List Slot} {lo n : ℕ} {h 
 unfolding sweep
 sweep-outs {o} {next} {l} v = outs-keep _ v (λ c k. keeps (heldAs c k)) (λ t. keeps (readyAs t)) (emptied-unique _ l (v .unique))
   where
-    keeps : (k : Key) → Same k l k (sweep l)
+    keeps : (k : Key) → SameUnder k l k (sweep l)
     keeps k = emptied-same (λ s. eqb (s .cell .used) 4) l k (λ s m y. of-other k s (λ q. no-key-of-4 k (sym (eqb-true (s .cell .used) 4 y) ∙ q)))
 
 pub sweep-pieces : (ps : List Piece) (l : List Slot) → Pieces ps l → Pieces ps (sweep l)
@@ -95,16 +95,16 @@ earliest-above (x ∷ l) lo h t e = go (isReady x) refl e (earliest-above l lo (
     go true y e k = let q : lower (x .cell .turn) (earliest l) ≡ t = cc in let w = lower-above lo (x .cell .turn) (earliest l) (h x (List·Memᴰ·head refl) y) k in omega arith
     go false y e k = k t e
 
-pub lineOf-nil : (l : List Slot) (lo : ℕ) → lineOf l lo 0 ≡ []
-unfolding lineOf
-lineOf-nil l lo = refl
+pub readyLine-nil : (l : List Slot) (lo : ℕ) → readyLine l lo 0 ≡ []
+unfolding readyLine
+readyLine-nil l lo = refl
 
-lineOf-front : (l : List Slot) (lo n : ℕ) → lineOf l lo (suc n) ≡ option (messageAt (readyAs lo) l) [] (λ m. m ∷ []) ++ lineOf l (suc lo) n
-unfolding lineOf
-lineOf-front l lo zero = let z : 0 + lo ≡ lo = omega arith in rw z (sym (append-nil _))
-lineOf-front l lo (suc n) = let z : n + suc lo ≡ suc n + lo = omega arith in rw (lineOf-front l lo n, z, append-assoc)
+readyLine-front : (l : List Slot) (lo n : ℕ) → readyLine l lo (suc n) ≡ option (messageAt (readyAs lo) l) [] (λ m. m ∷ []) ++ readyLine l (suc lo) n
+unfolding readyLine
+readyLine-front l lo zero = let z : 0 + lo ≡ lo = omega arith in rw z (sym (append-nil _))
+readyLine-front l lo (suc n) = let z : n + suc lo ≡ suc n + lo = omega arith in rw (readyLine-front l lo n, z, append-assoc)
 
-pub freed-gone : (k : Key) (l : List Slot) → any (of k) (freed k l) ≡ false
+freed-gone : (k : Key) (l : List Slot) → any (of k) (freed k l) ≡ false
 unfolding freed mapIf change
 freed-gone k l = any-map (of k) (λ s. false) (change (of k) (λ s. emptySlot)) l (λ s m. cases (of k s) (λ y. rw y (empty-of k)) (λ y. rw y y)) ∙ any-all (λ s. false) l (λ s m. refl)
 
@@ -123,12 +123,12 @@ taken-freed l t e = caseOption (earliest l)
     let q : record { message = m; slots = freed (readyAs u) l } ≡ t = cc in
     (u, ap (λ (x : Taken). x .slots) (sym q))))
 
-freed-ready : (lo : ℕ) (l : List Slot) (t : ℕ) → (t ≡ lo → ⊥) → Same (readyAs t) l (readyAs t) (freed (readyAs lo) l)
+freed-ready : (lo : ℕ) (l : List Slot) (t : ℕ) → (t ≡ lo → ⊥) → SameUnder (readyAs t) l (readyAs t) (freed (readyAs lo) l)
 unfolding freed
 freed-ready lo l t ne = emptied-same (of (readyAs lo)) l (readyAs t) (λ s i y. cases (of (readyAs t) s) (λ z. absurd (ne (sym ((ready-of t s z) .1) ∙ (ready-of lo s y) .1))) (λ z. z))
 
-freed-line : (l : List Slot) (lo n : ℕ) (m : Message) → messageAt (readyAs lo) l ≡ some m → lineOf l lo (suc n) ≡ m ∷ lineOf (freed (readyAs lo) l) (suc lo) n
-freed-line l lo n m e = rw (lineOf-front l lo n, e, lineOf-ext l (freed (readyAs lo) l) (suc lo) n (λ t a b. freed-ready lo l t (λ q. omega arith) .message))
+freed-line : (l : List Slot) (lo n : ℕ) (m : Message) → messageAt (readyAs lo) l ≡ some m → readyLine l lo (suc n) ≡ m ∷ readyLine (freed (readyAs lo) l) (suc lo) n
+freed-line l lo n m e = rw (readyLine-front l lo n, e, readyLine-ext l (freed (readyAs lo) l) (suc lo) n (λ t a b. freed-ready lo l t (λ q. omega arith) .message))
 
 module _ {o : Out} {next : ℕ → ℕ} {l : List Slot} {lo : ℕ} {h : List Message} where
   pub take-none : Outs o next l lo 0 h → taking l ≡ none
@@ -161,10 +161,10 @@ module _ {o : Out} {next : ℕ → ℕ} {l : List Slot} {lo : ℕ} {h : List Mes
     unique = emptied-unique (of (readyAs lo)) l (v .unique);
   }
     where
-      held : (c k : ℕ) → Same (heldAs c k) l (heldAs c k) (freed (readyAs lo) l)
+      held : (c k : ℕ) → SameUnder (heldAs c k) l (heldAs c k) (freed (readyAs lo) l)
       held c k = emptied-same (of (readyAs lo)) l (heldAs c k) (λ s i y. of-apart (readyAs lo) (heldAs c k) s (λ q. omega arith) y)
 
-      ready : (t : ℕ) → (t ≡ lo → ⊥) → Same (readyAs t) l (readyAs t) (freed (readyAs lo) l)
+      ready : (t : ℕ) → (t ≡ lo → ⊥) → SameUnder (readyAs t) l (readyAs t) (freed (readyAs lo) l)
       ready t ne = freed-ready lo l t ne
 
       gone : any (of (readyAs lo)) (freed (readyAs lo) l) ≡ false
@@ -188,17 +188,17 @@ module _ {o : Out} {next : ℕ → ℕ} where
       let a = any-true (sits (readyAs lo) 0) l (message-there (readyAs lo) l (f .0) (f .1)) in
       any-mem (of (readyAs lo)) l (a .0) (a .1) ((sits-is (readyAs lo) 0 (a .0) (a .2)) .0)
 
-  drain-line : (f n lo : ℕ) (l : List Slot) (h : List Message) → Outs o next l lo n h → countOf isReady l ≤ f → drainIn f l ≡ lineOf l lo n
+  drain-line : (f n lo : ℕ) (l : List Slot) (h : List Message) → Outs o next l lo n h → countOf isReady l ≤ f → drainIn f l ≡ readyLine l lo n
   unfolding drainIn
-  drain-line zero zero lo l h v le = sym (lineOf-nil l lo)
+  drain-line zero zero lo l h v le = sym (readyLine-nil l lo)
   drain-line zero (suc n) lo l h v le = let q = freed-fewer lo l (ready-present v) in absurd (omega arith)
-  drain-line (suc f) zero lo l h v le = rw (take-none v) (sym (lineOf-nil l lo))
+  drain-line (suc f) zero lo l h v le = rw (take-none v) (sym (readyLine-nil l lo))
   drain-line (suc f) (suc n) lo l h v le =
       let t = take-some n v in
       let q = freed-fewer lo l (ready-present v) in
       rw (t .2, drain-line f n (suc lo) (freed (readyAs lo) l) (h ++ (t .0 ∷ [])) (t .3) (omega arith)) (sym (freed-line l lo n (t .0) (t .1)))
 
   -- What takes until 20 hand out are the ready messages by their turns.
-  pub drain-is : {l : List Slot} {lo n : ℕ} {h : List Message} → Outs o next l lo n h → drain l ≡ lineOf l lo n
+  pub drain-is : {l : List Slot} {lo n : ℕ} {h : List Message} → Outs o next l lo n h → drain l ≡ readyLine l lo n
   unfolding drain
   drain-is {l} {lo} {n} {h} v = drain-line (length l) n lo l h v (count-length isReady l)

@@ -1,4 +1,4 @@
--- Between datagrams: turns renumbered, cells freed, messages taken; and whole lists of calls.
+-- Before a datagram: with their turns renumbered from 0 on, the ready messages are the bare receiver's still.
 -- Assumes nothing.
 use Prim.Native.Nat.{ℕ, zero, suc, _+_, _-_, _≤_, _<_}
 use mathlib.Core.Path.{_≡_, refl, sym, _∙_, ap}
@@ -18,15 +18,15 @@ use Rattle.cells.specs.Cell.{Slot, openAs, heldAs, readyAs, of, sits, is
 use Rattle.cells.specs.Datagram.{isFirst, isBefore, rank, renumber}
 use Rattle.cells.proofs.Keys.{of-ready, sits-of, shown, Carried, carried-count, message-there}
 use Rattle.cells.proofs.Pieces.{Pieces, pieces-other}
-use Rattle.cells.proofs.Ready.{lineOf, has, has-some, Same, same-carried, Unique, Outs}
+use Rattle.cells.proofs.Ready.{readyLine, has, has-some, SameUnder, same-carried, Unique, Outs}
 use Rattle.cells.proofs.Moves.{of-mark-ready}
 use Rattle.cells.proofs.Cascade.{isOpen-used, isOpen-mark}
 use Rattle.cells.proofs.TurnOrder.{retime, ready-used, retime-other}
 
-lineOf-shift : (l′ l : List Slot) (lo : ℕ) → ((t : ℕ) → messageAt (readyAs t) l′ ≡ messageAt (readyAs (t + lo)) l) → (n : ℕ) → lineOf l′ 0 n ≡ lineOf l lo n
-unfolding lineOf
-lineOf-shift l′ l lo e zero = refl
-lineOf-shift l′ l lo e (suc n) = let z : n + 0 ≡ n = omega arith in rw (z, lineOf-shift l′ l lo e n, e n)
+readyLine-shift : (l′ l : List Slot) (lo : ℕ) → ((t : ℕ) → messageAt (readyAs t) l′ ≡ messageAt (readyAs (t + lo)) l) → (n : ℕ) → readyLine l′ 0 n ≡ readyLine l lo n
+unfolding readyLine
+readyLine-shift l′ l lo e zero = refl
+readyLine-shift l′ l lo e (suc n) = let z : n + 0 ≡ n = omega arith in rw (z, readyLine-shift l′ l lo e n, e n)
 
 pub rank-suc : (l : List Slot) (k T : ℕ) → T ≡ suc k → rank l T ≡ rank l k + countOf (sits (readyAs k) 0) l
 unfolding rank isBefore isFirst
@@ -63,13 +63,13 @@ module _ {o : Out} {next : ℕ → ℕ} {l : List Slot} {lo n : ℕ} {h : List M
       let s = rank-suc l (k + lo) T (omega arith) in
       omega arith
 
-  pub rank-turn : (s : Slot) → List·Memᴰ s l → isReady s ≡ true → rank l (s .cell .turn) + lo ≡ s .cell .turn
+  rank-turn : (s : Slot) → List·Memᴰ s l → isReady s ≡ true → rank l (s .cell .turn) + lo ≡ s .cell .turn
   rank-turn s m e = go (s .cell .turn) (turn-within s m e)
     where
       go : (t : ℕ) → (lo ≤ t) × (t < n + lo) → rank l t + lo ≡ t
       go t w = let r = rank-at (t - lo) t (omega arith) (omega arith) in omega arith
 
-  pub first-count : countOf isFirst l ≡ n
+  first-count : countOf isFirst l ≡ n
   unfolding rank isBefore isFirst
   first-count = count-ext isFirst (isBefore (n + lo)) l point ∙ rank-at n (n + lo) refl (omega arith)
     where
@@ -94,7 +94,7 @@ module _ {o : Out} {next : ℕ → ℕ} {l : List Slot} {lo n : ℕ} {h : List M
           (λ y. let q = eqb-true r t y in rw (y, eq-eqb u (t + lo) (omega arith)))
           (λ y. let q : r ≡ t → ⊥ = eqb-false r t y in rw (y, ne-eqb u (t + lo) (λ z. q (omega arith))))
 
-  pub renumber-unique : Unique (renumber l)
+  renumber-unique : Unique (renumber l)
   unfolding renumber mapIf retime
   renumber-unique (openAs id) i = rw (carried-count (retime-other (rank l) l (openAs id) (λ q. omega arith)) i) (v .unique (openAs id) i)
   renumber-unique (heldAs c k) i = rw (carried-count (retime-other (rank l) l (heldAs c k) (λ q. omega arith)) i) (v .unique (heldAs c k) i)
@@ -112,14 +112,14 @@ module _ {o : Out} {next : ℕ → ℕ} {l : List Slot} {lo n : ℕ} {h : List M
     unique = renumber-unique;
   })
     where
-      held : (c k : ℕ) → Same (heldAs c k) l (heldAs c k) (renumber l)
+      held : (c k : ℕ) → SameUnder (heldAs c k) l (heldAs c k) (renumber l)
       held c k = same-carried (retime-other (rank l) l (heldAs c k) (λ q. omega arith))
 
-      ready : (t : ℕ) → Same (readyAs (t + lo)) l (readyAs t) (renumber l)
+      ready : (t : ℕ) → SameUnder (readyAs (t + lo)) l (readyAs t) (renumber l)
       ready t = same-carried (renumber-carried t)
 
-      shift : (n : ℕ) → ((t : ℕ) → messageAt (readyAs t) (renumber l) ≡ messageAt (readyAs (t + lo)) l) → lineOf (renumber l) 0 n ≡ lineOf l lo n
-      shift n e = lineOf-shift (renumber l) l lo e n
+      shift : (n : ℕ) → ((t : ℕ) → messageAt (readyAs t) (renumber l) ≡ messageAt (readyAs (t + lo)) l) → readyLine (renumber l) 0 n ≡ readyLine l lo n
+      shift n e = readyLine-shift (renumber l) l lo e n
 
 pub renumber-pieces : (ps : List Piece) (l : List Slot) → Pieces ps l → Pieces ps (renumber l)
 unfolding renumber

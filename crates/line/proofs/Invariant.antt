@@ -34,7 +34,7 @@ pub record Open (R : Frame → Type 0) (Done : ℕ → ℕ → Type 0) (pieces :
   pub lacking : (f : Frame) → R f → ordered (f .kind) ≡ true → f .piece ≡ true → List·Memᴰ (pieceOf f) pieces → joined pieces (f .id) (f .count) ≡ none
 
 -- One frame more.
-abbrev pub And : (Frame → Type 0) → Frame → Frame → Type 0
+abbrev And : (Frame → Type 0) → Frame → Frame → Type 0
 And R x f = R f ⊎ (f ≡ x)
 
 own : (f : Frame) → ordered (f .kind) ≡ true → Of (f .channel) (f .order) f

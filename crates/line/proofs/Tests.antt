@@ -91,7 +91,7 @@ pub isAt-there : (c o : ℕ) (m : Message) → m .channel ≡ c → m .order ≡
 unfolding isAt
 isAt-there c o m p q = and-both _ _ (eq-eqb _ _ p) (eq-eqb _ _ q)
 
-pub isAt-self : (m : Message) → isAt (m .channel) (m .order) m ≡ true
+isAt-self : (m : Message) → isAt (m .channel) (m .order) m ≡ true
 isAt-self m = isAt-there (m .channel) (m .order) m refl refl
 
 pub onChannel-true : (c : ℕ) (m : Message) → ordered (m .kind) ≡ true → m .channel ≡ c → onChannel c m ≡ true
