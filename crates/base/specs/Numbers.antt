@@ -1,12 +1,19 @@
--- How numbers of 24 bits are compared and counted on. Every definition that orders such numbers goes through these.
-use Prim.Native.Nat.{ℕ, suc}
+-- The order of numbers of 24 bits: every definition that compares two such numbers or counts on from one goes through these.
+use Prim.Native.Nat.{ℕ, _+_, _-_}
 use mathlib.Core.Bool.{Bool}
 use lib.Dec.{ltb}
 
--- is n behind the number base (below it)?
+-- n comes before base
 abbrev pub behind : ℕ → ℕ → Bool
 behind base n = ltb n base
 
--- the number after n
+-- how far n stands after base
+abbrev pub distance : ℕ → ℕ → ℕ
+distance base n = n - base
+
+-- the number that stands k after base, and the one that follows n
+abbrev pub ahead : ℕ → ℕ → ℕ
+ahead base k = base + k
+
 abbrev pub following : ℕ → ℕ
-following n = suc n
+following n = ahead n 1

@@ -155,7 +155,7 @@ unfolding cascade
 cascade-stops zero c w le = cases (isHeld c (w .next c) (w .slots)) (λ y. let p = goOn-fewer c w y in absurd (omega arith)) (λ y. y)
 cascade-stops (suc n) c w le = cases (isHeld c (w .next c) (w .slots)) (λ y. rw y (cascade-stops n c (goOn c w) (let p = goOn-fewer c w y in omega arith))) (λ y. rw y y)
 
--- The two cascades, each with its own bound.
+-- The slots' cascade does what the bare receiver's does, each with its own bound.
 pub cascades : (a : ℕ → Bool) (ps : List Piece) (r d : ℕ) (h : List Message) (n c : ℕ) (s : Sent) (w : Work) → length (s .after .held) ≤ n → Sim (answer a ps s) w r d h → Sim (answer a ps (follow n c s)) (cascade (length (w .slots)) c w) r d h
 cascades a ps r d h n c s w le v =
     let m : ℕ = n + length (w .slots) in

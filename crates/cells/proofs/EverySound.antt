@@ -1,4 +1,4 @@
--- Any sound cells are those of a bare receiver: its counts and its room hold of every sound state, not only of those that calls rank-reached.
+-- Any sound cells are those of a bare receiver: its counts and its room hold of every sound state, not only of those that calls reach.
 -- Assumes nothing.
 use Prim.Native.Nat.{ℕ, zero, suc, _+_, _<_}
 use mathlib.Core.Path.{_≡_, refl, sym, _∙_, ap}

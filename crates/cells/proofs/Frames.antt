@@ -112,6 +112,7 @@ keepIn-sim b w h f v lim full = cases (f .piece)
     (λ t. rw (cond-test (f .piece) false (keep f (b .pieces)) (complete (b .pieces) (message f (f .body))) t, cond-test (f .piece) false (piece f w) (whole (fateOf f w) f w) t)
     (whole-sim b w h f v t (sym (ap (λ (x : Work). x .full) (cond-test (f .piece) false (piece f w) (whole (fateOf f w) f w) t)) ∙ full)))
 
+-- One frame does to the slots what it does to the bare receiver.
 pub frame-sim : (b : Bare) (w : Work) (h : List Message) (f : Frame) → Rel b w h → frame w f .full ≡ false → Sim (step b f) (frame w f) (w .ready) (w .dropped) h
 unfolding step frame acceptIn accept
 frame-sim b w h f v full = rw (ap (seenBefore f) (v .accepted)) (cases (seenBefore f (w .accepted))
@@ -127,58 +128,57 @@ frame-sim b w h f v full = rw (ap (seenBefore f) (v .accepted)) (cases (seenBefo
     v′ = record { accepted = ap (accept f) (v .accepted); pieces = v .pieces; outs = v .outs }
 
 -- Once room has run out, that stays said.
-module _ where
-  cascade-full : (n c : ℕ) (w : Work) → cascade n c w .full ≡ w .full
-  unfolding cascade goOn rise made
-  cascade-full zero c w = refl
-  cascade-full (suc n) c w = cases (isHeld c (w .next c) (w .slots)) (λ t. rw t (cascade-full n c (goOn c w))) (λ t. rw t)
+cascade-full : (n c : ℕ) (w : Work) → cascade n c w .full ≡ w .full
+unfolding cascade goOn rise made
+cascade-full zero c w = refl
+cascade-full (suc n) c w = cases (isHeld c (w .next c) (w .slots)) (λ t. rw t (cascade-full n c (goOn c w))) (λ t. rw t)
 
-  pub follows-full : (c : ℕ) (w : Work) → follows c w .full ≡ w .full
-  unfolding follows rise
-  follows-full c w = cascade-full (length (w .slots)) c (rise c w)
+pub follows-full : (c : ℕ) (w : Work) → follows c w .full ≡ w .full
+unfolding follows rise
+follows-full c w = cascade-full (length (w .slots)) c (rise c w)
 
-  roomy-full : (w r : Work) → w .full ≡ true → r .full ≡ w .full → roomy w r .full ≡ true
-  unfolding roomy fillUp
-  roomy-full w r e q = byBool (λ (x : Work). x .full ≡ true) (any isFree (w .slots)) (λ t. q ∙ e) (λ t. refl)
+roomy-full : (w r : Work) → w .full ≡ true → r .full ≡ w .full → roomy w r .full ≡ true
+unfolding roomy fillUp
+roomy-full w r e q = byBool (λ (x : Work). x .full ≡ true) (any isFree (w .slots)) (λ t. q ∙ e) (λ t. refl)
 
-  whole-full : (x : Fate) (f : Frame) (w : Work) → w .full ≡ true → whole x f w .full ≡ true
-  unfolding whole dropOne place made
-  whole-full late f w e = e
-  whole-full early f w e = roomy-full w _ e refl
-  whole-full free f w e = roomy-full w _ e refl
-  whole-full due f w e = roomy-full w _ e (follows-full (f .channel) _)
+whole-full : (x : Fate) (f : Frame) (w : Work) → w .full ≡ true → whole x f w .full ≡ true
+unfolding whole dropOne place made
+whole-full late f w e = e
+whole-full early f w e = roomy-full w _ e refl
+whole-full free f w e = roomy-full w _ e refl
+whole-full due f w e = roomy-full w _ e (follows-full (f .channel) _)
 
-  joins-full : (x : Fate) (f : Frame) (w : Work) → joins x f w .full ≡ w .full
-  unfolding joins dropOne place made
-  joins-full late f w = refl
-  joins-full early f w = refl
-  joins-full free f w = refl
-  joins-full due f w = follows-full (f .channel) _
+joins-full : (x : Fate) (f : Frame) (w : Work) → joins x f w .full ≡ w .full
+unfolding joins dropOne place made
+joins-full late f w = refl
+joins-full early f w = refl
+joins-full free f w = refl
+joins-full due f w = follows-full (f .channel) _
 
-  pub kept-full : (f : Frame) (w : Work) → kept f w .full ≡ w .full
-  unfolding kept
-  kept-full f w = byBool (λ (x : Work). x .full ≡ w .full) (allThere (openAs (f .id)) (w .slots) (f .count)) (λ t. joins-full (fateOf f w) f w) (λ t. refl)
+pub kept-full : (f : Frame) (w : Work) → kept f w .full ≡ w .full
+unfolding kept
+kept-full f w = byBool (λ (x : Work). x .full ≡ w .full) (allThere (openAs (f .id)) (w .slots) (f .count)) (λ t. joins-full (fateOf f w) f w) (λ t. refl)
 
-  piece-full : (f : Frame) (w : Work) → w .full ≡ true → piece f w .full ≡ true
-  unfolding piece dropOne place
-  piece-full f w e = byBool (λ (x : Work). x .full ≡ true) (any (clash f) (w .slots)) (λ t. e) (λ t. roomy-full w _ e (kept-full f (place (putSlot (slotOf f 1 0) (w .slots)) w)))
+piece-full : (f : Frame) (w : Work) → w .full ≡ true → piece f w .full ≡ true
+unfolding piece dropOne place
+piece-full f w e = byBool (λ (x : Work). x .full ≡ true) (any (clash f) (w .slots)) (λ t. e) (λ t. roomy-full w _ e (kept-full f (place (putSlot (slotOf f 1 0) (w .slots)) w)))
 
-  frame-full : (w : Work) (f : Frame) → w .full ≡ true → frame w f .full ≡ true
-  unfolding frame dropOne acceptIn keepIn
-  frame-full w f e = byBool (λ (x : Work). x .full ≡ true) (seenBefore f (w .accepted)) (λ t. e)
-      (λ t. byBool (λ (x : Work). x .full ≡ true) (inLimits f)
-      (λ y. byBool (λ (x : Work). x .full ≡ true) (f .piece) (λ z. piece-full f (acceptIn f w) e) (λ z. whole-full (fateOf f (acceptIn f w)) f (acceptIn f w) e))
-      (λ y. e))
+frame-full : (w : Work) (f : Frame) → w .full ≡ true → frame w f .full ≡ true
+unfolding frame dropOne acceptIn keepIn
+frame-full w f e = byBool (λ (x : Work). x .full ≡ true) (seenBefore f (w .accepted)) (λ t. e)
+    (λ t. byBool (λ (x : Work). x .full ≡ true) (inLimits f)
+    (λ y. byBool (λ (x : Work). x .full ≡ true) (f .piece) (λ z. piece-full f (acceptIn f w) e) (λ z. whole-full (fateOf f (acceptIn f w)) f (acceptIn f w) e))
+    (λ y. e))
 
-  pub frames-full : (fs : List Frame) (w : Work) → w .full ≡ true → frames w fs .full ≡ true
-  unfolding frames
-  frames-full [] w e = e
-  frames-full (f ∷ fs) w e = frames-full fs (frame w f) (frame-full w f e)
+pub frames-full : (fs : List Frame) (w : Work) → w .full ≡ true → frames w fs .full ≡ true
+unfolding frames
+frames-full [] w e = e
+frames-full (f ∷ fs) w e = frames-full fs (frame w f) (frame-full w f e)
 
-  not-full : (fs : List Frame) (w : Work) → frames w fs .full ≡ false → w .full ≡ false
-  not-full fs w e = cases (w .full) (λ t. neither (frames w fs .full) (frames-full fs w t) e) (λ t. t)
+not-full : (fs : List Frame) (w : Work) → frames w fs .full ≡ false → w .full ≡ false
+not-full fs w e = cases (w .full) (λ t. neither (frames w fs .full) (frames-full fs w t) e) (λ t. t)
 
--- A datagram's frames.
+-- A datagram whose room did not run out does to the slots what its frames do to the bare receiver, with the same counts.
 pub frames-sim : (fs : List Frame) (b : Bare) (w : Work) (h : List Message) → Rel b w h → frames w fs .full ≡ false → Sim (feed b fs) (frames w fs) (w .ready) (w .dropped) h
 unfolding feed frames
 frames-sim [] b w h v full = record { accepted = v .accepted; pieces = v .pieces; outs = v .outs; ready = omega arith; dropped = omega arith }

@@ -27,4 +27,6 @@ pub mod SoundKept
 pub mod EverySound
 pub mod Counting
 pub mod Claim
-pub mod Examples
+pub mod Shown
+pub mod ByExample
+pub mod ByExampleSound

@@ -17,12 +17,14 @@ use Rattle.cells.specs.Cell.{Slot, openAs, bears, at, of, sits, isFree, 
 use Rattle.cells.proofs.PutSlot.{any-put}
 use Rattle.cells.proofs.Keys.{sits-not, sits-is, none-sits, shown, look, carried-look, carried-other, put-find}
 
+-- An open slot whose piece passes; the piece under an id and index.
 unfoldable pub opens : (Piece → Bool) → Slot → Bool
 opens p s = isOpen s && p (pieceIn s)
 
 unfoldable pub pieceAt : ℕ → ℕ → List Slot → Option Piece
 pieceAt id i l = option (find (sits (openAs id) i) l) none (λ s. some (pieceIn s))
 
+-- The open slots hold the pieces ps: every test finds as much in the one as in the other, and under each id and index stands the same piece.
 pub record Pieces (ps : List Piece) (l : List Slot) : Type 0 where
   pub tests : (p : Piece → Bool) → any p ps ≡ any (opens p) l
   pub finds : (id i : ℕ) → find (isPiece id i) ps ≡ pieceAt id i l

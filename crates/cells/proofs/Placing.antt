@@ -120,6 +120,7 @@ module _ (f : Frame) (ps : List Piece) (T : ℕ) (l : List Slot) (agree : (s : S
   closed : (u t : ℕ) → eqb u 1 ≡ false → Pieces (without (hasId (f .id)) ps) (turnTo (openAs (f .id)) u t l)
   closed u t e = rw (close-new f ps) at (pieces-close (f .id) u t (pieceOf f ∷ ps) l e v)
 
+  -- A joined message, its slots being there.
   pub joined-placing : (x : Fate) → Placing x (joinedOf f l) (without (hasId (f .id)) ps) T l (turnTo (openAs (f .id)) 2 0 l) (turnTo (openAs (f .id)) 3 T l) (turnTo (openAs (f .id)) 4 0 l)
   unfolding message
   joined-placing x = record {

@@ -11,7 +11,6 @@ use lib.ListN.{length}
 use Rattle.base.specs.Lists.{find, any, countOf}
 use Rattle.base.proofs.Choices.{cases, or-right}
 use Rattle.cells.specs.Cell.{Slot, isFree, putSlot}
-use Rattle.cells.specs.Datagram.{late}
 
 -- A slot put where there is room: a test that no unused slot passes.
 module _ (p : Slot → Bool) (x : Slot) (blind : (s : Slot) → isFree s ≡ true → p s ≡ false) where
@@ -35,24 +34,24 @@ module _ (p : Slot → Bool) (x : Slot) (blind : (s : Slot) → isFree s ≡ tru
   find-put [] r h = absurd (false≢true r)
   find-put (s ∷ l) r h = go (isFree s) refl r (λ r′ h′. find-put l r′ h′)
     where
-      late : (u : Bool) → p s ≡ u → (p x ≡ true → (u || any p l) ≡ false) → find p (putSlot x l) ≡ cond (p x) (some x) (find p l) → cond u (some s) (find p (putSlot x l)) ≡ cond (p x) (some x) (cond u (some s) (find p l))
-      late true u h e = cases (p x) (λ t. absurd (true≢false (h t))) (λ t. rw t)
-      late false u h e = e
+      later : (u : Bool) → p s ≡ u → (p x ≡ true → (u || any p l) ≡ false) → find p (putSlot x l) ≡ cond (p x) (some x) (find p l) → cond u (some s) (find p (putSlot x l)) ≡ cond (p x) (some x) (cond u (some s) (find p l))
+      later true u h e = cases (p x) (λ t. absurd (true≢false (h t))) (λ t. rw t)
+      later false u h e = e
 
       go : (t : Bool) → isFree s ≡ t → (t || any isFree l) ≡ true → (any isFree l ≡ true → (p x ≡ true → any p l ≡ false) → find p (putSlot x l) ≡ cond (p x) (some x) (find p l)) → find p (cond t (x ∷ l) (s ∷ putSlot x l)) ≡ cond (p x) (some x) (cond (p s) (some s) (find p l))
       go true t r k = rw (blind s t)
-      go false t r k = late (p s) refl h (k r (λ t′. or-right (p s) _ (h t′)))
+      go false t r k = later (p s) refl h (k r (λ t′. or-right (p s) _ (h t′)))
 
   pub count-put : (l : List Slot) → any isFree l ≡ true → countOf p (putSlot x l) ≡ cond (p x) 1 0 + countOf p l
   unfolding any countOf putSlot
   count-put [] r = absurd (false≢true r)
   count-put (s ∷ l) r = go (isFree s) refl r (λ r′. count-put l r′)
     where
-      late : (u v : Bool) → countOf p (putSlot x l) ≡ cond v 1 0 + countOf p l → cond u (suc (countOf p (putSlot x l))) (countOf p (putSlot x l)) ≡ cond v 1 0 + cond u (suc (countOf p l)) (countOf p l)
-      late true true e = omega arith
-      late true false e = omega arith
-      late false true e = omega arith
-      late false false e = omega arith
+      later : (u v : Bool) → countOf p (putSlot x l) ≡ cond v 1 0 + countOf p l → cond u (suc (countOf p (putSlot x l))) (countOf p (putSlot x l)) ≡ cond v 1 0 + cond u (suc (countOf p l)) (countOf p l)
+      later true true e = omega arith
+      later true false e = omega arith
+      later false true e = omega arith
+      later false false e = omega arith
 
       now : (v : Bool) → cond v (suc (countOf p l)) (countOf p l) ≡ cond v 1 0 + countOf p l
       now true = omega arith
@@ -60,7 +59,7 @@ module _ (p : Slot → Bool) (x : Slot) (blind : (s : Slot) → isFree s ≡ tru
 
       go : (t : Bool) → isFree s ≡ t → (t || any isFree l) ≡ true → (any isFree l ≡ true → countOf p (putSlot x l) ≡ cond (p x) 1 0 + countOf p l) → countOf p (cond t (x ∷ l) (s ∷ putSlot x l)) ≡ cond (p x) 1 0 + cond (p s) (suc (countOf p l)) (countOf p l)
       go true t r k = rw (blind s t) (now (p x))
-      go false t r k = late (p s) (p x) (k r)
+      go false t r k = later (p s) (p x) (k r)
 
 pub mem-put : (x : Slot) (l : List Slot) (s : Slot) → List·Memᴰ s (putSlot x l) → (s ≡ x) ⊎ List·Memᴰ s l
 unfolding putSlot

@@ -40,9 +40,12 @@ same-carried c = record { message = carried-message c; present = carried-any c }
 pub same-put : (x : Slot) (l : List Slot) → any isFree l ≡ true → (k : Key) → of k x ≡ false → SameUnder k l k (putSlot x l)
 same-put x l room k e = record { message = put-other x l room k e; present = put-any-of x l room k ∙ rw e }
 
+-- No two slots of one message have the same index.
 abbrev pub Unique : List Slot → Type 0
 Unique l = (k : Key) (i : ℕ) → countOf (sits k i) l ≤ 1
 
+-- The slots hold what step 4's state o holds: under each channel and number the same held message; and o's line is what was handed out and then the
+-- n ready messages, whose turns are those from lo on.
 pub record Outs (o : Out) (next : ℕ → ℕ) (l : List Slot) (lo n : ℕ) (handed : List Message) : Type 0 where
   pub next-same : o .next ≡ next
   pub held : (c k : ℕ) → find (isAt c k) (o .held) ≡ messageAt (heldAs c k) l

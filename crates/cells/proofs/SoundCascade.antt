@@ -16,13 +16,14 @@ use Rattle.base.proofs.Lists.{any-true}
 use Rattle.base.proofs.Counts.{count-length}
 use Rattle.line.specs.Bare.{bump}
 use Rattle.line.proofs.Tests.{bump-same, bump-other}
-use Rattle.cells.specs.Cell.{Slot, Key, openAs, heldAs, readyAs, of, allThere, mark, turnTo}
+use Rattle.cells.specs.Cell.{Slot, Key, openAs, heldAs, readyAs, of, allThere, turnTo}
 use Rattle.cells.specs.Datagram.{Work, made, rise, isHeld, goOn, cascade, follows}
 use Rattle.cells.proofs.Keys.{useOf, key-used}
 use Rattle.cells.proofs.Moves.{of-mark, of-mark-ready, of-held, ready-others, ready-gone, ready-held}
 use Rattle.cells.proofs.Cascade.{cascade-stops}
-use Rattle.cells.proofs.SoundCore.{Core, Lack, same-or-apart, core-turn, lack-turn}
+use Rattle.cells.proofs.SoundCore.{Core, Lack, same-or-apart, Target, core-turn, lack-turn}
 
+-- Sound, while a datagram is worked on: all turns are below the next one.
 pub record Sound (next : ℕ → ℕ) (l : List Slot) (T : ℕ) : Type 0 where
   pub core : Core l
   pub lack : Lack l
@@ -47,7 +48,7 @@ module _ (k₀ : Key) (T : ℕ) (l : List Slot) (v : Core l) (b : (t : ℕ) → 
   pub ready-core : Core (turnTo k₀ 3 T l)
   ready-core = core-turn k₀ 3 T l v (λ s. of-mark k₀ 3 T s (λ q. ne (sym q))) (omega arith) target
     where
-      target : (k : Key) → ((s : Slot) → List·Memᴰ s l → of k₀ s ≡ true → of k (mark 3 T s) ≡ false) ⊎ (((s : Slot) → List·Memᴰ s l → of k₀ s ≡ true → of k (mark 3 T s) ≡ true) × (any (of k) l ≡ false) × ((s : Slot) → List·Memᴰ s l → of k₀ s ≡ true → allThere k₀ l (s .cell .count) ≡ true))
+      target : (k : Key) → Target k₀ 3 T l k
       target (openAs id) = inl (λ s m y. of-mark (openAs id) 3 T s (λ q. omega arith))
       target (heldAs c o) = inl (λ s m y. of-mark (heldAs c o) 3 T s (λ q. omega arith))
       target (readyAs t) = cases (eqb T t)

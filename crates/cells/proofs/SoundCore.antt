@@ -19,6 +19,7 @@ use Rattle.cells.proofs.Keys.{useOf, key-used, sits-of, sits-not, none-
 use Rattle.cells.proofs.Ready.{Unique}
 use Rattle.cells.proofs.Moves.{of-apart, of-mark, of-held}
 
+-- "values and body lengths obey the limits"; use 4 only while a datagram is worked on.
 pub record Bounds (s : Slot) : Type 0 where
   pub used : s .cell .used ≤ 4
   pub kind : s .cell .kind ≤ 7
@@ -30,6 +31,7 @@ pub record Bounds (s : Slot) : Type 0 where
   pub index : s .cell .index < s .cell .count
   pub length : s .cell .length ≤ cellBytes
 
+-- Two cells of a message "agree as in step 3".
 pub record Agreeing (s s′ : Slot) : Type 0 where
   pub count : s .cell .count ≡ s′ .cell .count
   pub kind : s .cell .kind ≡ s′ .cell .kind
@@ -43,6 +45,7 @@ agreeing-refl s = record { count = refl; kind = refl; sequence = refl; order = r
 agreeing-sym : {s s′ : Slot} → Agreeing s s′ → Agreeing s′ s
 agreeing-sym a = record { count = sym (a .count); kind = sym (a .kind); sequence = sym (a .sequence); order = sym (a .order); channel = sym (a .channel) }
 
+-- What holds of sound slots at any time: limits, one cell an index, agreeing pieces, and held and ready messages lack no index.
 pub record Core (l : List Slot) : Type 0 where
   pub bounds : (s : Slot) → List·Memᴰ s l → isFree s ≡ false → Bounds s
   pub unique : Unique l
@@ -102,7 +105,7 @@ module _ (h : Slot → Slot) (l : List Slot) (v : Core l) (b : (s : Slot) → Li
 pub from-same : (h : Slot → Slot) (l : List Slot) → Core l → (k : Key) → Carried k k h l → Source h l k
 from-same h l v k c = from k c (v .full k)
 
--- The open messages lack an index; all but one of them.
+-- Every open message lacks an index.
 abbrev pub Lack : List Slot → Type 0
 Lack l = (id : ℕ) (s : Slot) → List·Memᴰ s l → of (openAs id) s ≡ true → allThere (openAs id) l (s .cell .count) ≡ false
 
@@ -177,18 +180,18 @@ pub bounds-mark : (u t : ℕ) (s : Slot) → u ≤ 4 → Bounds s → Bounds (ma
 unfolding mark markCell
 bounds-mark u t s le b = record { used = le; kind = b .kind; channel = b .channel; sequence = b .sequence; order = b .order; some-count = b .some-count; count = b .count; index = b .index; length = b .length }
 
--- AllSized slots of a key get another use.
-module _ (k₀ : Key) (u t : ℕ) (l : List Slot) (v : Core l) (away : (s : Slot) → of k₀ (mark u t s) ≡ false) (le : u ≤ 4) where
-  -- A key whose cells they do not become, or do become.
-  abbrev Target : Key → Type 0
-  Target k = ((s : Slot) → List·Memᴰ s l → of k₀ s ≡ true → of k (mark u t s) ≡ false)
-      ⊎ (((s : Slot) → List·Memᴰ s l → of k₀ s ≡ true → of k (mark u t s) ≡ true) × (any (of k) l ≡ false) × ((s : Slot) → List·Memᴰ s l → of k₀ s ≡ true → allThere k₀ l (s .cell .count) ≡ true))
+-- Slots of a key that get another use do not become a key's cells; or they do, where it had none and they lack no index.
+abbrev pub Target : Key → ℕ → ℕ → List Slot → Key → Type 0
+Target k₀ u t l k = ((s : Slot) → List·Memᴰ s l → of k₀ s ≡ true → of k (mark u t s) ≡ false)
+    ⊎ (((s : Slot) → List·Memᴰ s l → of k₀ s ≡ true → of k (mark u t s) ≡ true) × (any (of k) l ≡ false) × ((s : Slot) → List·Memᴰ s l → of k₀ s ≡ true → allThere k₀ l (s .cell .count) ≡ true))
 
+-- All slots of a key get another use.
+module _ (k₀ : Key) (u t : ℕ) (l : List Slot) (v : Core l) (away : (s : Slot) → of k₀ (mark u t s) ≡ false) (le : u ≤ 4) where
   turned-gone : any (of k₀) (map (change (of k₀) (mark u t)) l) ≡ false
   unfolding change
   turned-gone = any-map (of k₀) (λ s. false) (change (of k₀) (mark u t)) l (λ s m. cases (of k₀ s) (λ y. rw y (away s)) (λ y. rw y y)) ∙ any-all (λ s. false) l (λ s m. refl)
 
-  turned-source : (k : Key) → (k ≡ k₀) ⊎ ((s : Slot) → of k₀ s ≡ true → of k s ≡ false) → Target k → Source (change (of k₀) (mark u t)) l k
+  turned-source : (k : Key) → (k ≡ k₀) ⊎ ((s : Slot) → of k₀ s ≡ true → of k s ≡ false) → Target k₀ u t l k → Source (change (of k₀) (mark u t)) l k
   turned-source k (inl q) g = gone (rw q turned-gone)
   turned-source k (inr a) (inl g) = from-same _ l v k (carried-other k (of k₀) (mark u t) l (λ s m y. (a s y, g s m y)))
   turned-source k (inr a) (inr g) = from k₀ (carried-moved k₀ k u t l (g .0) (g .1)) (λ ne. g .2)
@@ -197,7 +200,7 @@ module _ (k₀ : Key) (u t : ℕ) (l : List Slot) (v : Core l) (away : (s : Slot
   unfolding change
   turned-bounds s m = cases (of k₀ s) (λ y. rw y (λ e. bounds-mark u t s le (v .bounds s m (key-used k₀ s y)))) (λ y. rw y (λ e. v .bounds s m e))
 
-  pub core-turn : ((k : Key) → Target k) → Core (turnTo k₀ u t l)
+  pub core-turn : ((k : Key) → Target k₀ u t l k) → Core (turnTo k₀ u t l)
   unfolding turnTo mapIf
   core-turn g = core-map (change (of k₀) (mark u t)) l v turned-bounds (λ k. turned-source k (same-or-apart k₀ k) (g k))
 

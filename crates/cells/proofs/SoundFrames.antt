@@ -15,14 +15,14 @@ use Rattle.base.proofs.Lists.{any-false}
 use Rattle.line.specs.Frame.{Frame, ordered, inLimits, message}
 use Rattle.line.specs.Bare.{seenBefore}
 use Rattle.line.proofs.Tests.{piece-limits, isAt-true}
-use Rattle.cells.specs.Cell.{Slot, Key, openAs, heldAs, readyAs, bears, of, isFree, allThere, clash, mark, turnTo, putSlot, slotOf}
+use Rattle.cells.specs.Cell.{Slot, Key, openAs, heldAs, readyAs, bears, of, isFree, allThere, clash, turnTo, putSlot, slotOf}
 use Rattle.cells.specs.Datagram.{Work, dropOne, fillUp, place, made, acceptIn, isHeld, Fate, late, early, due, free, fate, fateOf, roomy, whole, joins, kept, piece, keepIn, frame, frames}
 use Rattle.cells.specs.Sound.{Readable}
 use Rattle.cells.proofs.PutSlot.{mem-put}
 use Rattle.cells.proofs.Keys.{of-used, no-key-of-4, put-any-of}
 use Rattle.cells.proofs.Moves.{of-apart, of-mark, of-mark-held, ready-held, held-others, held-ready, drop-other, put-unique}
 use Rattle.cells.proofs.FrameSlot.{of-slot-held, of-slot-ready, of-slot-other, slot-index, slot-count, put-fresh, fresh-held, fresh-ready, fresh-piece, Agrees, agrees-no-clash, agrees-new, agrees-put}
-use Rattle.cells.proofs.SoundCore.{Bounds, Agreeing, Core, Lack, there-put, core-put, core-turn, lack-turn}
+use Rattle.cells.proofs.SoundCore.{Bounds, Agreeing, Core, Lack, there-put, core-put, Target, core-turn, lack-turn}
 use Rattle.cells.proofs.SoundCascade.{Sound, fresh, ready-core, ready-below, follows-sound}
 
 slot-bounds : (f : Frame) (u t : ℕ) → Readable f → inLimits f ≡ true → u ≤ 4 → Bounds (slotOf f u t)
@@ -208,7 +208,7 @@ module _ (f : Frame) (w : Work) (ok : Readable f) (agree : (s : Slot) → List·
         its : (c o : ℕ) (s : Slot) → (s .cell .channel ≡ f .channel) × (s .cell .order ≡ f .order) → (eqb (s .cell .channel) c && eqb (s .cell .order) o) ≡ (eqb (f .channel) c && eqb (f .order) o)
         its c o s p = cc (p .0, p .1)
 
-        target : (k : Key) → ((s : Slot) → List·Memᴰ s (w .slots) → of (openAs (f .id)) s ≡ true → of k (mark 2 0 s) ≡ false) ⊎ (((s : Slot) → List·Memᴰ s (w .slots) → of (openAs (f .id)) s ≡ true → of k (mark 2 0 s) ≡ true) × (any (of k) (w .slots) ≡ false) × ((s : Slot) → List·Memᴰ s (w .slots) → of (openAs (f .id)) s ≡ true → allThere (openAs (f .id)) (w .slots) (s .cell .count) ≡ true))
+        target : (k : Key) → Target (openAs (f .id)) 2 0 (w .slots) k
         target (openAs id) = inl (λ s m y. of-mark (openAs id) 2 0 s (λ q. omega arith))
         target (readyAs u) = inl (λ s m y. of-mark (readyAs u) 2 0 s (λ q. omega arith))
         target (heldAs c o) = cases (eqb (f .channel) c && eqb (f .order) o)
@@ -249,6 +249,7 @@ frame-sound f w ok v = byBool SoundIn (seenBefore f (w .accepted)) (λ t. v)
     (λ z. whole-sound (fateOf f (acceptIn f w)) f (acceptIn f w) ok y z (found f (acceptIn f w)) v))
     (λ y. v))
 
+-- Every frame that came from bytes keeps the slots sound.
 pub frames-sound : (fs : List Frame) (w : Work) → ((f : Frame) → List·Memᴰ f fs → Readable f) → SoundIn w → SoundIn (frames w fs)
 unfolding frames
 frames-sound [] w ok v = v

@@ -123,7 +123,7 @@ freed-rest next l k v = record {
         go (inl q) = inr (rw q (lost k l))
         go (inr a) = inl (λ s m y. a s y)
 
--- Take.
+-- A take leaves sound cells.
 pub take-rest : (next : ℕ → ℕ) (l : List Slot) (t : Taken) → Rest next l → taking l ≡ some t → Rest next (t .slots)
 take-rest next l t v e = let f = taken-freed l t e in subst (Rest next) (sym (f .1)) (freed-rest next l (readyAs (f .0)) v)
 
@@ -204,7 +204,7 @@ module _ (next : ℕ → ℕ) (l : List Slot) (v : Rest next l) where
           (λ y. rw (retime-yes (rank l) s y) (λ e. bounds-mark 3 (rank l (s .cell .turn)) s (omega arith) (v .core .bounds s m (key-used (readyAs (s .cell .turn)) s (ready-key s y)))))
           (λ y. rw (retime-no (rank l) s y) (λ e. v .core .bounds s m e))
 
--- A datagram.
+-- A datagram leaves sound cells.
 pub datagram-rest : (s : State) (fs : List Frame) → ((f : Frame) → List·Memᴰ f fs → Readable f) → Rest (s .next) (s .slots) → Rest (end (datagram s fs) .next) (end (datagram s fs) .slots)
 unfolding datagram begin
 datagram-rest s fs ok v = end-rest (datagram s fs) (frames-sound fs (begin s) ok (begin-sound (s .next) (s .slots) v))

@@ -151,6 +151,7 @@ module _ (next : ℕ → ℕ) (l : List Slot) where
     unfolding isFree
     free-least s y = let p = eqb-true (s .cell .used) 0 y in omega arith
 
+    -- What the test `sound` passes is sound.
     pub sound-rest : Rest next l
     unfolding sound
     sound-rest = record {
@@ -219,6 +220,7 @@ module _ (next : ℕ → ℕ) (l : List Slot) where
         (λ y. rw y)
         (λ y. is-used (cellsOf l) next (s .cell) y (rest-used s m y))
 
+    -- What is sound passes the test.
     pub rest-sound : sound (cellsOf l) next ≡ true
     unfolding sound cellsOf
     rest-sound = and-both _ _ (every-all (soundCell (cellsOf l) next) (cellsOf l) (λ c m. one c (Memᴰ·of-map (λ (s : Slot). s .cell) l m))) (below-all maxOrdChans (λ c. leb (next c) numbers24) (λ c lt. le-leb _ _ (v .nexts c (omega arith))))

@@ -78,6 +78,7 @@ module _ (x : Fate) (a : ℕ → Bool) (ps : List Piece) (h : List Message) (m :
   unfolding settle follows rise quiet
   due-sim ne e = cascades a ps (w .ready) (w .dropped) h (length (o .held)) (m .channel) (emit m (quiet o 0)) (rise (m .channel) (made l₃ w)) (emit-not-longer m (quiet o 0)) (emit-sim ne e)
 
+  -- Step 4 does to the slots what it does to the bare receiver.
   pub deliver-sim : fate (m .kind) (m .channel) (m .order) w ≡ x → Sim (answer a ps (deliver m o)) (settle x (m .channel) w l₂ l₃ l₄) (w .ready) (w .dropped) h
   unfolding deliver queue fate
   deliver-sim is = cases (ordered (m .kind))

@@ -25,6 +25,7 @@ use Rattle.cells.proofs.PutSlot.{mem-put, put-length}
 use Rattle.cells.proofs.Keys.{key-used}
 use Rattle.cells.proofs.Takes.{taken-freed}
 
+-- A body is as long as its record says, and no longer than a cell; an unused slot has none.
 pub record Sized (s : Slot) : Type 0 where
   pub none : isFree s ≡ true → s .body ≡ []
   pub exact : isFree s ≡ false → length (s .body) ≡ s .cell .length

@@ -100,6 +100,7 @@ module _ {o : Out} {next : ℕ → ℕ} {l : List Slot} {lo n : ℕ} {h : List M
   renumber-unique (heldAs c k) i = rw (carried-count (retime-other (rank l) l (heldAs c k) (λ q. omega arith)) i) (v .unique (heldAs c k) i)
   renumber-unique (readyAs t) i = rw (carried-count (renumber-carried t) i) (v .unique (readyAs (t + lo)) i)
 
+  -- The held and the ready messages with turns from 0 on.
   pub renumber-outs : Outs o next (renumber l) 0 (countOf isFirst l) h
   unfolding renumber mapIf retime
   renumber-outs = rw first-count (record {
@@ -121,6 +122,7 @@ module _ {o : Out} {next : ℕ → ℕ} {l : List Slot} {lo n : ℕ} {h : List M
       shift : (n : ℕ) → ((t : ℕ) → messageAt (readyAs t) (renumber l) ≡ messageAt (readyAs (t + lo)) l) → readyLine (renumber l) 0 n ≡ readyLine l lo n
       shift n e = readyLine-shift (renumber l) l lo e n
 
+-- The open pieces are left alone.
 pub renumber-pieces : (ps : List Piece) (l : List Slot) → Pieces ps l → Pieces ps (renumber l)
 unfolding renumber
 renumber-pieces ps l v = pieces-other isReady (λ s. mark 3 (rank l (s .cell .turn)) s) ps l (λ s m y. (isOpen-used s 3 (ready-used s y) (λ q. omega arith), isOpen-mark 3 (rank l (s .cell .turn)) s (λ q. omega arith))) v

@@ -115,7 +115,7 @@ unfoldable pub putSlot : Slot → List Slot → List Slot
 putSlot x [] = []
 putSlot x (s ∷ l) = cond (isFree s) (x ∷ l) (s ∷ putSlot x l)
 
--- a frame's slot: a whole frame is its message's only piece, index 0 of count 1
+-- a frame's slot: a whole frame is its message's only piece, index 0 of count 1 (its id is 0, as read)
 unfoldable pub slotOf : Frame → ℕ → ℕ → Slot
 slotOf f u t = record {
   cell = record { used = u; id = f .id; index = cond (f .piece) (f .index) 0; length = length (f .body); kind = f .kind; channel = f .channel; count = cond (f .piece) (f .count) 1; sequence = f .sequence; order = f .order; turn = t };

@@ -78,7 +78,7 @@ whole early f w = roomy w (place (putSlot (slotOf f 2 0) (w .slots)) w)
 whole due f w = roomy w (follows (f .channel) (made (putSlot (slotOf f 3 (w .turn)) (w .slots)) w))
 whole free f w = roomy w (made (putSlot (slotOf f 3 (w .turn)) (w .slots)) w)
 
--- A joined message's slots are there already; "joining closes the id": they are open no more.
+-- A joined message's slots are there already; "joining closes the id": they are open no more. "a joined message dropped in 4 counts one"
 unfoldable pub joins : Fate → Frame → Work → Work
 joins late f w = dropOne (place (turnTo (openAs (f .id)) 4 0 (w .slots)) w)
 joins early f w = place (turnTo (openAs (f .id)) 2 0 (w .slots)) w

@@ -7,4 +7,6 @@ pub mod InOrder
 pub mod Feed
 pub mod Same
 pub mod IsBook
-pub mod Examples
+pub mod Shown
+pub mod ByExample
+pub mod ByExampleBook

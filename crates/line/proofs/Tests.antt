@@ -6,6 +6,7 @@ use mathlib.Core.Bool.{true, false, _&&_}
 use mathlib.Core.List.{List·Memᴰ}
 use native.Mathlib.Omega.{arith}
 use lib.ListN.{length}
+use native.Mathlib.Numerals.{add-one}
 use lib.Dec.{ltb, leb, eqb}
 use borrow.Author.Tests.{ltb-true, leb-true, eqb-true, eqb-false, eq-eqb, ne-eqb}
 use Rattle.base.specs.Limits.{maxOrdChans, maxFrags}
@@ -73,7 +74,7 @@ body-of f g e = ap (λ (p : Piece). p .body) e
 
 pub bump-same : (c : ℕ) (next : ℕ → ℕ) (d : ℕ) → d ≡ c → bump c next d ≡ suc (next d)
 unfolding bump
-bump-same c next d e = rw (eq-eqb d c e)
+bump-same c next d e = rw (eq-eqb d c e) (add-one (next d))
 
 pub bump-other : (c : ℕ) (next : ℕ → ℕ) (d : ℕ) → (d ≡ c → ⊥) → bump c next d ≡ next d
 unfolding bump

@@ -8,7 +8,7 @@ use native.Mathlib.Omega.{arith}
 use borrow.Author.Tests.{lt-ltb, le-ltb}
 use Rattle.base.specs.Limits.{windowPlaces}
 use Rattle.base.proofs.Ifs.{true-yes, true-no, le-yes, le-no, eq-yes, eq-no}
-use Rattle.window.specs.Numbers.{behind, distance}
+use Rattle.base.specs.Numbers.{behind, distance}
 use Rattle.window.specs.Places.{placeSet}
 use Rattle.window.specs.Window.{accepted}
 use Rattle.window.specs.declared.ReliableWindow.{ReliableWindow}

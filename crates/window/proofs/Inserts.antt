@@ -10,7 +10,7 @@ use lib.ListN.{length-set}
 use borrow.Author.Tests.{eq-eqb, ne-eqb}
 use Rattle.base.specs.Limits.{numbers24, windowPlaces}
 use Rattle.base.proofs.Ifs.{true-yes, true-no, lt-yes, lt-no, le-yes, le-no, eq-yes, eq-no}
-use Rattle.window.specs.Numbers.{next}
+use Rattle.base.specs.Numbers.{following}
 use Rattle.window.specs.Places.{placeSet, setPlace}
 use Rattle.window.specs.Window.{accepted, advance, withPlace, accept, Insertion, refuse, give, insertOf}
 use Rattle.window.specs.Proper.{Sized}
@@ -61,9 +61,9 @@ pub is-n : (m n : ℕ) (x : Bool) → m ≡ n → eqb m n || x ≡ true
 is-n m n x h = rw (eq-eqb m n h)
 
 -- n is low: what is accepted from n + 1 on, before low moves
-after-low : (w : ReliableWindow) (n m : ℕ) → n ≡ w .low → moving (record { low = next n; bits = w .bits }) m ≡ (eqb m n || accepted w m)
+after-low : (w : ReliableWindow) (n m : ℕ) → n ≡ w .low → moving (record { low = following n; bits = w .bits }) m ≡ (eqb m n || accepted w m)
 after-low w n m d =
-    let v : ReliableWindow = record { low = next n; bits = w .bits } in
+    let v : ReliableWindow = record { low = following n; bits = w .bits } in
     zones (moving v m ≡ (eqb m n || accepted w m)) (w .low) m
     (λ h. moving-below v m (omega arith) ∙ sym (not-n m n _ (omega arith) ∙ accepted-below w m h))
     (λ h. moving-below v m (omega arith) ∙ sym (is-n m n _ (omega arith)))
@@ -87,7 +87,7 @@ with-place-accepts w n m s p q z =
     within h k (no d) = accepted-place (withPlace w n) m h k ∙ set-other (w .bits) n s z m (omega arith) ∙ sym (not-n m n _ d ∙ accepted-place w m h k)
 
 module _ (w : ReliableWindow) (n : ℕ) where
-  accept-is-low : n ≡ w .low → accept w n ≡ advance windowPlaces (record { low = next n; bits = w .bits })
+  accept-is-low : n ≡ w .low → accept w n ≡ advance windowPlaces (record { low = following n; bits = w .bits })
   unfolding accept
   accept-is-low h = sym (eq-yes _ _ _ _ _ h refl)
 
@@ -99,7 +99,7 @@ module _ (w : ReliableWindow) (n : ℕ) where
   accept-accepts m s t k = go (ℕ-discrete n (w .low))
     where
       go : Dec (n ≡ w .low) → accepted (accept w n) m ≡ (eqb m n || accepted w m)
-      go (yes e) = rw (accept-is-low e) (advance-keeps-accepted (record { low = next n; bits = w .bits }) m s ∙ after-low w n m e)
+      go (yes e) = rw (accept-is-low e) (advance-keeps-accepted (record { low = following n; bits = w .bits }) m s ∙ after-low w n m e)
       go (no d) =
           let l : w .low ≤ n = low-le w n t in
           rw (accept-is-place d) (with-place-accepts w n m s (omega arith) k (place-clear w n t (omega arith) d))
@@ -109,5 +109,5 @@ module _ (w : ReliableWindow) (n : ℕ) where
   accept-sized s = go (ℕ-discrete n (w .low))
     where
       go : Dec (n ≡ w .low) → Sized (accept w n)
-      go (yes e) = rw (accept-is-low e) (advance-sized windowPlaces (record { low = next n; bits = w .bits }) s)
+      go (yes e) = rw (accept-is-low e) (advance-sized windowPlaces (record { low = following n; bits = w .bits }) s)
       go (no d) = rw (accept-is-place d) (simp length-set s)

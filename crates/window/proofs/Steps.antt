@@ -12,7 +12,7 @@ use Rattle.base.specs.Limits.{numbers24, windowPlaces}
 use Rattle.base.specs.Put.{Run}
 use Rattle.base.proofs.Ifs.{eq-yes, lt-yes, lt-no, by-yes, by-no}
 use Rattle.base.proofs.Puts.{run-none, run-then}
-use Rattle.window.specs.Numbers.{next, ahead}
+use Rattle.base.specs.Numbers.{following, ahead}
 use Rattle.window.specs.Places.{placeSet}
 use Rattle.window.specs.Window.{accepted, advance, passed, accept, give}
 use Rattle.window.specs.Missing.{highest, unlessAccepted, missingOf, missing}
@@ -38,7 +38,7 @@ pub passed-low : (k m : ℕ) (w v : ReliableWindow) → 0 < k → v ≡ passed w
 passed-low k m w v z d h = let e : v .low ≡ w .low + 1 = ap (λ (x : ReliableWindow). x .low) d in omega arith
 
 -- ---- a number is accepted
-pub accept-low : (w v : ReliableWindow) (n a : ℕ) → n ≡ w .low → a ≡ next n → v ≡ advance windowPlaces (record { low = a; bits = w .bits }) → v ≡ accept w n
+pub accept-low : (w v : ReliableWindow) (n a : ℕ) → n ≡ w .low → a ≡ following n → v ≡ advance windowPlaces (record { low = a; bits = w .bits }) → v ≡ accept w n
 unfolding accept
 accept-low w v n a h e f = eq-yes _ _ _ _ _ h (rw e at f)
 

@@ -4,7 +4,7 @@ use mathlib.Core.List.{List, [], _∷_}
 use Rattle.base.specs.If.{ifTrue, ifLt}
 use Rattle.base.specs.Limits.{numbers24, windowPlaces}
 use Rattle.base.specs.Put.{andThen}
-use Rattle.window.specs.Numbers.{ahead}
+use Rattle.base.specs.Numbers.{ahead}
 use Rattle.window.specs.Places.{placeSet}
 use Rattle.window.specs.Window.{accepted}
 use Rattle.window.specs.declared.ReliableWindow.{ReliableWindow}

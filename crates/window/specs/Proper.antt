@@ -4,7 +4,7 @@ use mathlib.Core.Bool.{false}
 use mathlib.Core.Path.{_≡_}
 use lib.ListN.{length}
 use Rattle.base.specs.Limits.{numbers24, windowPlaces}
-use Rattle.window.specs.Numbers.{ahead}
+use Rattle.base.specs.Numbers.{ahead}
 use Rattle.window.specs.Places.{placeSet}
 use Rattle.window.specs.declared.ReliableWindow.{ReliableWindow}
 

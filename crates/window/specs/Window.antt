@@ -6,7 +6,7 @@ use lib.ListN.{replicate}
 use Rattle.base.specs.Answer.{Answer, refused, gives}
 use Rattle.base.specs.If.{ifTrue, ifLt, ifLe, ifEq}
 use Rattle.base.specs.Limits.{numbers24, windowPlaces}
-use Rattle.window.specs.Numbers.{behind, distance, next}
+use Rattle.base.specs.Numbers.{behind, distance, following}
 use Rattle.window.specs.Places.{placeSet, setPlace, clearPlace}
 use Rattle.window.specs.declared.ReliableWindow.{ReliableWindow}
 use Rattle.window.specs.declared.Insert.{Insert}
@@ -30,7 +30,7 @@ withPlace w n = record { low = w .low; bits = setPlace (w .bits) n }
 
 -- low moves past one accepted number, whose place is cleared
 abbrev pub passed : ReliableWindow → ReliableWindow
-passed w = record { low = next (w .low); bits = clearPlace (w .bits) (w .low) }
+passed w = record { low = following (w .low); bits = clearPlace (w .bits) (w .low) }
 
 -- low moves past the accepted numbers from it on, at most k of them
 unfoldable pub advance : ℕ → ReliableWindow → ReliableWindow
@@ -41,7 +41,7 @@ advance (suc k) w = let rest = advance k (passed w) in ifTrue (placeSet (w .bits
 -- follow n that have a place.
 unfoldable pub accept : ReliableWindow → ℕ → ReliableWindow
 accept w n =
-    ifEq n (w .low) (advance windowPlaces (record { low = next n; bits = w .bits })) (withPlace w n)
+    ifEq n (w .low) (advance windowPlaces (record { low = following n; bits = w .bits })) (withPlace w n)
 
 -- what an insert comes to: document 01's answer, and the window afterwards
 pub record Insertion : Type 0 where

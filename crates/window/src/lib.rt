@@ -6,7 +6,7 @@ ghost use mathlib.Core.List.{_∷_, []};
 ghost use Prim.Native.Nat.{_<_, _≤_, _+_, _^_};
 ghost use Rattle.base.specs.Limits.{numbers24, windowPlaces};
 ghost use Rattle.base.specs.Put.{Run};
-ghost use Rattle.window.specs.Numbers as Numbers;
+ghost use Rattle.base.specs.Numbers as Numbers;
 ghost use Rattle.window.specs.Places.{placeByte, placeBit, placeSet};
 ghost use Rattle.window.specs.Window.{newWindow, withPlace, passed, advance, insertOf, insertion};
 ghost use Rattle.window.specs.Window as Window;
@@ -228,7 +228,7 @@ fn power(n: u32) -> u8
     1u8 << (n % 8)
 }
 
-// The order of numbers: specs/Numbers.antt.
+// The order of numbers: base's specs/Numbers.antt.
 fn behind(base: u32, n: u32) -> bool
     ensures { λ r. ⌜ r ≡ Numbers.behind base n ⌝ }
 {
@@ -251,7 +251,7 @@ fn ahead(base: u32, k: u32) -> u32
 
 fn next(n: u32) -> u32
     requires { ⌜ n + 1 < 2 ^ 32 ⌝ }
-    ensures { λ r. ⌜ r ≡ Numbers.next n ⌝ }
+    ensures { λ r. ⌜ r ≡ Numbers.following n ⌝ }
 {
     ahead(n, 1)
 }
