@@ -1,15 +1,15 @@
 #!/usr/bin/env python3
-"""Makes crates/wire/stdin and crates/wire/stdout: items for the program `wire`, and the lines that it must print.
+"""Makes stdin and stdout of the programs wire_frames, wire_acks and wire_windows: their items, and the lines that they must print.
 
 The answers come from this file's own reading and writing of frames, acknowledgements, windows and splits, which shares nothing with the
 Rattle code. It was written from the sentences of document 01 alone, in the readings that docs/DECISIONS.md lists: for frames,
 acknowledgements and windows before their Rattle code was looked at; for splits by the hand that had written that crate, in another way.
-The items are the bench lines, the limits, damaged bytes, and random ones from a fixed seed, so that a second run makes the same two files.
+The items are the bench lines, the limits, damaged bytes, and random ones from a fixed seed, so that a second run makes the same files.
 
-An item is a tag (1 byte), a length (16 bits) and a payload; every number of a payload is big-endian. Each answer is one line: a word, then
-'+' and the values, or '-' and document 01's number. Bytes are '=' and hexadecimal; more than 64 of them are '#', how many, ':' and a checksum,
-which is h = (h * 257 + byte + 1) mod 4294967291 over the bytes, from h = 0 (of a list of numbers, over the numbers). A writer's line ends with
-its whole output, which held a pattern before, also after a refusal.
+An item is a tag (1 byte), a length (16 bits) and a payload; every number of a payload is big-endian. Each answer is one line: a word, document
+01's number or 0 where nothing is refused, and the values. A writer's line ends with its whole output, whose bytes were EE before, also after
+a refusal. Of bytes the first 64 are printed, in hexadecimal, and of numbers the first 16, then a checksum of them all:
+h = (h * 257 + value + 1) mod 4294967291 over the values, from h = 0.
 """
 import pathlib
 import random
@@ -20,7 +20,7 @@ MAX_FRAGS = 1024
 REACH = 2048            # a window's places above its low
 MAX_LIST = 2048
 MAX_BODY = 8191
-OUTPUT_SEED = 58791
+UNWRITTEN = 0xEE        # what an output holds before
 DATA_SEED = 11029
 
 # ---- document 01, "Bytes"
@@ -255,7 +255,7 @@ def checksum(values):
 
 
 def shown(data):
-    return "=" + bytes(data).hex() if len(data) <= 64 else f"#{len(data)}:{checksum(data)}"
+    return f" {bytes(data[:64]).hex()} {checksum(data)}"
 
 
 def answer(word, call):
@@ -263,28 +263,50 @@ def answer(word, call):
     try:
         values = call()
     except Refused as r:
-        return f"{word} - {r}"
-    return " ".join([word, "+"] + [str(int(v)) for v in values])
+        return f"{word} {r}"
+    return " ".join([word, "0"] + [str(int(v)) for v in values])
+
+
+def number16(n):
+    return n.to_bytes(2, "big")
+
+
+def number32(n):
+    return n.to_bytes(4, "big")
 
 
 class Items:
-    READ_FRAME, READ_FRAMES, READ_ACK, WRITE_FRAME, WRITE_MADE, WRITE_HEAD, WRITE_LIST, WRITE_RUN = range(1, 9)
-    NEW_WINDOW, WINDOW_AT, INSERT, INSERT_RUN, MISSING, SPLIT = range(9, 15)
+    """The items of one program."""
 
-    def __init__(self):
+    def __init__(self, program):
+        self.program = program
         self.input = bytearray()
         self.lines = []
         self.count = 0
-        self.window = Window()
 
     def add(self, tag, payload, *lines):
-        assert len(payload) < 65536
-        self.input += bytes([tag]) + len(payload).to_bytes(2, "big") + payload
+        self.input += bytes([tag]) + number16(len(payload)) + payload
         self.lines += lines
         self.count += 1
 
-    def read_frame(self, s, at=0):
-        body = b""
+    def written(self, word, room, call):
+        out = bytearray([UNWRITTEN] * room)
+        line = answer(word, lambda: call(out))
+        return line + shown(out)
+
+    def save(self):
+        assert len(self.input) < 65536
+        crate = pathlib.Path(__file__).resolve().parent.parent / "crates" / self.program
+        (crate / "stdin").write_bytes(self.input)
+        (crate / "stdout").write_text("\n".join(self.lines) + "\n")
+        print(f"{self.program}: {self.count} items, {len(self.input)} bytes, {len(self.lines)} lines")
+
+
+class Frames(Items):
+    READ, WRITE, HEAD, SPLIT = range(1, 5)
+
+    def read(self, s, at=0):
+        body = None
 
         def call():
             nonlocal body
@@ -292,87 +314,18 @@ class Items:
             body = s[start:after]
             return f.values() + [start, length, after]
         line = answer("frame", call)
-        self.add(self.READ_FRAME, at.to_bytes(2, "big") + s, line + ("" if "-" in line else " " + shown(body)))
+        self.add(self.READ, number16(at) + s, line + ("" if body is None else shown(body)), answer("frames", lambda: read_frames(s, at)))
 
-    def read_frames(self, s, at=4):
-        self.add(self.READ_FRAMES, at.to_bytes(2, "big") + s, answer("frames", lambda: read_frames(s, at)))
-
-    def frame_payload(self, f, room, at):
-        p = room.to_bytes(2, "big") + at.to_bytes(2, "big") + bytes([f.kind])
-        p += b"".join(n.to_bytes(4, "big") for n in (f.reliable, f.sequence, f.order)) + bytes([f.channel, f.piece])
-        return p + f.count.to_bytes(4, "big") + f.id.to_bytes(2, "big") + f.index.to_bytes(4, "big")
-
-    def written(self, word, room, call):
-        out = pattern(room, OUTPUT_SEED)
-        line = answer(word, lambda: call(out))
-        return line + " " + shown(out)
-
-    def write_frame(self, f, body, room=None, at=0):
-        room = at + len(frame_bytes_if(f, body)) + 2 if room is None else room
-        line = self.written("write", room, lambda out: [write_frame(out, at, f, body)])
-        self.add(self.WRITE_FRAME, self.frame_payload(f, room, at) + body, line)
-
-    def write_made(self, f, length, seed, room, at=0):
+    def write(self, f, length, seed=0, room=None, at=0):
         body = bytes(pattern(length, seed))
-        line = self.written("write", room, lambda out: [write_frame(out, at, f, body)])
-        self.add(self.WRITE_MADE, self.frame_payload(f, room, at) + length.to_bytes(2, "big") + seed.to_bytes(2, "big"), line)
+        if room is None:
+            room = at + (2 + length if frame_over_limit(f, body) else len(frame_bytes(f, body)) + 2)
+        payload = number16(room) + number16(at) + bytes([f.kind]) + b"".join(number32(n) for n in (f.reliable, f.sequence, f.order))
+        payload += bytes([f.channel, f.piece]) + number32(f.count) + number16(f.id) + number32(f.index) + number16(length) + number16(seed)
+        self.add(self.WRITE, payload, self.written("write", room, lambda out: [write_frame(out, at, f, body)]))
 
-    def write_head(self, room, number):
-        line = self.written("head", room, lambda out: write_head(out, number) or [])
-        self.add(self.WRITE_HEAD, room.to_bytes(2, "big") + number.to_bytes(4, "big"), line)
-
-    def read_ack(self, s):
-        lines = [answer("ack", lambda: read_ack_header(s))]
-        at, left = 3, int.from_bytes(s[1:3], "big")
-        while "-" not in lines[-1] and left:
-            try:
-                record, at = read_record(s, at)
-                left -= 1
-                lines.append(" ".join([record[0], "+"] + [str(v) for v in (*record[1:], at, left)]))
-            except Refused as r:
-                lines.append(f"record - {r}")
-        self.add(self.READ_ACK, s, *(lines if "-" in lines[-1] else lines + ["end +"]))
-
-    def list_line(self, nack, room, numbers):
-        return self.written("list", room, lambda out: [write_list(out, nack, numbers)])
-
-    def write_list(self, nack, numbers, room=None):
-        room = len(list_bytes(nack, [n % LIMIT_24 for n in numbers])) + 2 if room is None else room
-        payload = room.to_bytes(2, "big") + bytes([nack]) + b"".join(n.to_bytes(4, "big") for n in numbers)
-        self.add(self.WRITE_LIST, payload, self.list_line(nack, room, numbers))
-
-    def write_run(self, nack, count, first, step, room):
-        numbers = [first + step * i for i in range(count)]
-        payload = room.to_bytes(2, "big") + bytes([nack]) + count.to_bytes(2, "big") + first.to_bytes(4, "big") + step.to_bytes(4, "big")
-        self.add(self.WRITE_RUN, payload, self.list_line(nack, room, numbers))
-
-    def new_window(self):
-        self.window = Window()
-        self.add(self.NEW_WINDOW, b"", "new + 0")
-
-    def window_at(self, low):
-        self.window = Window(low)
-        self.add(self.WINDOW_AT, low.to_bytes(4, "big"), f"new + {low}")
-
-    def insert(self, n):
-        line = answer("insert", lambda: self.window.insert(n) or [])
-        self.add(self.INSERT, n.to_bytes(4, "big"), f"{line} {self.window.low}")
-
-    def insert_run(self, first, count):
-        accepted = 0
-        for n in range(first, first + count):
-            try:
-                self.window.insert(n)
-                accepted += 1
-            except Refused:
-                pass
-        self.add(self.INSERT_RUN, first.to_bytes(4, "big") + count.to_bytes(2, "big"), f"run + {accepted} {self.window.low}")
-
-    def missing(self):
-        found = self.window.missing()
-        whole = found + [LIMIT_24 + i for i in range(len(found), MAX_LIST)]
-        first = [str(n) for n in found[:16]]
-        self.add(self.MISSING, b"", " ".join(["missing", "+", str(len(found))] + first + [f"#{MAX_LIST}:{checksum(whole)}"]))
+    def head(self, room, number):
+        self.add(self.HEAD, number16(room) + number32(number), self.written("head", room, lambda out: write_head(out, number) or []))
 
     def split(self, length, mtu, k):
         part = b""
@@ -383,34 +336,86 @@ class Items:
             part = pattern(length, DATA_SEED)[values[0]:values[0] + values[1]]
             return values
         line = answer("piece", call)
-        self.add(self.SPLIT, length.to_bytes(2, "big") + mtu.to_bytes(2, "big") + k.to_bytes(4, "big"), f"{line} {shown(part)}")
+        self.add(self.SPLIT, number16(length) + number16(mtu) + number32(k), line + shown(part))
 
 
-def frame_bytes_if(f, body):
-    """The frame's bytes where it may be written, else as many as its body."""
-    return body if frame_over_limit(f, body) else frame_bytes(f, body)
+class Acks(Items):
+    READ, WRITE_LIST, WRITE_RUN = range(1, 4)
+
+    def read(self, s):
+        """The header, then every record until there is none or a refusal."""
+        lines = []
+
+        def call():
+            nack, at, left = read_ack_header(s)
+            lines.append(answer("ack", lambda: [nack, at, left]))
+            while left:
+                record, at = read_record(s, at)
+                left -= 1
+                lines.append(answer(record[0], lambda: [*record[1:], at, left]))
+            lines.append("end 0")
+        try:
+            call()
+        except Refused as r:
+            lines.append(f"{'record' if lines else 'ack'} {r}")
+        self.add(self.READ, s, *lines)
+
+    def list_line(self, nack, room, numbers):
+        return self.written("list", room, lambda out: [write_list(out, nack, numbers)])
+
+    def write(self, nack, numbers, room=None):
+        room = len(list_bytes(nack, [n % LIMIT_24 for n in numbers])) + 2 if room is None else room
+        payload = number16(room) + bytes([nack]) + b"".join(number32(n) for n in numbers)
+        self.add(self.WRITE_LIST, payload, self.list_line(nack, room, numbers))
+
+    def write_run(self, nack, count, first, step, room):
+        numbers = [first + step * i for i in range(count)]
+        payload = number16(room) + bytes([nack]) + number16(count) + number32((first - step) % 2 ** 32) + number32(step)
+        self.add(self.WRITE_RUN, payload, self.list_line(nack, room, numbers))
+
+
+class Windows(Items):
+    NEW, AT, INSERT, MISSING = range(1, 5)
+
+    def new(self):
+        self.window = Window()
+        self.add(self.NEW, b"", "new 0 0")
+
+    def at(self, low):
+        self.window = Window(low)
+        self.add(self.AT, number32(low), f"at 0 {low}")
+
+    def insert(self, first, count=1):
+        for n in range(first, first + count):
+            line = answer("insert", lambda: self.window.insert(n) or [])
+        self.add(self.INSERT, number32(first) + number16(count), f"{line} {self.window.low}")
+
+    def missing(self):
+        found = self.window.missing()
+        whole = found + [LIMIT_24] * (MAX_LIST - len(found))
+        self.add(self.MISSING, b"", " ".join(str(n) for n in ["missing", 0, len(found), *whole[:16], checksum(whole)]))
 
 
 # ---- document 01, "Bench lines"
 
-def bench_lines(items):
-    items.new_window()
-    items.insert(0)
-    items.insert(0)
-    items.new_window()
-    items.insert(2048)
-    items.insert(2049)
+def bench_lines(frames, acks, windows):
+    windows.new()
+    windows.insert(0)
+    windows.insert(0)
+    windows.new()
+    windows.insert(2048)
+    windows.insert(2049)
     for text in ("60 00 08 00 00 00 01 00 00 00 42", "00 00 00", "00 00 0C 41"):
-        items.read_frame(bytes.fromhex(text))
+        frames.read(bytes.fromhex(text))
     for numbers in ([0], [0, 1], [3, 5, 6, 7]):
-        items.write_list(0, numbers)
+        acks.write(0, numbers)
     for k in (0, 1, 2):
-        items.split(1441, 1500, k)
-    items.split(1440, 1500, 0)
-    items.split(1441, 60, 0)
-    # the datagrams of the program `trace`
-    items.read_frames(bytes.fromhex("84000000 60 0008 000000 010000 00 42"))
-    items.read_frames(bytes.fromhex("84010000 60 0008 010000 000000 00 41"))
+        frames.split(1441, 1500, k)
+    frames.split(1440, 1500, 0)
+    frames.split(1441, 60, 0)
+    # the datagrams of the program `trace`, whose frames begin at place 4
+    frames.read(bytes.fromhex("84000000 60 0008 000000 010000 00 42"), 4)
+    frames.read(bytes.fromhex("84010000 60 0008 010000 000000 00 41"), 4)
 
 
 # ---- the limits
@@ -436,150 +441,150 @@ def changed(f, **fields):
     return Frame(**{**dict(zip(Frame.FIELDS, f.values())), **fields})
 
 
-def frame_limits(items):
+def frame_limits(frames):
     for kind in range(8):
         for piece in (False, True):
             f = carried(kind, piece)
             whole = frame_bytes(f, b"\x41\x42")
-            items.read_frame(whole)
-            items.read_frame(whole[:-1])
-            items.read_frame(whole[:-3])
-            items.read_frame(b"\xFF" * 3 + whole + b"\x99", 3)
-            items.write_frame(f, b"\x41\x42")
-            items.write_frame(f, b"", room=len(whole) - 2)
-            items.write_frame(f, b"\x41\x42", room=len(whole) - 1)
-            items.write_frame(f, b"\x41\x42", room=len(whole) + 5, at=5)
-            items.write_frame(f, b"\x41\x42", room=len(whole) + 4, at=5)
+            frames.read(whole)
+            frames.read(whole[:-1])
+            frames.read(whole[:-3])
+            frames.read(b"\xFF" * 3 + whole + b"\x99", 3)
+            frames.write(f, 2, 7)
+            frames.write(f, 0, room=len(whole) - 2)
+            frames.write(f, 2, 7, room=len(whole) - 1)
+            frames.write(f, 2, 7, room=len(whole) + 5, at=5)
+            frames.write(f, 2, 7, room=len(whole) + 4, at=5)
     for whole in (frame_bytes(carried(7, True), b"\x41"), frame_bytes(carried(4), b"\x41")):
         for length in range(len(whole) + 1):
-            items.read_frame(whole[:length])
+            frames.read(whole[:length])
     for length in range(4):
-        items.read_frame(bytes(length))
-    items.read_frame(b"\x00\x00\x00", 3)
-    items.read_frame(b"\x00\x00\x00", 4)
-    items.read_frame(b"\x0F\x00\x07")
-    items.read_frame(b"\x0F\x00\x08")
-    items.read_frame(b"\x00\xFF\xFF" + bytes(pattern(8191, 7)))
+        frames.read(bytes(length))
+    frames.read(b"\x00\x00\x00", 3)
+    frames.read(b"\x00\x00\x00", 4)
+    frames.read(b"\x0F\x00\x07")
+    frames.read(b"\x0F\x00\x08")
+    frames.read(b"\x00\xFF\xFF" + bytes(pattern(8191, 7)))
     for room in (0, 2, 3):
-        items.write_frame(Frame(), b"", room=room)
-    items.write_frame(Frame(), b"", room=3, at=4)
-    items.write_frame(Frame(), b"", room=3, at=65535)
+        frames.write(Frame(), 0, room=room)
+    frames.write(Frame(), 0, room=3, at=4)
+    frames.write(Frame(), 0, room=3, at=65535)
 
 
-def over_limits(items):
+def over_limits(frames):
     for kind in range(8):
         for name, value in (("reliable", 1), ("sequence", 1), ("order", 1), ("channel", 1)):
-            items.write_frame(Frame(kind=kind, **{name: value}), b"\x05")
+            frames.write(Frame(kind=kind, **{name: value}), 1)
     for kind in (8, 9, 255):
-        items.write_frame(Frame(kind=kind), b"")
+        frames.write(Frame(kind=kind), 0)
     for n in (LIMIT_24 - 1, LIMIT_24, 2 ** 32 - 1):
-        items.write_frame(Frame(kind=4, reliable=n), b"")
-        items.write_frame(Frame(kind=4, sequence=n), b"")
-        items.write_frame(Frame(kind=3, order=n), b"")
+        frames.write(Frame(kind=4, reliable=n), 0)
+        frames.write(Frame(kind=4, sequence=n), 0)
+        frames.write(Frame(kind=3, order=n), 0)
     for channel in (0, 31, 32, 255):
-        items.write_frame(Frame(kind=7, channel=channel), b"")
+        frames.write(Frame(kind=7, channel=channel), 0)
     for count, index in ((0, 0), (1, 0), (1, 1), (2, 2), (1024, 1023), (1024, 1024), (1025, 0), (2 ** 32 - 1, 0), (1024, 2 ** 32 - 1)):
-        items.write_frame(Frame(piece=1, count=count, id=65535, index=index), b"\x06")
-        items.read_frame(b"\x10\x00\x08" + count.to_bytes(4, "big") + b"\xFF\xFF" + index.to_bytes(4, "big") + b"\x06")
+        frames.write(Frame(piece=1, count=count, id=65535, index=index), 1)
+        frames.read(b"\x10\x00\x08" + number32(count) + b"\xFF\xFF" + number32(index) + b"\x06")
     for name in ("count", "id", "index"):
-        items.write_frame(Frame(**{name: 1}), b"\x07")
-    items.write_made(Frame(), 8191, 11, 8194)
-    items.write_made(Frame(), 8191, 11, 8193)
-    items.write_made(Frame(), 8192, 11, 8200)
-    items.write_made(carried(7, True), 8191, 13, 8220, 6)
-    items.write_made(carried(7, True), 1400, 13, 1500, 4)
+        frames.write(Frame(**{name: 1}), 1)
+    frames.write(Frame(), 8191, 11, 8194)
+    frames.write(Frame(), 8191, 11, 8193)
+    frames.write(Frame(), 8192, 11, 8200)
+    frames.write(carried(7, True), 8191, 13, 8220, 6)
+    frames.write(carried(7, True), 1400, 13, 1500, 4)
     # 15 comes before 12
-    items.write_frame(Frame(kind=8), b"\x08", room=0)
+    frames.write(Frame(kind=8), 1, room=0)
     for number in (0, 1, 255, 256, LIMIT_24 - 1, LIMIT_24, 2 ** 32 - 1):
         for room in (0, 3, 4, 6):
-            items.write_head(room, number)
+            frames.head(room, number)
 
 
-def ack_limits(items):
+def ack_limits(acks):
     for text in ("", "C0", "C0 00", "A0 00 00", "C0 00 00 99 99", "84 00", "84 00 00", "00 00 00", "C1 00 00", "A0 00 01", "C0 FF FF",
                  "C0 00 01 01 00 00 00", "C0 00 01 01 00 00", "C0 00 01 01", "C0 00 01 02", "C0 00 01 FF", "C0 00 01 00",
                  "A0 00 01 00 05 00 00 05 00 00", "A0 00 01 00 05 00 00 04 00 00", "A0 00 01 00 05 00 00 04 00", "C0 00 01 00 FF FF FF FF FF FF",
                  "C0 00 02 01 03 00 00 00 05 00 00 07 00 00", "C0 00 02 00 05 00 00 07 00 00 01 03 00 00", "C0 00 02 01 03 00 00 02",
                  "C0 00 03 01 03 00 00 01 03 00 00 00 01 00 00 00 00 00", "C0 00 01 01 FF FF FF 00 00", "C0 01 00 01 07 00 00"):
-        items.read_ack(bytes.fromhex(text))
+        acks.read(bytes.fromhex(text))
     whole = list_bytes(0, [3, 5, 6, 7])
     for length in range(len(whole)):
-        items.read_ack(whole[:length])
+        acks.read(whole[:length])
     for nack in (0, 1):
-        items.write_list(nack, [])
-        items.write_list(nack, [], room=2)
-        items.write_list(nack, [7], room=6)
-        items.write_list(nack, [7, 8], room=9)
-        items.write_list(nack, [7, 9], room=10)
-        items.write_list(nack, [7, 8, 9, 11], room=14)
-        items.write_list(nack, [LIMIT_24 - 2, LIMIT_24 - 1])
-        items.write_list(nack, [LIMIT_24 - 1, LIMIT_24])
-        items.write_list(nack, [2 ** 32 - 1])
-        items.write_list(nack, [5, 5])
-        items.write_list(nack, [5, 4])
-        items.write_list(nack, [5, 4, LIMIT_24])
-        items.write_list(nack, [5, 4], room=0)
-        items.write_list(nack, [LIMIT_24], room=0)
-        items.write_list(nack, [0, 2, 3])
-        items.write_list(nack, [1, 2, 4])
+        acks.write(nack, [])
+        acks.write(nack, [], room=2)
+        acks.write(nack, [7], room=6)
+        acks.write(nack, [7, 8], room=9)
+        acks.write(nack, [7, 9], room=10)
+        acks.write(nack, [7, 8, 9, 11], room=14)
+        acks.write(nack, [LIMIT_24 - 2, LIMIT_24 - 1])
+        acks.write(nack, [LIMIT_24 - 1, LIMIT_24])
+        acks.write(nack, [2 ** 32 - 1])
+        acks.write(nack, [5, 5])
+        acks.write(nack, [5, 4])
+        acks.write(nack, [5, 4, LIMIT_24])
+        acks.write(nack, [5, 4], room=0)
+        acks.write(nack, [LIMIT_24], room=0)
+        acks.write(nack, [0, 2, 3])
+        acks.write(nack, [1, 2, 4])
     for count, first, step, room in ((2048, 0, 1, 10), (2048, 0, 1, 9), (2048, 100, 2, 8195), (2048, 100, 2, 8194), (2049, 0, 1, 8200),
                                      (2049, 0, 0, 8200), (2048, 0, 0, 8195), (2048, LIMIT_24 - 2048, 1, 40), (2048, LIMIT_24 - 2047, 1, 40)):
-        items.write_run(count % 2, count, first, step, room)
+        acks.write_run(count % 2, count, first, step, room)
 
 
-def window_limits(items):
-    items.new_window()
-    items.missing()
+def window_limits(windows):
+    windows.new()
+    windows.missing()
     for n in (LIMIT_24 - 1, LIMIT_24, 2 ** 32 - 1, 2049, 2048, 2048, 2047):
-        items.insert(n)
-        items.missing()
-    items.insert(0)
+        windows.insert(n)
+        windows.missing()
+    windows.insert(0)
     for n in (2050, 2049, 1, 2051, 3, 2):
-        items.insert(n)
-        items.missing()
+        windows.insert(n)
+        windows.missing()
     # one number that moves low over all places; then the same around the end of the places' bytes
-    items.new_window()
-    items.insert_run(1, 2050)
-    items.missing()
-    items.insert(0)
-    items.missing()
-    items.insert_run(2050, 2047)
-    items.insert(2049)
-    items.new_window()
-    items.insert(1)
+    windows.new()
+    windows.insert(1, 2050)
+    windows.missing()
+    windows.insert(0)
+    windows.missing()
+    windows.insert(2050, 2047)
+    windows.insert(2049)
+    windows.new()
+    windows.insert(1)
     for n in (0, 2050, 2051, 2, 3):
-        items.insert(n)
-        items.missing()
+        windows.insert(n)
+        windows.missing()
     for n in (8, 16, 24, 7, 9, 15, 17, 23, 25, 2052, 4, 6, 5):
-        items.insert(n)
-    items.missing()
+        windows.insert(n)
+    windows.missing()
     # the last numbers of 24 bits; a low that no run of inserts reaches
-    items.window_at(LIMIT_24 - 2050)
+    windows.at(LIMIT_24 - 2050)
     for n in (LIMIT_24 - 1, LIMIT_24 - 2, LIMIT_24, LIMIT_24 - 2050, LIMIT_24 - 1, LIMIT_24 - 2051):
-        items.insert(n)
-        items.missing()
-    items.window_at(LIMIT_24 - 1)
+        windows.insert(n)
+        windows.missing()
+    windows.at(LIMIT_24 - 1)
     for n in (LIMIT_24, LIMIT_24 - 1, LIMIT_24 - 1, 0, LIMIT_24):
-        items.insert(n)
-        items.missing()
-    items.window_at(2 ** 32 - 1)
+        windows.insert(n)
+        windows.missing()
+    windows.at(2 ** 32 - 1)
     for n in (0, LIMIT_24 - 1, LIMIT_24):
-        items.insert(n)
-        items.missing()
+        windows.insert(n)
+        windows.missing()
 
 
-def split_limits(items):
+def split_limits(frames):
     for mtu in (0, 59, 60, 61, 1500, 1501, 65535):
         for length in (0, 1, 2, 1439, 1440, 1441, 2881):
-            items.split(length, mtu, 1)
+            frames.split(length, mtu, 1)
     for length, k in ((1024, 0), (1024, 1023), (1024, 1024), (1024, 2 ** 32 - 1), (1025, 0), (1025, 2000)):
-        items.split(length, 61, k)
+        frames.split(length, 61, k)
     for length, mtu, k in ((2880, 1500, 1), (2880, 1500, 2), (65535, 1500, 45), (65535, 1500, 46), (65535, 124, 1023), (65535, 123, 0)):
-        items.split(length, mtu, k)
+        frames.split(length, mtu, k)
     # 16 before 17, 17 before 19, 18 before 19
-    items.split(0, 60, 9)
-    items.split(100, 1500, 9)
-    items.split(65535, 61, 2 ** 32 - 1)
+    frames.split(0, 60, 9)
+    frames.split(100, 1500, 9)
+    frames.split(65535, 61, 2 ** 32 - 1)
 
 
 # ---- damaged bytes, and random items
@@ -597,7 +602,11 @@ def random_frame(rng):
     if rng.random() < 0.4:
         f.piece, f.count, f.id = 1, rng.randint(1, 4 if small else 1024), rng.randrange(65536)
         f.index = rng.randrange(f.count)
-    return f, rng.randbytes(rng.choice((0, 1, 2, 3, 5, 8, 13)))
+    return f
+
+
+def random_length(rng):
+    return rng.choice((0, 1, 2, 3, 5, 8, 13))
 
 
 def random_numbers(rng):
@@ -619,56 +628,65 @@ def damaged(rng, s):
     return bytes(s)
 
 
-def random_items(items, rng):
+def random_frames(frames, rng):
     for _ in range(100):
-        f, body = random_frame(rng)
-        s = frame_bytes(f, body)
-        items.read_frame(damaged(rng, s))
-        items.write_frame(f, body, room=len(s) + rng.randrange(-2, 4) if rng.random() < 0.5 else None, at=rng.randrange(3))
+        f, length, seed, at = random_frame(rng), random_length(rng), rng.randrange(65536), rng.randrange(3)
+        s = frame_bytes(f, pattern(length, seed))
+        frames.read(damaged(rng, s))
+        frames.write(f, length, seed, len(s) + rng.randrange(-2, 4) if rng.random() < 0.5 else None, at)
         name = rng.choice(Frame.FIELDS[1:5] + Frame.FIELDS[6:])
-        items.write_frame(changed(f, **{name: rng.choice((1, 31, 32, 255) if name == "channel" else (1, 1024, 65535))}), body)
+        frames.write(changed(f, **{name: rng.choice((1, 31, 32, 255) if name == "channel" else (1, 1024, 65535))}), length, seed)
     for _ in range(70):
         s = bytes([rng.randrange(0x80, 0x8E)]) + rng.randbytes(3)
-        s += b"".join(frame_bytes(*random_frame(rng)) for _ in range(rng.randrange(5)))
-        items.read_frames(s)
-        items.read_frames(s[:4] + damaged(rng, s[4:]))
+        s += b"".join(frame_bytes(random_frame(rng), rng.randbytes(random_length(rng))) for _ in range(rng.randrange(5)))
+        frames.read(s, 4)
+        frames.read(s[:4] + damaged(rng, s[4:]), 4)
     for _ in range(20):
-        items.read_frames(rng.randbytes(rng.randrange(40)), rng.randrange(6))
+        frames.read(rng.randbytes(rng.randrange(40)), rng.randrange(6))
+
+
+def random_splits(frames, rng):
+    for _ in range(60):
+        mtu = rng.choice((rng.randrange(61, 200), rng.randrange(61, 1501)))
+        length = rng.choice((rng.randrange(400), rng.randrange(65536)))
+        frames.split(length, mtu, rng.choice((0, length // (mtu - 60), rng.randrange(60))))
+
+
+def random_acks(acks, rng):
     for _ in range(72):
         numbers = random_numbers(rng)
         nack = rng.randrange(2)
         s = list_bytes(nack, numbers)
-        items.read_ack(damaged(rng, s))
-        items.write_list(nack, numbers, room=len(s) + rng.randrange(-2, 3) if rng.random() < 0.5 else None)
+        acks.read(damaged(rng, s))
+        acks.write(nack, numbers, room=len(s) + rng.randrange(-2, 3) if rng.random() < 0.5 else None)
         rng.shuffle(numbers)
-        items.write_list(nack, numbers)
-    for _ in range(60):
-        mtu = rng.choice((rng.randrange(61, 200), rng.randrange(61, 1501)))
-        length = rng.choice((rng.randrange(400), rng.randrange(65536)))
-        items.split(length, mtu, rng.choice((0, length // (mtu - 60), rng.randrange(60))))
+        acks.write(nack, numbers)
 
 
-def random_windows(items, rng):
+def random_windows(windows, rng):
     for spread in (4, 40, 2100):
-        items.new_window()
+        windows.new()
         for turn in range(60):
-            items.insert(max(items.window.low + rng.randrange(-3, spread), 0))
+            windows.insert(max(windows.window.low + rng.randrange(-3, spread), 0))
             if turn % 12 == 11:
-                items.missing()
+                windows.missing()
 
 
 def main():
-    items = Items()
-    for part in (bench_lines, frame_limits, over_limits, ack_limits, window_limits, split_limits):
-        part(items)
+    frames, acks, windows = Frames("wire_frames"), Acks("wire_acks"), Windows("wire_windows")
     rng = random.Random(1)
-    random_items(items, rng)
-    random_windows(items, rng)
-    assert len(items.input) < 65536
-    crate = pathlib.Path(__file__).resolve().parent.parent / "crates" / "wire"
-    (crate / "stdin").write_bytes(items.input)
-    (crate / "stdout").write_text("\n".join(items.lines) + "\n")
-    print(f"{items.count} items, {len(items.input)} bytes, {len(items.lines)} lines")
+    bench_lines(frames, acks, windows)
+    frame_limits(frames)
+    over_limits(frames)
+    split_limits(frames)
+    random_frames(frames, rng)
+    random_splits(frames, rng)
+    ack_limits(acks)
+    random_acks(acks, rng)
+    window_limits(windows)
+    random_windows(windows, rng)
+    for items in (frames, acks, windows):
+        items.save()
 
 
 if __name__ == "__main__":

@@ -5,4 +5,4 @@ pub mod PassCases
 pub mod WriteCases
 pub mod ReadBack
 pub mod WriteLaws
-pub mod Bench
+pub mod Examples

@@ -48,8 +48,9 @@ unfolding tooLarge
 not-large l e =
     ⊎-elim (λ c. absurd (let z : _≡_ {A = ℕ} 0 1 = cc in omega arith)) (λ c. (c .0, sym (c .1) ∙ e)) (lt-cases maxList (length l) true (someOver l))
 
-pub not-long : (l : List ℕ) (a : Bool) → a ≡ tooLarge l → a ≡ false → length l ≤ maxList
-not-long l a f g = not-large l (sym f ∙ g) .0
+-- so its runs, of which there are no more than numbers, are few
+pub few-records : (l : List ℕ) (a : Bool) → a ≡ tooLarge l → a ≡ false → (n : ℕ) → n ≤ length l → n ≤ maxList
+few-records l a f g n h = let k = not-large l (sym f ∙ g) .0 in omega arith
 
 module _ {A : Type 0} (room : ℕ) (nack : Bool) (l : List ℕ) (x y z w : A) (a : Bool) (f : a ≡ tooLarge l) where
   abbrev chosen : A

@@ -1,7 +1,8 @@
 // ACK and NACK: read record by record, and written from a list of numbers. Document 01, "Bytes", "Read ACK" and "Write ACK or NACK".
 ghost use mathlib.Core.Path.{_≡_};
-ghost use Prim.Native.Nat.{_<_};
+ghost use Prim.Native.Nat.{_<_, _≤_};
 ghost use lib.ListN.{length};
+ghost use Rattle.base.specs.Limits.{maxList};
 ghost use Rattle.base.specs.Put.{Run, andThen};
 ghost use Rattle.ack.specs.Records.{recordsBytes, runs};
 ghost use Rattle.ack.specs.Read.{headerAnswer, readHeaderOf, stepAnswer, readSingle, readRange, readRecordOf};
@@ -235,11 +236,12 @@ fn id_of(nack: bool) -> u8
 }
 
 // The header with the record count, and the records.
-fn put_list(out: &mut [u8], nack: bool, count: u32, numbers: &[u32]) -> usize
+fn put_list(out: &mut [u8], nack: bool, count: usize, numbers: &[u32]) -> usize
+    requires { ⌜ count ≤ maxList ⌝ }
     ensures { λ r. ⌜ Run 0 (andThen (headerBytes nack count) (recordsBytes (runs (now (numbers .entry))))) (now (out .entry)) r (now (out .exit)) ⌝ }
 {
     let id = id_of(nack);
     let a = base::put8(out, 0, id);
-    let b = base::put16(out, a, count);
+    let b = base::put16(out, a, count as u32);
     runs::put_runs(out, b, numbers)
 }

@@ -2,7 +2,6 @@
 ghost use mathlib.Core.Path.{_≡_};
 ghost use Prim.Native.Nat.{_*_, _<_, _≤_};
 ghost use lib.ListN.{length};
-ghost use Rattle.base.specs.Limits.{maxList};
 ghost use Rattle.base.specs.Put.{Run};
 ghost use Rattle.ack.specs.Records.{rangeSize, recordBytes, recordsBytes, recordSize, runs};
 ghost use Rattle.ack.specs.Passes.{isNext, goesOn, recordOf, RunTo, tallyOf};
@@ -52,16 +51,16 @@ fn record_size(first: u32, last: u32) -> usize
 
 // How many records there are, and how many bytes they take.
 pub(crate) struct Tally {
-    pub(crate) records: u32,
+    pub(crate) records: usize,
     pub(crate) bytes: usize,
 }
 
+// No run is empty, and no record is longer than a Range.
 pub(crate) fn tally_runs(numbers: &[u32]) -> Tally
-    requires { ⌜ length (now numbers) ≤ maxList ⌝ }
     ensures is { λ r. ⌜ r ≡ tallyOf (runs (now (numbers .entry))) ⌝ }
-    ensures small { λ r. ⌜ (r .records ≤ maxList) × (r .bytes ≤ rangeSize * maxList) ⌝ }
+    ensures small { λ r. ⌜ (r .records ≤ length (now (numbers .entry))) × (r .bytes ≤ rangeSize * length (now (numbers .entry))) ⌝ }
 {
-    let mut records: u32 = 0;
+    let mut records: usize = 0;
     let mut bytes: usize = 0;
     let mut i = 0;
     while i < numbers.len() {

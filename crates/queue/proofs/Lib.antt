@@ -1,4 +1,4 @@
 pub mod Chunks
 pub mod Laws
 pub mod Cases
-pub mod Bench
+pub mod Examples

@@ -7,4 +7,4 @@ pub mod Inserts
 pub mod Laws
 pub mod History
 pub mod Missing
-pub mod Bench
+pub mod Examples

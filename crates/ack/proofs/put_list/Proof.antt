@@ -9,6 +9,9 @@ id-of-requires c κs = search needs
 put8-requires : tie.Need-put8-requires
 put8-requires c κs = search needs
 
+cast-put16 : tie.Need-cast-put16
+cast-put16 c = search needs
+
 put16-requires : tie.Need-put16-requires
 put16-requires c κs = search needs
 
@@ -24,4 +27,4 @@ returns c = search (needs, put-all)
 pub put-list-spec : {M : Type 1} → statement M
 put-list-spec =
     tie.close
-    (tie.spec id-of-requires put8-requires put16-requires put-runs-requires same-length returns)
+    (tie.spec id-of-requires put8-requires cast-put16 put16-requires put-runs-requires same-length returns)

@@ -1,5 +1,5 @@
 use Rattle.ack.specs.Write.{writeListOf, writtenOf}
-use Rattle.ack.proofs.WriteCases.{not-long, too-large, not-ascending, no-room, length-is, written-is}
+use Rattle.ack.proofs.WriteCases.{few-records, too-large, not-ascending, no-room, length-is, written-is}
 use borrow.Author.Needs.{needs}
 use Rattle.ack.proofs.write_list.Statement.{statement}
 use Rattle.ack.proofs.write_list.Tie as tie
@@ -19,7 +19,7 @@ unfolding writeListOf writtenOf
 returns-2 c = search (needs, not-ascending)
 
 tally-runs-requires : tie.Need-tally-runs-requires
-tally-runs-requires c κs = search (needs, not-long)
+tally-runs-requires c κs = search needs
 
 add-len : tie.Need-add-len
 add-len c = search needs
@@ -29,7 +29,7 @@ unfolding writeListOf writtenOf
 returns-3 c = search (needs, no-room)
 
 put-list-requires : tie.Need-put-list-requires
-put-list-requires c κs = search needs
+put-list-requires c κs = search (needs, few-records)
 
 same-length : tie.Need-same-length
 same-length c = search needs

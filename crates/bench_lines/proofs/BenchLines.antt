@@ -1,0 +1,42 @@
+-- The starred bench lines, all by computation over the definitions.
+-- Assumes nothing.
+use mathlib.Core.Path.{refl}
+use Rattle.base.specs.Bytes.{be16, be32, le24, be16Bytes, le24Bytes}
+use Rattle.base.specs.If.{ifTrue, ifLt, ifLe, ifEq}
+use Rattle.base.specs.Put.{put, andThen}
+use Rattle.reliability.specs.Kinds.{fieldsOf}
+use Rattle.frame.specs.Read as frame
+use Rattle.ack.specs.Records as records
+use Rattle.ack.specs.Write as ack
+use Rattle.window.specs.Places as places
+use Rattle.window.specs.Window as window
+use Rattle.queue.specs.Split as split
+use Rattle.line.specs.Frame as line
+use Rattle.line.specs.Bare as bare
+use Rattle.bench_lines.specs.BenchLines.{BenchLines}
+
+pub bench-lines : BenchLines
+unfolding ifTrue ifLt ifLe ifEq be16 be32 le24 be16Bytes le24Bytes put andThen
+    fieldsOf frame.frameAt frame.placedAt frame.readFrameOf
+    records.firstOf records.lastOf records.recordBytes records.recordsBytes records.grow records.runs
+    ack.idOf ack.headerBytes ack.listBytes ack.someOver ack.tooLarge ack.ascending ack.byCase ack.writeListOf ack.writtenOf
+    places.bit places.placeSet places.setPlace places.clearPlace
+    window.newWindow window.accepted window.advance window.accept window.insertOf
+    split.chunksOf split.pieceOf
+    line.carriesReliable line.inLimits bare.new bare.seenBefore bare.accept bare.dropIn bare.step
+bench-lines =
+    record {
+      zero-accepted = (refl, refl);
+      zero-again = refl;
+      reach = (refl, refl);
+      kind-3 = (_, refl, refl, refl);
+      kind-0 = (_, refl, refl, refl);
+      one-byte = (_, refl, refl, refl);
+      ack-0 = (refl, refl);
+      ack-0-1 = (refl, refl);
+      ack-3-5-6-7 = (refl, refl);
+      split-1441 = (refl, refl, refl);
+      split-1440 = λ k. refl;
+      mtu-60 = λ n k. refl;
+      index-2-of-2 = λ id. (refl, refl);
+    }

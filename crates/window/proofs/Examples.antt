@@ -1,0 +1,16 @@
+-- The missing list of two windows, by computation over the definitions. (The bench lines on inserts are in the crate bench_lines.)
+-- Assumes nothing.
+use mathlib.Core.Path.{_≡_, refl}
+use mathlib.Core.List.{[], _∷_}
+use Rattle.base.specs.If.{ifTrue, ifLt, ifLe, ifEq}
+use Rattle.base.specs.Put.{andThen}
+use Rattle.window.specs.Places.{bit, placeSet, setPlace, clearPlace}
+use Rattle.window.specs.Window.{newWindow, accepted, advance, accept, insertOf}
+use Rattle.window.specs.Missing.{highest, unlessAccepted, missingOf, missing}
+
+-- "Missing numbers ..; none before the first": of a new window; after 0, 2 and 5 were accepted
+pub missing-numbers :
+    (missing newWindow ≡ [])
+    × (missing (insertOf (insertOf (insertOf newWindow 0 .window) 2 .window) 5 .window) ≡ 1 ∷ 3 ∷ 4 ∷ [])
+unfolding newWindow insertOf accept advance accepted placeSet setPlace clearPlace bit ifTrue ifLt ifLe ifEq missing missingOf unlessAccepted highest andThen
+missing-numbers = (refl, refl)
