@@ -1,5 +1,4 @@
-// One table of eight rows gives each kind's fields. Kinds 0 to 7 are those of the Rust's `Reliability`: Unreliable, UnreliableSeq, Reliable,
-// ReliableOrd, ReliableSeq, UnreliableAck, ReliableAck, ReliableOrdAck.
+// One table of eight rows gives each kind's fields. Kinds 0 to 7 are those of the Rust's `Reliability`.
 ghost use mathlib.Core.Path.{_≡_};
 ghost use Prim.Native.Nat.{_≤_};
 ghost use Rattle.reliability.specs.Kinds.{fieldsOf, Small};
@@ -15,6 +14,7 @@ pub struct KindFields {
 }
 
 const KINDS: [KindFields; 8] = [
+    // 0, Unreliable
     KindFields {
         reliable: 0,
         sequence: 0,
@@ -22,6 +22,7 @@ const KINDS: [KindFields; 8] = [
         channel: 0,
         header: 3,
     },
+    // 1, UnreliableSeq
     KindFields {
         reliable: 0,
         sequence: 3,
@@ -29,6 +30,7 @@ const KINDS: [KindFields; 8] = [
         channel: 9,
         header: 10,
     },
+    // 2, Reliable
     KindFields {
         reliable: 3,
         sequence: 0,
@@ -36,6 +38,7 @@ const KINDS: [KindFields; 8] = [
         channel: 0,
         header: 6,
     },
+    // 3, ReliableOrd
     KindFields {
         reliable: 3,
         sequence: 0,
@@ -43,13 +46,15 @@ const KINDS: [KindFields; 8] = [
         channel: 9,
         header: 10,
     },
+    // 4, ReliableSeq
     KindFields {
         reliable: 3,
         sequence: 6,
-        order: 0,
+        order: 0, // RakNet's C++ gives kind 4 an order number
         channel: 0,
         header: 9,
     },
+    // 5, UnreliableAck
     KindFields {
         reliable: 0,
         sequence: 0,
@@ -57,13 +62,15 @@ const KINDS: [KindFields; 8] = [
         channel: 0,
         header: 3,
     },
+    // 6, ReliableAck
     KindFields {
-        reliable: 0,
+        reliable: 0, // nor has kind 6 a reliable number
         sequence: 0,
         order: 0,
         channel: 0,
         header: 3,
     },
+    // 7, ReliableOrdAck
     KindFields {
         reliable: 3,
         sequence: 0,
