@@ -42,3 +42,14 @@ maxCells = 4096
 
 abbrev pub cellBytes : ℕ
 cellBytes = 1500
+
+-- "datagram 4 to 1,500 bytes"
+abbrev pub minDatagram : ℕ
+minDatagram = 4
+
+abbrev pub maxDatagram : ℕ
+maxDatagram = 1500
+
+-- "1,024 unsent acknowledgements"
+abbrev pub maxUnsent : ℕ
+maxUnsent = 1024

@@ -12,14 +12,10 @@ use lib.Dec.{eqb}
 use Rattle.base.specs.Put.{put}
 use Rattle.base.specs.Lists.{any}
 use Rattle.base.proofs.Puts.{put-split}
+use Rattle.cells.specs.Records.{unusedAt}
 use Rattle.cells.specs.Cell.{Cell, Slot, isFree, putSlot}
 use Rattle.cells.specs.Store.{cellSize, bodyOf, slotsOf, cellsOf, laid, storeOf}
 use Rattle.cells.proofs.Store.{Sized, AllSized, laid-length, room-one, first-length, store-length}
-
--- The lowest-numbered unused record.
-unfoldable pub unusedAt : List Cell → ℕ
-unusedAt [] = 0
-unusedAt (c ∷ cs) = cond (eqb (c .used) 0) 0 (suc (unusedAt cs))
 
 pub put-set : (x : Slot) (l : List Slot) → putSlot x l ≡ set l (unusedAt (cellsOf l)) x
 unfolding putSlot unusedAt cellsOf isFree

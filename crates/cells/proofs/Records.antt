@@ -11,12 +11,12 @@ use Rattle.base.specs.Lists.{any, countOf, below}
 use Rattle.base.proofs.Choices.{cond-ap}
 use Rattle.line.specs.Frame.{Frame, pieceOf}
 use Rattle.line.specs.Bare.{conflict}
+use Rattle.cells.specs.Records.{unusedAt, changeCells, clashCell, beforeCell, earliestCell}
 use Rattle.cells.specs.Cell.{Cell, Slot, Key, heldAs, bears, at, of, sits, isFree, isOpen, isReady, allThere, pieceIn, clash, markCell, mark, emptyCell, emptySlot, change, mapIf, turnTo, freed, putSlot}
 use Rattle.cells.specs.Datagram.{isHeld, isFirst, isBefore, rank, renumber, sweep}
 use Rattle.cells.specs.Take.{lower, earliest}
 use Rattle.cells.specs.Sound.{lacksNone}
 use Rattle.cells.specs.Store.{cellsOf}
-use Rattle.cells.proofs.Places.{unusedAt}
 
 pub any-cells : (p : Cell → Bool) (l : List Slot) → any p (cellsOf l) ≡ any (λ s. p (s .cell)) l
 unfolding any cellsOf
@@ -32,9 +32,6 @@ pub there-cells : (k : Key) (l : List Slot) (n : ℕ) → lacksNone k (cellsOf l
 unfolding lacksNone allThere below sits
 there-cells k l zero = refl
 there-cells k l (suc n) = rw (there-cells k l n, any-cells (at k n) l)
-
-unfoldable pub changeCells : (Cell → Bool) → (Cell → Cell) → List Cell → List Cell
-changeCells p g cs = map (λ (c : Cell). cond (p c) (g c) c) cs
 
 -- A change that reads only the record changes only the record.
 cells-change : (q : Slot → Bool) (g : Slot → Slot) (p : Cell → Bool) (k : Cell → Cell) → ((s : Slot) → q s ≡ p (s .cell)) → ((s : Slot) → g s .cell ≡ k (s .cell)) → (l : List Slot) → cellsOf (mapIf q g l) ≡ changeCells p k (cellsOf l)
@@ -66,9 +63,6 @@ cells-put x (s ∷ l) = go (isFree s) (cells-put x l)
     go true e = refl
     go false e = ap {B = List Cell} (λ r. s .cell ∷ r) e
 
-unfoldable pub clashCell : Frame → Cell → Bool
-clashCell f c = eqb (c .used) 1 && conflict (pieceOf f) (pieceIn (record { cell = c; body = [] }))
-
 pub clash-cells : (f : Frame) (l : List Slot) → any (clash f) l ≡ any (clashCell f) (cellsOf l)
 unfolding clash clashCell isOpen conflict pieceIn
 clash-cells f l = sym (any-cells (clashCell f) l)
@@ -81,9 +75,6 @@ pub room-cells : (l : List Slot) → any isFree l ≡ any (λ c. eqb (c .used) 0
 unfolding isFree
 room-cells l = sym (any-cells (λ c. eqb (c .used) 0) l)
 
-unfoldable pub beforeCell : ℕ → Cell → Bool
-beforeCell t c = (eqb (c .used) 3 && eqb (c .index) 0) && ltb (c .turn) t
-
 pub rank-cells : (l : List Slot) (t : ℕ) → rank l t ≡ countOf (beforeCell t) (cellsOf l)
 unfolding rank isBefore isFirst isReady beforeCell
 rank-cells l t = sym (count-cells (beforeCell t) l)
@@ -91,10 +82,6 @@ rank-cells l t = sym (count-cells (beforeCell t) l)
 pub cells-renumber : (l : List Slot) → cellsOf (renumber l) ≡ changeCells (λ c. eqb (c .used) 3) (λ c. markCell 3 (countOf (beforeCell (c .turn)) (cellsOf l)) c) (cellsOf l)
 unfolding renumber isReady mark
 cells-renumber l = cells-change isReady (λ s. mark 3 (rank l (s .cell .turn)) s) (λ c. eqb (c .used) 3) (λ c. markCell 3 (countOf (beforeCell (c .turn)) (cellsOf l)) c) (λ s. refl) (λ s. rw (rank-cells l (s .cell .turn))) l
-
-unfoldable pub earliestCell : List Cell → Option ℕ
-earliestCell [] = none
-earliestCell (c ∷ cs) = cond (eqb (c .used) 3) (some (lower (c .turn) (earliestCell cs))) (earliestCell cs)
 
 pub earliest-cells : (l : List Slot) → earliest l ≡ earliestCell (cellsOf l)
 unfolding earliest earliestCell cellsOf isReady

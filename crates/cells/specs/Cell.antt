@@ -8,20 +8,13 @@ use lib.Dec.{eqb}
 use Rattle.base.specs.Lists.{option, find, any, below}
 use Rattle.line.specs.Frame.{Frame, Piece, Message, pieceOf}
 use Rattle.line.specs.Bare.{conflict}
+use Rattle.cells.specs.declared.CellRecord.{CellRecord}
 
 -- "One record stands beside each cell". used (the code's `use`, a keyword here): 0 unused, 1 of an open, 2 of a held, 3 of a ready message; 4, only
 -- while a datagram is worked on: of a joined message dropped late, "its cells free afterwards". turn: where a ready message stands among the ready.
-pub record Cell : Type 0 where
-  pub used : ℕ
-  pub id : ℕ
-  pub index : ℕ
-  pub length : ℕ
-  pub kind : ℕ
-  pub channel : ℕ
-  pub count : ℕ
-  pub sequence : ℕ
-  pub order : ℕ
-  pub turn : ℕ
+abbrev pub Cell : Type 0
+Cell = CellRecord
+
 
 -- "one kept body each": a record with the body in its cell
 pub record Slot : Type 0 where

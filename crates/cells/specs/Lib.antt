@@ -7,3 +7,4 @@ pub mod Room
 pub mod Calls
 pub mod Claim
 pub mod Memory
+pub mod Records

@@ -38,9 +38,16 @@ soundCell cs next c =
     && (cond (eqb (c .used) 1) (not (lacksNone (keyOf c) cs (c .count))) (lacksNone (keyOf c) cs (c .count))
     && (not (eqb (c .used) 2) || ltb (next (c .channel)) (c .order))))))
 
--- all cells are; and of the receiver's own values, each channel's next is at most 2^24
+-- "each channel's next is at most 2^24", a rule on the receiver's own values
+abbrev pub soundNexts : (ℕ → ℕ) → Bool
+soundNexts next = below maxOrdChans (λ c. leb (next c) numbers24)
+
+-- all cells are sound
+abbrev pub soundCells : List Cell → (ℕ → ℕ) → Bool
+soundCells cs next = every (soundCell cs next) cs
+
 unfoldable pub sound : List Cell → (ℕ → ℕ) → Bool
-sound cs next = every (soundCell cs next) cs && below maxOrdChans (λ c. leb (next c) numbers24)
+sound cs next = soundCells cs next && soundNexts next
 
 -- "1 to 4,096 cells of 1,500 bytes"; "the store is exactly one cell for each record"
 unfoldable pub lengths : ℕ → ℕ → Bool

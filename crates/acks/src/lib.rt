@@ -1,0 +1,32 @@
+// The receiver's own values: the rules on them, a number that joins the unsent, and ACK and NACK written from them. Document 01, "Calls and
+// their numbers".
+use recv::RecvQueue;
+
+mod sort;
+mod sound;
+mod unsent;
+mod write;
+
+pub use sound::sound_channels;
+pub use sound::sound_queue;
+pub use sound::sound_unsent;
+pub use sound::sound_window;
+pub use unsent::with_number;
+pub use write::write_missing;
+pub use write::write_unsent;
+
+// "1,024 unsent acknowledgements"
+pub const MAX_UNSENT: u32 = 1024;
+
+// Refusals: 9, 12.
+pub enum WriteQueue {
+    Written { len: usize },
+    Unsound,
+    NoRoom,
+}
+
+// An enum can't hold an array, so the receiver stands beside it.
+pub struct WroteQueue {
+    pub answer: WriteQueue,
+    pub queue: RecvQueue,
+}

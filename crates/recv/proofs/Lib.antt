@@ -1,0 +1,13 @@
+pub mod Keeps
+pub mod Accepting
+pub mod FramesIn
+pub mod Nexts
+pub mod Unsent
+pub mod Queues
+pub mod Ways
+pub mod Receives
+pub mod Hands
+pub mod Runs
+pub mod Lists
+pub mod Drains
+pub mod Demand

@@ -1,0 +1,42 @@
+-- Demand 3, one claim over every two lists of calls, each from a receiver just made.
+use Prim.Native.Nat.{ℕ, _*_, _≤_}
+use mathlib.Core.Path.{_≡_}
+use mathlib.Core.List.{List, _++_}
+use lib.ListN.{length}
+use Rattle.base.specs.Limits.{maxCells, cellBytes}
+use Rattle.line.specs.Frame.{Frame, Message}
+use Rattle.line.specs.Bare.{new}
+use Rattle.line.specs.Book.{Book}
+use Rattle.line.specs.Order.{lineFor, lineOf, Within, HasArrived, InOrder}
+use Rattle.recv.specs.Calls.{Call, Receiver, made, afterAll, handedOut, stillOut, acceptedOf, framesRead, bareAnswers}
+
+-- a receiver just made: 1 to 4,096 cells, over any store of one cell for each
+pub record Start : Type 0 where
+  pub cells : ℕ
+  pub store : List ℕ
+  pub some-cells : 1 ≤ cells
+  pub most-cells : cells ≤ maxCells
+  pub store-length : length store ≡ cellBytes * cells
+
+abbrev pub begun : Start → Receiver
+begun s = made (s .cells) (s .store)
+
+-- all frames of a list's accepted datagrams
+abbrev pub readBy : Start → List Call → List Frame
+readBy s cs = framesRead (acceptedOf (begun s) cs)
+
+-- "book or no book, the bodies that a list's takes handed out, and would still hand out, are those in document 01's line for its accepted
+-- datagrams, in its order" (with kind, channel and order number); "An accepted datagram's counts of ready and dropped are those that its frames gave here."
+pub record OneList (s : Start) (cs : List Call) : Type 0 where
+  pub line : lineFor (readBy s cs) ≡ handedOut (begun s) cs ++ stillOut (afterAll (begun s) cs)
+  pub counts : acceptedOf (begun s) cs ≡ bareAnswers new (acceptedOf (begun s) cs)
+
+pub record Claim (s t : Start) (cs ds : List Call) : Type 1 where
+  pub first : OneList s cs
+  pub second : OneList t ds
+  -- "If all frames of both lists' accepted datagrams stand in one sender's book, then .. each line has, per channel, exactly those before the
+  -- first order number not arrived, in order, once each"
+  pub ordered : (B : Frame → Type 0) → Book B → Within B (readBy s cs) → Within B (readBy t ds) → (c : ℕ) → InOrder B (readBy s cs) c × InOrder B (readBy t ds) c
+  -- "and where all that arrived of a channel in the first list also arrived in the second, the first's begin the second's"
+  pub begin : (B : Frame → Type 0) → Book B → Within B (readBy s cs) → Within B (readBy t ds) → (c : ℕ)
+      → ((o : ℕ) → HasArrived B (readBy s cs) c o → HasArrived B (readBy t ds) c o) → (rest : List Message) × (lineOf c (readBy t ds) ≡ lineOf c (readBy s cs) ++ rest)

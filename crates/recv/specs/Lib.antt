@@ -1,0 +1,6 @@
+pub mod Queue
+pub mod Receive
+pub mod Take
+pub mod Write
+pub mod Calls
+pub mod Claim

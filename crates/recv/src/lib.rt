@@ -1,0 +1,17 @@
+// The receiver: what it keeps beside the cells.
+use window::ReliableWindow;
+
+// An ordered channel: the order number that is made ready next.
+pub struct Channel {
+    pub next: u32,
+}
+
+// datagrams: the datagram numbers accepted. reliables: the reliable numbers accepted. unsent: the first pending are the numbers
+// of datagrams not yet acknowledged.
+pub struct RecvQueue {
+    pub datagrams: ReliableWindow,
+    pub reliables: ReliableWindow,
+    pub channels: [Channel; 32],
+    pub unsent: [u32; 1024],
+    pub pending: u32,
+}

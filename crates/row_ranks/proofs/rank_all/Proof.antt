@@ -1,0 +1,31 @@
+use Prim.Native.Nat.{_-_}
+use native.Mathlib.Omega.{arith}
+use Rattle.rows.specs.Rows.{changeRow}
+use Rattle.row_tests.specs.Uses.{uses}
+use Rattle.row_ranks.specs.Renumber.{rankRow}
+use Rattle.row_sweeps.proofs.Sweeps.{Sweeping, sweep-starts, sweep-goes, sweep-ends}
+use Rattle.row_ranks.proofs.rank_all.Statement.{statement}
+use Rattle.row_ranks.proofs.rank_all.Tie as tie
+
+abbrev Inv-loop : tie.InvT-loop
+Inv-loop words₀ turns n i₀ words i = Sweeping (changeRow (uses 3) (rankRow turns)) words₀ words i
+
+abbrev μ-loop : tie.MeasureT-loop
+μ-loop words₀ turns n i₀ words i = n - i
+
+pub rank-all-spec : {M : Type 1} → statement M
+rank-all-spec = tie.close (tie.spec
+    Inv-loop
+    μ-loop
+    (λ c. sweep-starts _ _)
+    (λ c κs. tt)
+    (λ c κs. omega arith)
+    (λ c κs. tt)
+    (λ c. omega arith)
+    (λ c. omega arith)
+    (λ c.
+    let put = c .before .before in
+    let test = put .before .before .before .before .before in
+    sweep-goes (test .before .loop .inv) (test .loop-test .taken) (put .before .before .before .whole-row .ensures) (put .before .ranked .ensures) (put .put-row .kept .0) (put .put-row .ensures))
+    (λ c. c .before .loop .inv .long)
+    (λ c. sweep-ends _ _ (c .before .loop .inv) (c .loop-test .left)))

@@ -1,0 +1,88 @@
+-- A sweep: row after row is read, changed by g and put back. Afterwards g was applied to every row.
+-- Assumes nothing.
+use Prim.Native.Nat.{ℕ, suc, _+_, _<_, _≤_}
+use mathlib.Core.Path.{_≡_, refl, sym, ap, _∙_}
+use mathlib.Core.Bool.{Bool, true, false}
+use mathlib.Core.List.{List, [], _∷_, _++_, map, append-nil}
+use native.Mathlib.Numerals.{add-one}
+use native.Mathlib.Omega.{arith}
+use lib.ListN.{length, getD, take, drop, set, length-map}
+use lib.Seq.{take-suc, drop-cons, drop-length, take-length, length-take-le, set-at, getD-at, append-snoc}
+use Rattle.cells.specs.Cell.{Cell}
+use Rattle.rows.specs.declared.Row.{Row}
+use Rattle.rows.specs.Rows.{rowCount, rowsOf, cellOf, blankRow, changeRow, changeRows}
+use Rattle.rows.specs.Whole.{wholeRow, rest}
+use Rattle.rows.proofs.ForBase.{map-append}
+use Rattle.rows.proofs.Rows.{rows-length}
+
+-- A row that passes is changed, and one that does not is not; b is what the test gave.
+module _ (p : Cell → Bool) (g : Row → Row) (r : Row) {b : Bool} (t : b ≡ p (cellOf r)) where
+  pub changes : {q : Row} → b ≡ true → q ≡ g r → q ≡ changeRow p g r
+  unfolding changeRow
+  changes y e = rw (← t, y) e
+
+  pub stays : b ≡ false → r ≡ changeRow p g r
+  unfolding changeRow
+  stays y = rw (← t, y)
+
+-- g applied to the first i of the rows
+unfoldable pub upTo : (Row → Row) → ℕ → List Row → List Row
+upTo g i rs = map g (take i rs) ++ drop i rs
+
+module _ (g : Row → Row) (rs : List Row) where
+  up-to-none : upTo g 0 rs ≡ rs
+  unfolding upTo
+  up-to-none = refl
+
+  up-to-all : upTo g (length rs) rs ≡ map g rs
+  unfolding upTo
+  up-to-all = rw (take-length rs, drop-length rs) (append-nil (map g rs))
+
+  module _ (i : ℕ) (d : Row) (l : i < length rs) where
+    head : length (map g (take i rs)) ≡ i
+    head = length-map (take i rs) g ∙ length-take-le i rs (omega arith)
+
+    up-to-at : getD (upTo g i rs) i d ≡ getD rs i d
+    unfolding upTo
+    up-to-at = rw (drop-cons rs i d l) (getD-at (map g (take i rs)) (getD rs i d) (drop (suc i) rs) d i head)
+
+    up-to-more : set (upTo g i rs) i (g (getD rs i d)) ≡ upTo g (i + 1) rs
+    unfolding upTo
+    up-to-more =
+        rw (add-one i, take-suc rs i d l, map-append g (take i rs) (getD rs i d ∷ []), drop-cons rs i d l)
+        (set-at (map g (take i rs)) (getD rs i d) (drop (suc i) rs) (g (getD rs i d)) i head ∙ sym (append-snoc (map g (take i rs)) (g (getD rs i d)) (drop (suc i) rs)))
+
+-- The rows below i are changed.
+pub record Sweeping (g : Row → Row) (ws₀ ws : List ℕ) (i : ℕ) : Type 0 where
+  pub within : i ≤ rowCount ws₀
+  pub long : length ws ≡ length ws₀
+  pub rows : rowsOf ws ≡ upTo g i (rowsOf ws₀)
+  pub over : rest ws ≡ rest ws₀
+
+pub sweep-starts : (g : Row → Row) (ws : List ℕ) → Sweeping g ws ws 0
+sweep-starts g ws = record { within = omega arith; long = refl; rows = sym (up-to-none g (rowsOf ws)); over = refl }
+
+-- A turn of the loop: r is row i, and q is put in its place.
+pub sweep-goes : {g : Row → Row} {ws₀ ws : List ℕ} {i : ℕ} {new : List ℕ} {r q : Row} → Sweeping g ws₀ ws i → i < rowCount ws₀ → r ≡ wholeRow ws i → q ≡ g r
+    → length new ≡ length ws → (rowsOf new ≡ set (rowsOf ws) i q) × (rest new ≡ rest ws) → Sweeping g ws₀ new (i + 1)
+unfolding wholeRow
+sweep-goes {g} {ws₀} {ws} {i} {new} {r} {q} s l a b n p =
+    record {
+      within = omega arith;
+      long = n ∙ s .long;
+      rows = p .0 ∙ rw (s .rows, b, here) (up-to-more g (rowsOf ws₀) i blankRow inside);
+      over = p .1 ∙ s .over;
+    }
+  where
+    inside : i < length (rowsOf ws₀)
+    inside = omega (arith, rows-length ws₀)
+
+    here : r ≡ getD (rowsOf ws₀) i blankRow
+    here = a ∙ rw (s .rows) (up-to-at g (rowsOf ws₀) i blankRow inside)
+
+pub sweep-ends : (p : Cell → Bool) (g : Row → Row) {ws₀ ws : List ℕ} {i : ℕ} → Sweeping (changeRow p g) ws₀ ws i → rowCount ws₀ ≤ i
+    → (rowsOf ws ≡ changeRows p g (rowsOf ws₀)) × (rest ws ≡ rest ws₀)
+unfolding changeRows
+sweep-ends p g {ws₀} {ws} {i} s l =
+    let e : i ≡ length (rowsOf ws₀) = omega (arith, rows-length ws₀, s .within) in
+    (s .rows ∙ ap (λ (k : ℕ). upTo (changeRow p g) k (rowsOf ws₀)) e ∙ up-to-all (changeRow p g) (rowsOf ws₀), s .over)

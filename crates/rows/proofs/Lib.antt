@@ -1,0 +1,6 @@
+pub mod ForBase
+pub mod Listed
+pub mod Rows
+pub mod Below
+pub mod Stores
+pub mod Changes

@@ -1,0 +1,11 @@
+use mathlib.Core.Path.{refl}
+use Rattle.rows.specs.Rows.{blankRow}
+use Rattle.rows.proofs.blank_row.Statement.{statement}
+use Rattle.rows.proofs.blank_row.Tie as tie
+
+returns : tie.Need-returns
+unfolding blankRow
+returns c = refl
+
+pub blank-row-spec : {M : Type 1} → statement M
+blank-row-spec = tie.close (tie.spec returns)

@@ -1,0 +1,10 @@
+pub mod ForBase
+pub mod Meaning
+pub mod Changes
+pub mod Counting
+pub mod Tests
+pub mod Complete
+pub mod Fitting
+pub mod Stored
+pub mod Copying
+pub mod Examples

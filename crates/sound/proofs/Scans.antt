@@ -1,0 +1,69 @@
+-- One turn of a scan: a count by a bit, and a test that every record passes. r is row i.
+-- Assumes nothing.
+use Prim.Native.Nat.{ℕ, _+_, _<_, _≤_}
+use mathlib.Core.Path.{_≡_, refl, sym, _∙_, ap}
+use mathlib.Core.Bool.{Bool, true, false, cond, _&&_}
+use mathlib.Core.List.{List, [], _∷_, _++_}
+use native.Mathlib.Omega.{arith}
+use Rattle.base.specs.Lists.{every, countOf}
+use Rattle.base.proofs.Counts.{count-length}
+use Rattle.cells.specs.Cell.{Cell}
+use Rattle.cells.specs.Sound.{soundCells}
+use Rattle.rows.specs.declared.Row.{Row}
+use Rattle.rows.specs.Rows.{rowAt, rowCount, cellOf, cellsIn}
+use Rattle.rows.proofs.ForBase.{count-append}
+use Rattle.rows.proofs.Below.{cellsBelow, below-all, below-none, below-more, below-length, below-split}
+use Rattle.sound.specs.declared.Tally.{Tally}
+use Rattle.sound.specs.Counted.{mate, twin, unlike, tallyOf, countedCell}
+use Rattle.row_scans.proofs.Scans.{at-end}
+use Rattle.sound.proofs.Counting.{counted-sound}
+
+every-append : {A : Type 0} (p : A → Bool) (xs ys : List A) → every p (xs ++ ys) ≡ (every p xs && every p ys)
+unfolding every
+every-append p [] ys = refl
+every-append p (x ∷ xs) ys = passed (p x) (every-append p xs ys)
+  where
+    passed : (t : Bool) → every p (xs ++ ys) ≡ (every p xs && every p ys) → (t && every p (xs ++ ys)) ≡ ((t && every p xs) && every p ys)
+    passed true e = e
+    passed false e = refl
+
+-- As many as were passed, and no more.
+pub count-within : (p : Cell → Bool) (ws : List ℕ) (i : ℕ) → countOf p (cellsBelow ws i) ≤ i
+count-within p ws i = let a = count-length p (cellsBelow ws i) in let b = below-length ws i in omega arith
+
+module _ (p : Cell → Bool) (ws : List ℕ) where
+  pub every-none : true ≡ every p (cellsBelow ws 0)
+  unfolding every
+  every-none = rw (below-none ws)
+
+  module _ (i : ℕ) {r : Row} {b : Bool} (q : r ≡ rowAt ws i) (t : b ≡ p (cellOf r)) where
+    tested : {v : Bool} → b ≡ v → p (cellOf (rowAt ws i)) ≡ v
+    tested y = ap (λ (x : Row). p (cellOf x)) (sym q) ∙ sym t ∙ y
+
+    pub count-bit : {k v : ℕ} → k ≡ countOf p (cellsBelow ws i) → v ≡ cond b 1 0 → k + v ≡ countOf p (cellsBelow ws (i + 1))
+    unfolding countOf
+    count-bit e y = rw (below-more ws i, count-append p (cellsBelow ws i) (cellOf (rowAt ws i) ∷ []), tested refl, e, y)
+
+    pub every-pass : true ≡ every p (cellsBelow ws i) → b ≡ true → true ≡ every p (cellsBelow ws (i + 1))
+    unfolding every
+    every-pass e y = rw (below-more ws i, every-append p (cellsBelow ws i) (cellOf (rowAt ws i) ∷ []), ← e, tested y)
+
+    pub every-fail : i < rowCount ws → true ≡ every p (cellsBelow ws i) → b ≡ false → false ≡ every p (cellsIn ws)
+    unfolding every
+    every-fail l e y =
+        let s = below-split ws i (rowCount ws) l in
+        rw (← below-all ws, s .1, every-append p (cellsBelow ws i) (cellOf (rowAt ws i) ∷ s .0), ← e, tested y)
+
+-- The three counts of all rows.
+pub tally-end : (ws : List ℕ) (a : Cell) {i m t u : ℕ} → i ≤ rowCount ws → rowCount ws ≤ i → m ≡ countOf (mate a) (cellsBelow ws i) → t ≡ countOf (twin a) (cellsBelow ws i) → u ≡ countOf (unlike a) (cellsBelow ws i)
+    → record { mates = m; twins = t; unlike = u } ≡ tallyOf (cellsIn ws) a
+unfolding tallyOf
+tally-end ws a h g e f d = λ k. record { mates = at-end (countOf (mate a)) ws h g e k; twins = at-end (countOf (twin a)) ws h g f k; unlike = at-end (countOf (unlike a)) ws h g d k }
+
+-- All rows passed, or one failed.
+module _ (ws : List ℕ) (next : ℕ → ℕ) where
+  pub sound-end : {i : ℕ} → i ≤ rowCount ws → rowCount ws ≤ i → true ≡ every (countedCell (cellsIn ws) next) (cellsBelow ws i) → true ≡ soundCells (cellsIn ws) next
+  sound-end h g e = at-end (every (countedCell (cellsIn ws) next)) ws h g e ∙ counted-sound (cellsIn ws) next
+
+  pub sound-fail : false ≡ every (countedCell (cellsIn ws) next) (cellsIn ws) → false ≡ soundCells (cellsIn ws) next
+  sound-fail e = e ∙ counted-sound (cellsIn ws) next
