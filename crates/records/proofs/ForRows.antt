@@ -7,10 +7,15 @@ use lib.ListN.{length, getD, set, take, drop, length-drop, take-append-drop}
 use lib.Seq.{length-take-le, getD-take, getD-drop, getD-append-add, take-suc, take-add, sets-eq}
 use Rattle.rows.specs.declared.Row.{Row}
 use Rattle.rows.specs.Rows.{rowWords, field, rowAt, listed, rowCount, rowsOf, cellOf, cellsIn}
-use Rattle.rows.proofs.Listed.{listed-ext}
+use Rattle.rows.specs.Whole.{rest}
 use Rattle.rows.proofs.Stores as Stores
 use Rattle.records.specs.Records.{wordsIn, wordsOf, putRow}
-use Rattle.rows.specs.Whole.{rest}
+
+-- Equal elements make equal lists.
+pub listed-ext : {A : Type 0} (f g : ℕ → A) (n : ℕ) → ((j : ℕ) → j < n → f j ≡ g j) → listed f n ≡ listed g n
+unfolding listed
+listed-ext f g zero e = refl
+listed-ext f g (suc n) e = λ k. listed-ext f g n (λ j l. e j (omega arith)) k ++ (e n (omega arith) k ∷ [])
 
 -- the first n elements of a list, by index
 pub listed-take : {A : Type 0} (l : List A) (n : ℕ) (d : A) → n ≤ length l → listed (λ i. getD l i d) n ≡ take n l

@@ -10,9 +10,8 @@ use lib.Seq.{sets-eq, take-suc, take-at, drop-append-add, drop-drop, length-take
 use Rattle.cells.specs.Cell.{Cell}
 use Rattle.rows.specs.declared.Row.{Row}
 use Rattle.rows.specs.Rows.{rowWords, rowAt, cellOf, cellsIn}
-use Rattle.rows.proofs.Listed.{listed-ext}
 use Rattle.records.specs.Records.{blank, rowOf, wordsIn, putRow, wordsOf, loaded, Fit, FitTo}
-use Rattle.records.proofs.ForRows.{listed-take, first-cells, words-append, words-length, row-of-words}
+use Rattle.records.proofs.ForRows.{listed-ext, listed-take, first-cells, words-append, words-length, row-of-words}
 
 first-length : (rs : List Cell) (n : ℕ) → n ≤ length rs → length (wordsOf (map rowOf (take n rs))) ≡ rowWords * n
 first-length rs n l =

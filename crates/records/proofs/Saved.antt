@@ -9,9 +9,9 @@ use lib.Seq.{drop-cons, set-at, append-snoc}
 use Rattle.cells.specs.Cell.{Cell}
 use Rattle.rows.specs.declared.Row.{Row}
 use Rattle.rows.specs.Rows.{rowWords, rowAt, listed, cellOf, cellsIn}
-use Rattle.rows.proofs.Listed.{listed-length, listed-get, listed-ext}
+use Rattle.rows.proofs.Listed.{listed-length, listed-get}
 use Rattle.records.specs.Records.{blank, cut, saved, Fit, FitTo}
-use Rattle.records.proofs.ForRows.{first-cells}
+use Rattle.records.proofs.ForRows.{listed-ext, first-cells}
 
 -- the records of the first n rows
 abbrev records : ℕ → List ℕ → List Cell
