@@ -9,7 +9,7 @@ use native.Mathlib.Omega.{arith}
 use lib.Dec.{ltb, leb}
 use lib.ListN.{length, getD, length-take}
 use borrow.Author.Tests.{ltb-true, leb-true, le-ltb}
-use Rattle.base.specs.Limits.{numbers24, windowPlaces, maxUnsent, maxOrdChans}
+use Rattle.base.specs.Limits.{numbers24, windowPlaces, maxUnsent}
 use Rattle.base.specs.Lists.{every}
 use Rattle.base.proofs.Choices.{and-left, and-right}
 use Rattle.base.proofs.Ifs.{lt-yes, le-no}
@@ -83,7 +83,7 @@ module _ (q : RecvQueue) (s : soundQueue q ≡ true) where
 
   unsent-sound : soundUnsent q ≡ true
   unfolding soundQueue
-  unsent-sound = and-right (soundNexts maxOrdChans (nextOf q)) _ (and-right (soundWindow (q .reliables)) _ (and-right (soundWindow (q .datagrams)) _ s))
+  unsent-sound = and-right (soundNexts (nextOf q)) _ (and-right (soundWindow (q .reliables)) _ (and-right (soundWindow (q .datagrams)) _ s))
 
   pub pending-limit : q .pending ≤ maxUnsent
   unfolding soundUnsent

@@ -10,8 +10,8 @@ use native.Mathlib.Omega.{arith}
 use lib.Dec.{ltb, eqb}
 use lib.ListN.{length, getD, take, drop, drop-of-length-le}
 use borrow.Author.Tests.{lt-ltb, le-ltb, le-leb, lt-leb, eq-eqb, ne-eqb}
-use Rattle.base.specs.Limits.{numbers24, maxOrdChans, windowPlaces, maxUnsent}
-use Rattle.base.specs.Lists.{any, every}
+use Rattle.base.specs.Limits.{numbers24, windowPlaces, maxUnsent}
+use Rattle.base.specs.Lists.{any, every, below}
 use Rattle.ack.specs.Write.{ascending}
 use Rattle.window.specs.declared.ReliableWindow.{ReliableWindow}
 use Rattle.window.specs.Places.{placeSet}
@@ -21,7 +21,7 @@ use Rattle.cells.specs.Sound.{soundNexts}
 use Rattle.recv.specs.declared.Channel.{Channel}
 use Rattle.recv.specs.declared.RecvQueue.{RecvQueue}
 use Rattle.recv.specs.Queue.{nextOf, unsentOf, placesWithin, soundWindow, differ, soundUnsent, soundQueue}
-use Rattle.acks.specs.Sound.{nextIn, soundNumber, soundNumbers}
+use Rattle.acks.specs.Sound.{nextIn, nextsWithin, soundNumber, soundNumbers}
 use Rattle.acks.proofs.ForBase.{from-here, part-from}
 use Rattle.acks.proofs.Ascending.{ascending-differ}
 
@@ -74,20 +74,20 @@ module _ (w : ReliableWindow) where
 
 -- ---- the channels, from the last down: none left, a next over the limit, one within it
 module _ (channels : List Channel) (t : Bool) where
-  pub nexts-done : (k : ℕ) → k ≤ 0 → soundNexts k (nextIn channels) ≡ t → true ≡ t
-  unfolding soundNexts
+  pub nexts-done : (k : ℕ) → k ≤ 0 → nextsWithin channels k ≡ t → true ≡ t
+  unfolding nextsWithin below
   nexts-done k h e = let z : k ≡ 0 = omega arith in (rw z at e)
 
-  pub nexts-over : (k : ℕ) → 0 < k → numbers24 < nextIn channels (k - 1) → soundNexts k (nextIn channels) ≡ t → false ≡ t
-  unfolding soundNexts
+  pub nexts-over : (k : ℕ) → 0 < k → numbers24 < nextIn channels (k - 1) → nextsWithin channels k ≡ t → false ≡ t
+  unfolding nextsWithin below
   nexts-over zero h o e = absurd (not-suc-le-zero h)
-  nexts-over (suc k) h o e = sym (and-false (soundNexts k (nextIn channels))) ∙ (rw (lt-leb (nextIn channels k) numbers24 (rw sub-one at o)) at e)
+  nexts-over (suc k) h o e = sym (and-false (nextsWithin channels k)) ∙ (rw (lt-leb (nextIn channels k) numbers24 (rw sub-one at o)) at e)
 
-  pub nexts-further : (k : ℕ) → 0 < k → nextIn channels (k - 1) ≤ numbers24 → soundNexts k (nextIn channels) ≡ t → soundNexts (k - 1) (nextIn channels) ≡ t
-  unfolding soundNexts
+  pub nexts-further : (k : ℕ) → 0 < k → nextIn channels (k - 1) ≤ numbers24 → nextsWithin channels k ≡ t → nextsWithin channels (k - 1) ≡ t
+  unfolding nextsWithin below
   nexts-further zero h o e = absurd (not-suc-le-zero h)
   nexts-further (suc k) h o e =
-      rw sub-one (sym (and-true (soundNexts k (nextIn channels))) ∙ (rw (le-leb (nextIn channels k) numbers24 (rw sub-one at o)) at e))
+      rw sub-one (sym (and-true (nextsWithin channels k)) ∙ (rw (le-leb (nextIn channels k) numbers24 (rw sub-one at o)) at e))
 
 -- ---- an unsent number
 module _ (w : ReliableWindow) (n : ℕ) where
@@ -165,7 +165,7 @@ module _ (q : RecvQueue) (a : Bool) (e : a ≡ soundWindow (q .datagrams)) where
     unfolding soundQueue
     reliables-not h = rw (sym e ∙ f, sym g ∙ h)
 
-    module _ (h : b ≡ true) (c : Bool) (i : c ≡ soundNexts maxOrdChans (nextIn (q .channels))) where
+    module _ (h : b ≡ true) (c : Bool) (i : c ≡ soundNexts (nextIn (q .channels))) where
       pub channels-not : c ≡ false → false ≡ soundQueue q
       unfolding soundQueue nextOf nextIn
       channels-not j = rw (sym e ∙ f, sym g ∙ h, sym i ∙ j)

@@ -12,15 +12,16 @@ use lib.Seq.{take-at, length-take-le}
 use borrow.Author.Needs.{length-unmapped}
 use Rattle.base.specs.Answer.{Answer, refused, gives}
 use Rattle.base.specs.If.{ifTrue}
-use Rattle.base.specs.Limits.{windowPlaces, maxUnsent}
+use Rattle.base.specs.Limits.{windowPlaces, maxList, maxUnsent}
 use Rattle.base.specs.Put.{Run}
+use Rattle.base.proofs.Ifs.{lt-no}
 use Rattle.base.proofs.Puts.{after-fits, put-split, length-put}
 use Rattle.window.specs.declared.ReliableWindow.{ReliableWindow}
 use Rattle.window.specs.Missing.{missing}
 use Rattle.window.proofs.Missing.{missing-length}
 use Rattle.ack.specs.declared.WriteAck.{WriteAck}
 use Rattle.ack.specs.declared.WriteAck.the-variants as ack
-use Rattle.ack.specs.Write.{listBytes, writeListOf, writtenOf, writeAnswer}
+use Rattle.ack.specs.Write.{listBytes, someOver, tooLarge, writeListOf, writtenOf, writeAnswer}
 use Rattle.ack.proofs.WriteCases.{too-short, fits}
 use Rattle.recv.specs.declared.RecvQueue.{RecvQueue}
 use Rattle.recv.specs.Queue.{unsentOf, soundQueue}
@@ -36,15 +37,19 @@ module _ (room : ℕ) (nack : Bool) (l : List ℕ) (s : Sendable l) where
   abbrev size : ℕ
   size = length (listBytes nack l)
 
+  not-too-large : tooLarge l ≡ false
+  unfolding tooLarge
+  not-too-large = sym (lt-no maxList (length l) false true (someOver l) (s .within) (sym (s .below)))
+
   pub short-or-written : (P : Answer ℕ → Type 0) → (room < size → P (refused 12)) → (size ≤ room → P (gives size)) → P (writeListOf room nack l)
   unfolding writeListOf
   short-or-written P x y = go (decLt room size)
     where
       go : Dec (room < size) → P (writeListOf room nack l)
-      go (yes h) = rw (← too-short room nack l (refused 13) (refused 14) (refused 12) (gives size) (s .within) _ refl (s .below) _ refl (s .ordered) h) (x h)
+      go (yes h) = rw (← too-short room nack l (refused 13) (refused 14) (refused 12) (gives size) _ refl not-too-large _ refl (s .ordered) h) (x h)
       go (no h) =
           let k : size ≤ room = omega arith in
-          rw (← fits room nack l (refused 13) (refused 14) (refused 12) (gives size) (s .within) _ refl (s .below) _ refl (s .ordered) k) (y k)
+          rw (← fits room nack l (refused 13) (refused 14) (refused 12) (gives size) _ refl not-too-large _ refl (s .ordered) k) (y k)
 
   module _ (r : WriteAck) (e : writeAnswer r ≡ writeListOf room nack l) where
     pub answer-written : (n : ℕ) → r ≡ ack.Written n → gives n ≡ writeListOf room nack l

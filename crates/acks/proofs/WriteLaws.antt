@@ -2,24 +2,21 @@
 -- Assumes nothing.
 use mathlib.Core.Path.{_≡_, _∙_, sym, ap, refl, subst}
 use mathlib.Core.Bool.{Bool, true, false, true≢false}
-use mathlib.Core.List.{List, [], _++_, List·Memᴰ}
+use mathlib.Core.List.{List, [], List·Memᴰ}
 use mathlib.Core.Logic.{_↔_, _⊎_, inl, inr}
-use Prim.Native.Nat.{ℕ, _+_, _<_, _≤_}
+use Prim.Native.Nat.{ℕ, _<_, _≤_}
 use native.Mathlib.Omega.{arith}
-use lib.ListN.{length, drop}
+use lib.ListN.{length}
 use Rattle.base.specs.Answer.{Answer, refused, gives}
-use Rattle.base.specs.Put.{put}
 use Rattle.base.proofs.Choices.{cases}
-use Rattle.base.proofs.Puts.{put-split}
 use Rattle.window.specs.Missing.{missing}
 use Rattle.window.specs.Proper.{Sized}
 use Rattle.ack.specs.declared.Record.{Record}
 use Rattle.ack.specs.Records.{numbersOf, runs}
 use Rattle.ack.specs.Read.{headerSize, readHeaderOf, noneLeft, readAll, cursor}
 use Rattle.ack.specs.Write.{listBytes, writeListOf, writtenOf}
-use Rattle.ack.proofs.ReadBack.{bytes-header, bytes-records}
 use Rattle.ack.proofs.RunLaws.{runs-name}
-use Rattle.ack.proofs.WriteLaws.{write-cases, refused-writes-nothing}
+use Rattle.ack.proofs.WriteLaws.{refused-writes-nothing, read-back-header, read-back-records}
 use Rattle.recv.specs.declared.RecvQueue.{RecvQueue}
 use Rattle.recv.specs.Queue.{unsentOf, soundQueue}
 use Rattle.recv.specs.Write.{sorted, Wrote, writeOf, emptied, writeUnsentOf, writeMissingOf}
@@ -43,18 +40,13 @@ told-apart : {A X : Type 0} {x : A} {k : ℕ} → refused k ≡ gives x → X
 told-apart e = absurd (let z : _≡_ {A = ℕ} 0 1 = cc in omega arith)
 
 pub written-reads : (out : List ℕ) (nack : Bool) (l : List ℕ) (n : ℕ) → writeListOf (length out) nack l ≡ gives n → Reads nack l (writtenOf out nack l)
-written-reads out nack l n =
-    write-cases (λ (a : Answer ℕ) (m : List ℕ). a ≡ gives n → Reads nack l m) out nack l told-apart told-apart told-apart
-    (λ size w e.
-    let f : put out 0 (listBytes nack l) ≡ listBytes nack l ++ drop (0 + length (listBytes nack l)) out =
-    put-split out 0 (listBytes nack l) (omega (arith, w .size, w .fitting)) in
-    rw f
-    (record {
+written-reads out nack l n e =
+    record {
       records = runs l;
-      header = bytes-header nack l (w .within) (w .below) (drop (0 + length (listBytes nack l)) out);
-      steps = bytes-records nack l (w .within) (w .below) (drop (0 + length (listBytes nack l)) out);
+      header = read-back-header out nack l n e;
+      steps = read-back-records out nack l n e;
       names = runs-name l;
-    }))
+    }
 
 -- ---- the writings
 -- which answer a writing of so many bytes into so much room gives: 9, then 12, else the bytes; and no other number

@@ -2,10 +2,10 @@
 use Prim.Native.Nat.{ℕ}
 use mathlib.Core.Bool.{Bool, _&&_}
 use mathlib.Core.List.{List}
-use lib.Dec.{ltb}
+use lib.Dec.{ltb, leb}
 use lib.ListN.{getD}
 use Rattle.base.specs.Limits.{numbers24}
-use Rattle.base.specs.Lists.{every}
+use Rattle.base.specs.Lists.{every, below}
 use Rattle.window.specs.declared.ReliableWindow.{ReliableWindow}
 use Rattle.window.specs.Window.{accepted}
 use Rattle.recv.specs.declared.Channel.{Channel}
@@ -14,6 +14,10 @@ use Rattle.recv.specs.Queue.{differ}
 -- each channel's next order number, read off the array as `nextOf` reads it off the receiver's
 unfoldable pub nextIn : List Channel → ℕ → ℕ
 nextIn channels c = getD channels c (record { next = 0 }) .next
+
+-- "each channel's next is at most 2^24", of the first k channels
+unfoldable pub nextsWithin : List Channel → ℕ → Bool
+nextsWithin channels k = below k (λ c. leb (nextIn channels c) numbers24)
 
 -- a number that may be unsent: "below low or accepted", and below 2^24
 unfoldable pub soundNumber : ReliableWindow → ℕ → Bool

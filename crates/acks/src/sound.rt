@@ -7,7 +7,7 @@ ghost use mathlib.Core.Bool.{_||_, not};
 ghost use Prim.Native.Nat.{_+_, _<_, _≤_};
 ghost use lib.Dec.{ltb, eqb};
 ghost use lib.ListN.{length, take};
-ghost use Rattle.base.specs.Limits.{numbers24, maxOrdChans, windowPlaces};
+ghost use Rattle.base.specs.Limits.{numbers24, windowPlaces};
 ghost use Rattle.base.specs.Lists.{any, every};
 ghost use Rattle.window.specs.Places.{placeSet};
 ghost use Rattle.cells.specs.Sound.{soundNexts};
@@ -77,7 +77,7 @@ fn place_within(w: ReliableWindow, n: u32) -> bool
 
 // Each channel's next is at most 2^24.
 pub fn sound_channels(channels: [Channel; 32]) -> bool
-    ensures { λ r. ⌜ r ≡ soundNexts maxOrdChans (nextIn channels) ⌝ }
+    ensures { λ r. ⌜ r ≡ soundNexts (nextIn channels) ⌝ }
 {
     let mut left = base::MAX_ORD_CHANS as usize;
     while 0 < left {

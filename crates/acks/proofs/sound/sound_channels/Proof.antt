@@ -2,14 +2,14 @@ use mathlib.Core.Path.{_≡_}
 use Prim.Native.Nat.{_≤_}
 use Rattle.base.specs.Limits.{maxOrdChans}
 use Rattle.cells.specs.Sound.{soundNexts}
-use Rattle.acks.specs.Sound.{nextIn}
+use Rattle.acks.specs.Sound.{nextIn, nextsWithin}
 use Rattle.acks.proofs.SoundCases.{nexts-done, nexts-over, nexts-further}
 use borrow.Author.Needs.{needs}
 use Rattle.acks.proofs.sound.sound_channels.Statement.{statement}
 use Rattle.acks.proofs.sound.sound_channels.Tie as tie
 
 abbrev Inv-loop : tie.InvT-loop
-Inv-loop channels left₀ left = (left ≤ maxOrdChans) × (soundNexts left (nextIn channels) ≡ soundNexts maxOrdChans (nextIn channels))
+Inv-loop channels left₀ left = (left ≤ maxOrdChans) × (nextsWithin channels left ≡ soundNexts (nextIn channels))
 
 abbrev μ-loop : tie.MeasureT-loop
 μ-loop channels left₀ left = left
@@ -18,6 +18,7 @@ cast-left : tie.Need-cast-left Inv-loop μ-loop
 cast-left c = search needs
 
 loop-holds : tie.Need-loop-holds Inv-loop μ-loop
+unfolding nextsWithin
 loop-holds c = search needs
 
 sub-channel : tie.Need-sub-channel Inv-loop μ-loop
