@@ -15,7 +15,6 @@ use Rattle.cells.specs.declared.CellRecord.{CellRecord}
 abbrev pub Cell : Type 0
 Cell = CellRecord
 
-
 -- "one kept body each": a record with the body in its cell
 pub record Slot : Type 0 where
   pub cell : Cell
