@@ -15,9 +15,6 @@ pub use unsent::with_number;
 pub use write::write_missing;
 pub use write::write_unsent;
 
-// "1,024 unsent acknowledgements"
-pub const MAX_UNSENT: u32 = 1024;
-
 // Refusals: 9, 12.
 pub enum WriteQueue {
     Written { len: usize },

@@ -94,7 +94,7 @@ pub fn sound_unsent(queue: RecvQueue) -> bool
     ensures { λ r. ⌜ r ≡ soundUnsent queue ⌝ }
 {
     let pending = queue.pending;
-    if super::MAX_UNSENT < pending {
+    if base::MAX_UNSENT < pending {
         return false;
     }
     let w = queue.datagrams;

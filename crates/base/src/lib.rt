@@ -24,6 +24,16 @@ pub const MAX_MTU: u16 = 1500;
 
 pub const RAKNET_HEADER_FRAME_OVERHEAD: u16 = 60;
 
+pub const MAX_CELLS: usize = 4096;
+
+pub const CELL_BYTES: usize = 1500;
+
+pub const MIN_DATAGRAM: usize = 4;
+
+pub const MAX_DATAGRAM: usize = 1500;
+
+pub const MAX_UNSENT: u32 = 1024;
+
 // Reading is total: a byte past the end is 0.
 pub fn byte(s: &[u8], p: usize) -> u8
     ensures { λ r. ⌜ r ≡ getD (now (s .entry)) p 0 ⌝ }

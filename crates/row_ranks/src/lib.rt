@@ -14,9 +14,6 @@ ghost use Rattle.rows.specs.Whole.{rest};
 ghost use Rattle.row_tests.specs.Uses.{uses};
 ghost use Rattle.row_ranks.specs.Renumber.{renumbered, fewCells, firstTurns, isBelow, rankRow};
 
-// Document 01: "1 to 4,096 cells".
-const MAX_CELLS: usize = 4096;
-
 // Up to so many rows a short copy is enough.
 const FEW_CELLS: usize = 256;
 
@@ -107,7 +104,7 @@ fn renumber_many(words: &mut [u32])
     ensures is { λ _. ⌜ rowsOf (now (words .exit)) ≡ renumbered (now (words .entry)) ⌝ }
     ensures rest { λ _. ⌜ rest (now (words .exit)) ≡ rest (now (words .entry)) ⌝ }
 {
-    let mut turns = [0u32; MAX_CELLS];
+    let mut turns = [0u32; base::MAX_CELLS];
     renumber_by(words, &mut turns);
 }
 
@@ -121,7 +118,7 @@ pub fn renumber(words: &mut [u32])
         renumber_few(words);
         return;
     }
-    if n <= MAX_CELLS {
+    if n <= base::MAX_CELLS {
         renumber_many(words);
     }
 }

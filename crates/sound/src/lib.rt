@@ -14,21 +14,18 @@ const MAX_USE: u32 = 3;
 
 const MAX_KIND: u32 = 7;
 
-const MAX_ORD_CHANS: u32 = 32;
-
-const CELL_BYTES: u32 = 1500;
-
 fn in_limits(r: Row) -> bool
     ensures { λ b. ⌜ b ≡ limits (cellOf r) ⌝ }
 {
     (r.used <= MAX_USE)
         & ((r.kind <= MAX_KIND)
-            & ((r.channel < MAX_ORD_CHANS)
+            & ((r.channel < base::MAX_ORD_CHANS as u32)
                 & ((r.sequence < base::NUMBERS_24)
                     & ((r.order < base::NUMBERS_24)
                         & ((1 <= r.count)
                             & ((r.count <= base::MAX_FRAGS)
-                                & ((r.index < r.count) & (r.length <= CELL_BYTES))))))))
+                                & ((r.index < r.count)
+                                    & (r.length <= base::CELL_BYTES as u32))))))))
 }
 
 // Is d a cell of a's message?
