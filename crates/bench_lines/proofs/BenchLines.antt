@@ -1,11 +1,15 @@
--- The starred bench lines, all by computation over the definitions.
+-- The starred bench lines, by computation over the definitions. A receive asks first whether receiver, records and store are sound; those just made are
+-- (recv's law `start-sane`).
 -- Assumes nothing.
-use mathlib.Core.Path.{refl}
+use Prim.Native.Nat.{ℕ}
+use mathlib.Core.Path.{_≡_, refl}
+use Rattle.base.specs.Answer.{gives}
 use Rattle.base.specs.Bytes.{be16, be32, le24, be16Bytes, le24Bytes}
 use Rattle.base.specs.If.{ifTrue, ifLt, ifLe, ifEq}
 use Rattle.base.specs.Put.{put, andThen}
 use Rattle.reliability.specs.Kinds.{fieldsOf}
 use Rattle.frame.specs.Read as frame
+use Rattle.frame.specs.Frames as frames
 use Rattle.ack.specs.Records as records
 use Rattle.ack.specs.Write as ack
 use Rattle.window.specs.Places as places
@@ -13,7 +17,22 @@ use Rattle.window.specs.Window as window
 use Rattle.queue.specs.Split as split
 use Rattle.line.specs.Frame as line
 use Rattle.line.specs.Bare as bare
-use Rattle.bench_lines.specs.BenchLines.{BenchLines}
+use Rattle.cells.specs.Datagram as datagram
+use Rattle.recv.specs.Queue as queue
+use Rattle.recv.specs.Receive as receive
+use Rattle.recv.specs.Calls as calls
+use Rattle.recv.specs.Claim.{Start, begun}
+use Rattle.recv.proofs.Demand.{start-sane}
+use Rattle.bench_lines.specs.BenchLines.{reported, withPiece, BenchLines}
+
+piece-dropped : (s : Start) (id₁ id₂ byte : ℕ) → reported (begun s) (withPiece id₁ id₂ byte) ≡ gives (record { ready = 0; dropped = 1; left = 0 })
+unfolding ifTrue ifLt ifLe ifEq be16 be32 le24
+    fieldsOf frame.frameAt frame.placedAt frame.readFrameOf frames.onRead frames.framesFrom frames.endFrom frames.framesOf frames.endOf
+    places.bit places.placeSet window.newWindow window.accepted
+    line.carriesReliable line.inLimits bare.seenBefore
+    datagram.dropOne datagram.acceptIn datagram.frame datagram.frames datagram.begin datagram.datagram
+    queue.newQueue receive.frameIn receive.framesIn receive.bytesLeft receive.acceptAll receive.stateOf receive.acceptedOf receive.receiveOf calls.made
+piece-dropped s id₁ id₂ byte = rw (start-sane s .sound, reported)
 
 pub bench-lines : BenchLines
 unfolding ifTrue ifLt ifLe ifEq be16 be32 le24 be16Bytes le24Bytes put andThen
@@ -38,5 +57,6 @@ bench-lines =
       split-1441 = (refl, refl, refl);
       split-1440 = λ k. refl;
       mtu-60 = λ n k. refl;
-      index-2-of-2 = λ id. (refl, refl);
+      index-2-of-2 = piece-dropped;
+      bare-index-2-of-2 = λ id. (refl, refl);
     }

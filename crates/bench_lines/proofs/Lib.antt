@@ -1,1 +1,2 @@
 pub mod BenchLines
+pub mod Trace

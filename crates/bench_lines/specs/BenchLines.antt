@@ -14,6 +14,9 @@ use Rattle.window.specs.Window.{newWindow, insertOf}
 use Rattle.queue.specs.Split.{pieceOf}
 use Rattle.line.specs.Frame as line
 use Rattle.line.specs.Bare.{new, step}
+use Rattle.recv.specs.Receive.{Report, receiveOf}
+use Rattle.recv.specs.Calls.{Receiver}
+use Rattle.recv.specs.Claim.{Start, begun}
 
 -- reading at the first byte gives this frame with this body, to the last byte
 abbrev pub ReadsAs : List ℕ → Frame → List ℕ → Type 0
@@ -37,6 +40,17 @@ abbrev pub AckIs : List ℕ → List ℕ → Type 0
 AckIs numbers bytes =
     (writeListOf (length bytes) false numbers ≡ gives (length bytes))
     × (writtenOf (replicate (length bytes) 0) false numbers ≡ bytes)
+
+-- what a receive answers
+abbrev pub reported : Receiver → List ℕ → Answer Report
+reported x d = receiveOf (x .queue) (x .records) (x .store) d .answer
+
+-- a datagram with one frame, a piece of kind 3 in channel 0 of count 2 and index 2, whose id and body's byte are given
+abbrev pub withPiece : ℕ → ℕ → ℕ → List ℕ
+withPiece id₁ id₂ byte =
+    0x84 ∷ 0x00 ∷ 0x00 ∷ 0x00
+    ∷ 0x70 ∷ 0x00 ∷ 0x08 ∷ 0x00 ∷ 0x00 ∷ 0x00 ∷ 0x00 ∷ 0x00 ∷ 0x00 ∷ 0x00
+    ∷ 0x00 ∷ 0x00 ∷ 0x00 ∷ 0x02 ∷ id₁ ∷ id₂ ∷ 0x00 ∷ 0x00 ∷ 0x00 ∷ 0x02 ∷ byte ∷ []
 
 -- a piece of kind 3 with these piece fields
 abbrev pub piece : ℕ → ℕ → ℕ → line.Frame
@@ -84,5 +98,7 @@ pub record BenchLines : Type 0 where
   pub split-1440 : (k : ℕ) → pieceOf 1440 1500 k ≡ refused 17
   -- "mtu 60: 16.": whatever the data
   pub mtu-60 : (n k : ℕ) → pieceOf n 60 k ≡ refused 16
-  -- "Piece index 2 of count 2: dropped."
-  pub index-2-of-2 : (id : ℕ) → (step new (piece 2 id 2) .dropped ≡ 1) × (step new (piece 2 id 2) .ready ≡ 0)
+  -- "Piece index 2 of count 2: dropped.": by a receiver just made, of any number of cells
+  pub index-2-of-2 : (s : Start) (id₁ id₂ byte : ℕ) → reported (begun s) (withPiece id₁ id₂ byte) ≡ gives (record { ready = 0; dropped = 1; left = 0 })
+  -- and by the bare receiver
+  pub bare-index-2-of-2 : (id : ℕ) → (step new (piece 2 id 2) .dropped ≡ 1) × (step new (piece 2 id 2) .ready ≡ 0)

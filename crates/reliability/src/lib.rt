@@ -1,7 +1,7 @@
 // One table of eight rows gives each kind's fields. Kinds 0 to 7 are those of the Rust's `Reliability`.
 ghost use mathlib.Core.Path.{_≡_};
 ghost use Prim.Native.Nat.{_≤_};
-ghost use Rattle.reliability.specs.Kinds.{fieldsOf, Small};
+ghost use Rattle.reliability.specs.Kinds.{fieldsOf, hasReliable, Small};
 
 // What a frame of a kind carries: for each field the place in the header, counted from the frame's first byte, or 0 where the kind lacks it;
 // and how many bytes the header takes, without a piece's.
@@ -88,4 +88,12 @@ pub fn fields(k: u8) -> KindFields
     let i = (k % 8) as usize;
     let f = KINDS[i];
     f
+}
+
+// Has a frame of kind `k` a reliable number? None has where `k` is no kind.
+pub fn has_reliable(k: u8) -> bool
+    ensures { λ r. ⌜ r ≡ hasReliable k ⌝ }
+{
+    let f = fields(k);
+    (k < 8) & (f.reliable != 0)
 }

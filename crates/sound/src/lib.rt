@@ -1,13 +1,15 @@
-// Whether the cells' records in rows are sound (document 01, "Calls and their numbers", 9), as far as it speaks of cells.
+// Whether receiver, cells' records and store are sound (document 01, "Calls and their numbers", 9).
 use recv::Channel;
+use recv::RecvQueue;
 use rows::ROW;
 use rows::Row;
 ghost use mathlib.Core.Path.{_≡_};
 ghost use Prim.Native.Nat.{_≤_, _<_};
 ghost use mathlib.Core.Bool.{cond, not};
 ghost use Rattle.base.specs.Limits.{maxOrdChans};
-ghost use Rattle.cells.specs.Sound.{limits, agree, soundCells};
+ghost use Rattle.cells.specs.Sound.{limits, agree, soundCells, lengths};
 ghost use Rattle.rows.specs.Rows.{cellOf, cellsIn};
+ghost use Rattle.recv.specs.Receive.{soundCall};
 ghost use Rattle.sound.specs.Counted.{nextIn, mate, countedCell, tallyOf};
 
 const MAX_USE: u32 = 3;
@@ -133,4 +135,31 @@ pub fn sound_cells(words: &[u32], channels: [Channel; 32]) -> bool
         }
     }
     true
+}
+
+// "1 to 4,096 cells of 1,500 bytes"; "the store is exactly one cell for each record".
+fn lengths_fit(cells: usize, bytes: usize) -> bool
+    ensures { λ r. ⌜ r ≡ lengths cells bytes ⌝ }
+{
+    if cells < 1 {
+        return false;
+    }
+    if base::MAX_CELLS < cells {
+        return false;
+    }
+    bytes == base::CELL_BYTES * cells
+}
+
+// "9 slice lengths .. or records unsound": the tests that come first in a call that is lent cells. The words have one row for each cell.
+pub fn sound_call(queue: RecvQueue, words: &[u32], store: &[u8]) -> bool
+    ensures { λ r. ⌜ r ≡ soundCall queue (cellsIn (now (words .entry))) (now (store .entry)) ⌝ }
+{
+    if lengths_fit(words.len() / ROW, store.len()) {} else {
+        return false;
+    }
+    if acks::sound_queue(queue) {} else {
+        return false;
+    }
+    let channels = queue.channels;
+    sound_cells(words, channels)
 }

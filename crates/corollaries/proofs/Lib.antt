@@ -1,0 +1,7 @@
+pub mod Widths
+pub mod Refusals
+pub mod UnsentAfter
+pub mod SoundStays
+pub mod Corollaries
+pub mod Shape
+pub mod Teeth

@@ -1,0 +1,121 @@
+-- Demand 3's statement has teeth: over the calls of document 01's program `trace` it holds of our receive and take and fails of each wrong receiver. By computation.
+-- Assumes nothing.
+use Prim.Native.Nat.{ℕ}
+use mathlib.Core.Path.{_≡_, refl, sym, _∙_, ap}
+use mathlib.Core.List.{List, [], _∷_, _++_}
+use native.Mathlib.Omega.{arith}
+use lib.ListN.{length}
+use Rattle.base.specs.Bytes.{be16, be32, le24, be16Bytes, le24Bytes}
+use Rattle.base.specs.Put.{put, andThen}
+use Rattle.base.specs.If.{ifTrue, ifLt, ifLe, ifEq}
+use Rattle.reliability.specs.Kinds.{fieldsOf}
+use Rattle.frame.specs.Read as fr
+use Rattle.frame.specs.Frames as frs
+use Rattle.ack.specs.Records as records
+use Rattle.ack.specs.Write as ack
+use Rattle.window.specs.Places as places
+use Rattle.window.specs.Window as window
+use Rattle.line.specs.Frame.{Message}
+use Rattle.line.specs.Bare.{new}
+use Rattle.line.specs.Order.{lineFor}
+use Rattle.line.proofs.Shown.{whole-frame, msg}
+use Rattle.cells.specs.Records.{indexOf}
+use Rattle.cells.proofs.Shown.{run}
+use Rattle.recv.specs.Queue.{newQueue, placesWithin, soundWindow, differ, soundUnsent, soundQueue, nextOf, unsentOf, insertUnsent}
+use Rattle.recv.specs.Receive.{frameIn, framesIn, bytesLeft, acceptAll, stateOf, channelsAfter, queueAfter, acceptedOf, refusedOf, soundCall, receiveOf}
+use Rattle.recv.specs.Take.{handed, takeOf}
+use Rattle.recv.specs.Write.{sorted, writeOf, emptied, writeUnsentOf}
+use Rattle.recv.specs.Calls.{made, zeros, takes, bytesAt, messageOf, tookOf, Accepted, acceptedBy, framesRead, bareAnswers}
+use Rattle.recv.specs.Claim.{begun}
+use Rattle.corollaries.specs.Shape.{Pair, ours, afterBy, afterAllBy, handedOutBy, stillOutBy, acceptedOfBy, readBy, OneListBy}
+use Rattle.corollaries.specs.Wrong.{idle, untouched, acknowledged, firstOnly, mute, trace1, trace2, traceCalls, traceStart}
+
+-- What a pair's takes handed out over these calls, then what they would still hand out. `unfolding outBy` opens every definition that such a
+-- run computes with, beside those that `run` does.
+unfoldable pub outBy : Pair → List Message
+unfolding trace1 trace2 traceCalls traceStart made zeros takes bytesAt messageOf tookOf acceptedBy framesRead bareAnswers afterBy afterAllBy handedOutBy stillOutBy acceptedOfBy lineFor
+    framesIn frameIn bytesLeft frs.framesOf frs.framesFrom frs.endOf frs.endFrom frs.onRead fr.readFrameOf fr.frameAt fr.placedAt ifTrue ifLt ifLe ifEq be16 be32 le24 be16Bytes le24Bytes put andThen fieldsOf
+    records.firstOf records.lastOf records.recordBytes records.recordsBytes records.grow records.runs ack.idOf ack.headerBytes ack.listBytes ack.someOver ack.tooLarge ack.ascending ack.byCase ack.writeListOf ack.writtenOf
+    places.bit places.placeSet places.setPlace places.clearPlace window.newWindow window.accepted window.advance window.accept
+    newQueue placesWithin soundWindow differ soundUnsent soundQueue nextOf unsentOf insertUnsent acceptAll stateOf channelsAfter queueAfter acceptedOf refusedOf soundCall receiveOf
+    handed takeOf indexOf sorted writeOf emptied writeUnsentOf idle untouched acknowledged firstOnly mute ours
+outBy p = handedOutBy p (begun traceStart) traceCalls ++ stillOutBy p (afterAllBy p (begun traceStart) traceCalls)
+
+-- the line that the trace's two accepted datagrams give: their messages by order number
+unfoldable pub traceLine : List Message
+traceLine = msg 3 0 0 (0x41 ∷ []) ∷ msg 3 0 1 (0x42 ∷ []) ∷ []
+
+-- what a pair accepts, with its answers' counts
+unfoldable pub acceptsBy : Pair → List Accepted
+acceptsBy p = acceptedOfBy p (begun traceStart) traceCalls
+
+unfoldable pub traceAccepted : List Accepted
+traceAccepted =
+    record { frames = whole-frame 3 0 0 1 0x42 ∷ []; ready = 0; dropped = 0 }
+    ∷ record { frames = whole-frame 3 1 0 0 0x41 ∷ []; ready = 2; dropped = 0 } ∷ []
+
+ours-accepts : acceptsBy ours ≡ traceAccepted
+unfolding run outBy acceptsBy traceAccepted
+ours-accepts = refl
+
+ours-hands-out : outBy ours ≡ traceLine
+unfolding run outBy traceLine
+ours-hands-out = refl
+
+bare-line : lineFor (framesRead traceAccepted) ≡ traceLine
+unfolding run outBy traceLine traceAccepted
+bare-line = refl
+
+bare-counts : bareAnswers new traceAccepted ≡ traceAccepted
+unfolding run outBy traceAccepted
+bare-counts = refl
+
+-- Our receive and take pass.
+pub ours-passes : OneListBy ours traceStart traceCalls
+ours-passes =
+    let e : acceptedOfBy ours (begun traceStart) traceCalls ≡ traceAccepted = unfold acceptsBy in ours-accepts in
+    let h : handedOutBy ours (begun traceStart) traceCalls ++ stillOutBy ours (afterAllBy ours (begun traceStart) traceCalls) ≡ traceLine = unfold outBy in ours-hands-out in
+    record { line = rw e (bare-line ∙ sym h); counts = rw e (sym bare-counts) }
+
+-- A pair that accepts frames with two messages in the line and hands out none fails.
+none-handed-out : (p : Pair) → length (lineFor (readBy p traceStart traceCalls)) ≡ 2 → length (outBy p) ≡ 0 → OneListBy p traceStart traceCalls → ⊥
+none-handed-out p two none o =
+    let c : lineFor (readBy p traceStart traceCalls) ≡ outBy p = unfold outBy in o .line in
+    let n : length (lineFor (readBy p traceStart traceCalls)) ≡ length (outBy p) = ap {B = ℕ} (λ l. length l) c in
+    omega arith
+
+idle-line : length (lineFor (readBy idle traceStart traceCalls)) ≡ 2
+unfolding run outBy
+idle-line = refl
+
+idle-out : length (outBy idle) ≡ 0
+unfolding run outBy
+idle-out = refl
+
+-- The idle one hands out nothing of what it accepted.
+pub idle-fails : OneListBy idle traceStart traceCalls → ⊥
+idle-fails = none-handed-out idle idle-line idle-out
+
+first-only-line : length (lineFor (readBy firstOnly traceStart traceCalls)) ≡ 2
+unfolding run outBy
+first-only-line = refl
+
+first-only-out : length (outBy firstOnly) ≡ 0
+unfolding run outBy
+first-only-out = refl
+
+-- The one that keeps its first datagram only holds order number 1 for ever.
+pub first-only-fails : OneListBy firstOnly traceStart traceCalls → ⊥
+first-only-fails = none-handed-out firstOnly first-only-line first-only-out
+
+mute-line : length (lineFor (readBy mute traceStart traceCalls)) ≡ 2
+unfolding run outBy
+mute-line = refl
+
+mute-out : length (outBy mute) ≡ 0
+unfolding run outBy
+mute-out = refl
+
+-- The mute one has both messages ready and hands out none.
+pub mute-fails : OneListBy mute traceStart traceCalls → ⊥
+mute-fails = none-handed-out mute mute-line mute-out

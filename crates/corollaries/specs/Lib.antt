@@ -1,0 +1,4 @@
+pub mod Widths
+pub mod Refusals
+pub mod Shape
+pub mod Wrong

@@ -1,0 +1,1 @@
+// What follows of the calls: definitions (specs/) and theorems (proofs/), no code.

@@ -1,0 +1,46 @@
+-- What step 4 does with a message, found from the channel's next number and the rows; each case with the facts as the code finds them.
+-- Assumes nothing.
+use Prim.Native.Nat.{ℕ, _≤_, _<_}
+use mathlib.Core.Path.{_≡_, sym, _∙_}
+use mathlib.Core.Bool.{Bool, true, false}
+use mathlib.Core.List.{List}
+use borrow.Author.Tests.{lt-ltb, le-ltb, eq-eqb, ne-eqb}
+use Rattle.base.specs.Lists.{any}
+use Rattle.frame.specs.declared.Placed.{Placed}
+use Rattle.line.specs.Frame.{ordered}
+use Rattle.cells.specs.Cell.{heldAs, bears}
+use Rattle.cells.specs.Datagram.{fate, fateOf, isHeld}
+use Rattle.rows.specs.Rows.{rowsOf, cellsIn}
+use Rattle.slots.specs.Slots.{slotsIn}
+use Rattle.slots.proofs.Tests.{held-rows}
+use Rattle.recv.specs.Receive.{frameIn}
+use Rattle.pass.specs.declared.Pass.{Pass}
+use Rattle.pass.specs.declared.Course.the-variants.{Late, Early, Due, Free}
+use Rattle.pass.specs.Work.{nextIn, workOf, fateIs}
+
+module _ (ws : List ℕ) (x : Pass) (p : Placed) (b : Bool) (eb : b ≡ ordered (p .frame .kind)) where
+  pub fate-free : b ≡ false → (store d : List ℕ) → fateIs Free ≡ fateOf (frameIn d p) (workOf x (rowsOf ws) store d)
+  unfolding fateIs fateOf frameIn fate
+  fate-free t store d = rw (sym eb ∙ t)
+
+  module _ (t : b ≡ true) (n : ℕ) (en : n ≡ nextIn (x .channels) (p .frame .channel)) where
+    pub fate-behind : p .frame .order < n → (store d : List ℕ) → fateIs Late ≡ fateOf (frameIn d p) (workOf x (rowsOf ws) store d)
+    unfolding fateIs fateOf frameIn fate workOf
+    fate-behind lt store d = rw (sym eb ∙ t, ← en, lt-ltb (p .frame .order) n lt)
+
+    module _ (ge : n ≤ p .frame .order) (h : Bool) (eh : h ≡ any (bears (heldAs (p .frame .channel) (p .frame .order))) (cellsIn ws)) where
+      held : (store d : List ℕ) → isHeld (p .frame .channel) (p .frame .order) (slotsIn (rowsOf ws) store d) ≡ h
+      unfolding cellsIn
+      held store d = held-rows (rowsOf ws) store d (p .frame .channel) (p .frame .order) ∙ sym eh
+
+      pub fate-held : h ≡ true → (store d : List ℕ) → fateIs Late ≡ fateOf (frameIn d p) (workOf x (rowsOf ws) store d)
+      unfolding fateIs fateOf frameIn fate workOf
+      fate-held y store d = rw (sym eb ∙ t, ← en, le-ltb (p .frame .order) n ge, held store d ∙ y)
+
+      pub fate-due : h ≡ false → p .frame .order ≡ n → (store d : List ℕ) → fateIs Due ≡ fateOf (frameIn d p) (workOf x (rowsOf ws) store d)
+      unfolding fateIs fateOf frameIn fate workOf
+      fate-due y q store d = rw (sym eb ∙ t, ← en, le-ltb (p .frame .order) n ge, held store d ∙ y, eq-eqb (p .frame .order) n q)
+
+      pub fate-early : h ≡ false → (p .frame .order ≡ n → ⊥) → (store d : List ℕ) → fateIs Early ≡ fateOf (frameIn d p) (workOf x (rowsOf ws) store d)
+      unfolding fateIs fateOf frameIn fate workOf
+      fate-early y q store d = rw (sym eb ∙ t, ← en, le-ltb (p .frame .order) n ge, held store d ∙ y, ne-eqb (p .frame .order) n q)

@@ -1,0 +1,11 @@
+pub mod Own
+pub mod Changing
+pub mod Moving
+pub mod Fates
+pub mod Following
+pub mod Wholes
+pub mod Joining
+pub mod Stepping
+pub mod Growing
+pub mod Passing
+pub mod Flushing

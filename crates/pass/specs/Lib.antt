@@ -1,0 +1,6 @@
+pub mod Work
+pub mod Own
+pub mod Placing
+pub mod Moves
+pub mod Frames
+pub mod Flush
