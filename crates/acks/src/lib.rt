@@ -7,10 +7,7 @@ mod sound;
 mod unsent;
 mod write;
 
-pub use sound::sound_channels;
 pub use sound::sound_queue;
-pub use sound::sound_unsent;
-pub use sound::sound_window;
 pub use unsent::with_number;
 pub use write::write_missing;
 pub use write::write_unsent;

@@ -35,7 +35,7 @@ pub fn sound_queue(queue: RecvQueue) -> bool
 }
 
 // Where low + 2,048 is below 2^24, so is every place's number.
-pub fn sound_window(w: ReliableWindow) -> bool
+fn sound_window(w: ReliableWindow) -> bool
     ensures { λ r. ⌜ r ≡ soundWindow w ⌝ }
 {
     let low = w.low;
@@ -76,7 +76,7 @@ fn place_within(w: ReliableWindow, n: u32) -> bool
 }
 
 // Each channel's next is at most 2^24.
-pub fn sound_channels(channels: [Channel; 32]) -> bool
+fn sound_channels(channels: [Channel; 32]) -> bool
     ensures { λ r. ⌜ r ≡ soundNexts (nextIn channels) ⌝ }
 {
     let mut left = base::MAX_ORD_CHANS as usize;
@@ -90,7 +90,7 @@ pub fn sound_channels(channels: [Channel; 32]) -> bool
     true
 }
 
-pub fn sound_unsent(queue: RecvQueue) -> bool
+fn sound_unsent(queue: RecvQueue) -> bool
     ensures { λ r. ⌜ r ≡ soundUnsent queue ⌝ }
 {
     let pending = queue.pending;
