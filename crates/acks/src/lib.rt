@@ -3,12 +3,12 @@
 use recv::RecvQueue;
 
 mod sort;
-mod sound;
 mod unsent;
+mod values;
 mod write;
 
-pub use sound::sound_queue;
 pub use unsent::with_number;
+pub use values::sound_queue;
 pub use write::write_missing;
 pub use write::write_unsent;
 

@@ -1,7 +1,7 @@
 use Rattle.acks.proofs.SoundCases.{datagrams-not, reliables-not, channels-not, all-sound}
 use borrow.Author.Needs.{needs}
-use Rattle.acks.proofs.sound.sound_queue.Statement.{statement}
-use Rattle.acks.proofs.sound.sound_queue.Tie as tie
+use Rattle.acks.proofs.values.sound_queue.Statement.{statement}
+use Rattle.acks.proofs.values.sound_queue.Tie as tie
 
 sound-window-requires : tie.Need-sound-window-requires
 sound-window-requires c κs = search needs

@@ -5,8 +5,8 @@ use Rattle.base.specs.Lists.{every}
 use Rattle.acks.specs.Sound.{soundNumber}
 use Rattle.acks.proofs.ForBase.{every-not, every-further, every-yes}
 use borrow.Author.Needs.{needs}
-use Rattle.acks.proofs.sound.each_sound.Statement.{statement}
-use Rattle.acks.proofs.sound.each_sound.Tie as tie
+use Rattle.acks.proofs.values.each_sound.Statement.{statement}
+use Rattle.acks.proofs.values.each_sound.Tie as tie
 
 abbrev Inv-loop : tie.InvT-loop
 Inv-loop w numbers i₀ i = (i ≤ length numbers) × (every (soundNumber w) (drop i numbers) ≡ every (soundNumber w) numbers)

@@ -1,8 +1,8 @@
 use Rattle.acks.proofs.ForBase.{within-field}
 use Rattle.acks.proofs.SoundCases.{unsent-over, unsent-by-numbers}
 use borrow.Author.Needs.{needs}
-use Rattle.acks.proofs.sound.sound_unsent.Statement.{statement}
-use Rattle.acks.proofs.sound.sound_unsent.Tie as tie
+use Rattle.acks.proofs.values.sound_unsent.Statement.{statement}
+use Rattle.acks.proofs.values.sound_unsent.Tie as tie
 
 returns : tie.Need-returns
 returns c = search (needs, unsent-over)

@@ -4,8 +4,8 @@ use Rattle.base.specs.Limits.{windowPlaces}
 use Rattle.recv.specs.Queue.{placesWithin}
 use Rattle.acks.proofs.SoundCases.{places-done, places-not, places-further}
 use borrow.Author.Needs.{needs}
-use Rattle.acks.proofs.sound.places_within.Statement.{statement}
-use Rattle.acks.proofs.sound.places_within.Tie as tie
+use Rattle.acks.proofs.values.places_within.Statement.{statement}
+use Rattle.acks.proofs.values.places_within.Tie as tie
 
 abbrev Inv-loop : tie.InvT-loop
 Inv-loop w low k₀ k = (k ≤ windowPlaces) × (placesWithin w k ≡ placesWithin w windowPlaces)

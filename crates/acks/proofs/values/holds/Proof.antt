@@ -5,8 +5,8 @@ use lib.ListN.{length, drop}
 use Rattle.base.specs.Lists.{any}
 use Rattle.acks.proofs.SoundCases.{held, held-further, held-nowhere}
 use borrow.Author.Needs.{needs}
-use Rattle.acks.proofs.sound.holds.Statement.{statement}
-use Rattle.acks.proofs.sound.holds.Tie as tie
+use Rattle.acks.proofs.values.holds.Statement.{statement}
+use Rattle.acks.proofs.values.holds.Tie as tie
 
 abbrev Inv-loop : tie.InvT-loop
 Inv-loop numbers n i₀ i = (i ≤ length numbers) × (any (eqb n) (drop i numbers) ≡ any (eqb n) numbers)

@@ -1,7 +1,7 @@
 use Rattle.acks.proofs.SoundCases.{low-over, window-below, window-by-places}
 use borrow.Author.Needs.{needs}
-use Rattle.acks.proofs.sound.sound_window.Statement.{statement}
-use Rattle.acks.proofs.sound.sound_window.Tie as tie
+use Rattle.acks.proofs.values.sound_window.Statement.{statement}
+use Rattle.acks.proofs.values.sound_window.Tie as tie
 
 returns : tie.Need-returns
 returns c = search (needs, low-over)

@@ -1,7 +1,7 @@
 use Rattle.acks.proofs.SoundCases.{numbers-differ, numbers-not}
 use borrow.Author.Needs.{needs}
-use Rattle.acks.proofs.sound.sound_numbers.Statement.{statement}
-use Rattle.acks.proofs.sound.sound_numbers.Tie as tie
+use Rattle.acks.proofs.values.sound_numbers.Statement.{statement}
+use Rattle.acks.proofs.values.sound_numbers.Tie as tie
 
 each-sound-requires : tie.Need-each-sound-requires
 each-sound-requires c κs = search needs

@@ -1,7 +1,7 @@
 use Rattle.acks.proofs.ForBase.{part-count}
 use borrow.Author.Needs.{needs}
-use Rattle.acks.proofs.sound.first_sound.Statement.{statement}
-use Rattle.acks.proofs.sound.first_sound.Tie as tie
+use Rattle.acks.proofs.values.first_sound.Statement.{statement}
+use Rattle.acks.proofs.values.first_sound.Tie as tie
 
 slice-aggregate-sound-numbers : tie.Need-slice-aggregate-sound-numbers
 slice-aggregate-sound-numbers c = search (needs, part-count)

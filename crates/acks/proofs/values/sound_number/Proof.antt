@@ -1,7 +1,7 @@
 use Rattle.acks.proofs.SoundCases.{number-below, number-over}
 use borrow.Author.Needs.{needs}
-use Rattle.acks.proofs.sound.sound_number.Statement.{statement}
-use Rattle.acks.proofs.sound.sound_number.Tie as tie
+use Rattle.acks.proofs.values.sound_number.Statement.{statement}
+use Rattle.acks.proofs.values.sound_number.Tie as tie
 
 accepted-requires : tie.Need-accepted-requires
 accepted-requires c κs = search needs

@@ -5,8 +5,8 @@ use Rattle.cells.specs.Sound.{soundNexts}
 use Rattle.acks.specs.Sound.{nextIn, nextsWithin}
 use Rattle.acks.proofs.SoundCases.{nexts-done, nexts-over, nexts-further}
 use borrow.Author.Needs.{needs}
-use Rattle.acks.proofs.sound.sound_channels.Statement.{statement}
-use Rattle.acks.proofs.sound.sound_channels.Tie as tie
+use Rattle.acks.proofs.values.sound_channels.Statement.{statement}
+use Rattle.acks.proofs.values.sound_channels.Tie as tie
 
 abbrev Inv-loop : tie.InvT-loop
 Inv-loop channels left₀ left = (left ≤ maxOrdChans) × (nextsWithin channels left ≡ soundNexts (nextIn channels))

@@ -4,8 +4,8 @@ use lib.ListN.{length, drop}
 use Rattle.ack.specs.Write.{ascending}
 use Rattle.ack.proofs.PassCases.{ascending-not, ascending-further, ascending-yes}
 use borrow.Author.Needs.{needs}
-use Rattle.acks.proofs.sound.is_ascending.Statement.{statement}
-use Rattle.acks.proofs.sound.is_ascending.Tie as tie
+use Rattle.acks.proofs.values.is_ascending.Statement.{statement}
+use Rattle.acks.proofs.values.is_ascending.Tie as tie
 
 abbrev Inv-loop : tie.InvT-loop
 Inv-loop numbers i₀ i = (i ≤ length numbers) × (ascending (drop i numbers) ≡ ascending numbers)

@@ -1,7 +1,7 @@
 use Rattle.acks.proofs.SoundCases.{place-below, place-over}
 use borrow.Author.Needs.{needs}
-use Rattle.acks.proofs.sound.place_within.Statement.{statement}
-use Rattle.acks.proofs.sound.place_within.Tie as tie
+use Rattle.acks.proofs.values.place_within.Statement.{statement}
+use Rattle.acks.proofs.values.place_within.Tie as tie
 
 returns : tie.Need-returns
 returns c = search (needs, place-below)

@@ -4,8 +4,8 @@ use lib.ListN.{length, drop}
 use Rattle.recv.specs.Queue.{differ}
 use Rattle.acks.proofs.SoundCases.{differ-not, differ-further, differ-yes}
 use borrow.Author.Needs.{needs}
-use Rattle.acks.proofs.sound.each_differs.Statement.{statement}
-use Rattle.acks.proofs.sound.each_differs.Tie as tie
+use Rattle.acks.proofs.values.each_differs.Statement.{statement}
+use Rattle.acks.proofs.values.each_differs.Tie as tie
 
 abbrev Inv-loop : tie.InvT-loop
 Inv-loop numbers i₀ i = (i ≤ length numbers) × (differ (drop i numbers) ≡ differ numbers)

@@ -1,7 +1,7 @@
 use Rattle.acks.proofs.SoundCases.{differ-ascending}
 use borrow.Author.Needs.{needs}
-use Rattle.acks.proofs.sound.all_differ.Statement.{statement}
-use Rattle.acks.proofs.sound.all_differ.Tie as tie
+use Rattle.acks.proofs.values.all_differ.Statement.{statement}
+use Rattle.acks.proofs.values.all_differ.Tie as tie
 
 is-ascending-requires : tie.Need-is-ascending-requires
 is-ascending-requires c κs = search needs
