@@ -6,12 +6,11 @@
 // LENGTH SUM`; on a refusal the letter and document 01's number. SUM is over the bytes handed out: from 1 on, for each byte h = (31 h + byte) mod 65521.
 use acks::WriteQueue;
 use cells::CellRecord;
+use libc::STDIN_FILENO;
 use libc::STDOUT_FILENO;
 use pass::Receive;
 use recv::RecvQueue;
 use takes::Take;
-
-mod reading;
 
 const STORE: usize = base::CELL_BYTES * held::HELD;
 
@@ -59,8 +58,6 @@ fn with_cells(queue: RecvQueue, records: [CellRecord; 256]) -> Receiver {
     Receiver { queue, records }
 }
 
-// ---- receive
-
 fn show_accepted(ready: u32, dropped: u32, left: usize) {
     text(b"r 0");
     value(ready as u64);
@@ -99,8 +96,6 @@ fn receive(x: Receiver, cells: usize, store: &mut [u8], datagram: &[u8]) -> Rece
     with_cells(q, rs)
 }
 
-// ---- take
-
 fn show_handed(body: &[u8], kind: u8, channel: u8, order: u32) {
     text(b"t 0");
     value(body.len() as u64);
@@ -121,14 +116,13 @@ fn show_take<'a>(answer: Take, store: &'a [u8], joined: &'a [u8]) {
             kind,
             channel,
             order,
-            start: _,
-            len: _,
+            ..
         } => show_handed(body, kind, channel, order),
         Take::Joined {
             kind,
             channel,
             order,
-            len: _,
+            ..
         } => show_handed(body, kind, channel, order),
     }
 }
@@ -142,8 +136,6 @@ fn take(x: Receiver, cells: usize, store: &[u8], joined: &mut [u8]) -> Receiver 
     show_take(answer, store, joined);
     with_cells(queue, rs)
 }
-
-// ---- the writings
 
 fn show_written(letter: &[u8], out: &[u8], len: usize) {
     text(letter);
@@ -183,7 +175,69 @@ fn write_missing(x: Receiver, out: &mut [u8]) -> Receiver {
     with_cells(q, records)
 }
 
-// ---- the list
+// ---- the input
+
+// What stands for the first byte of a call where the input ends.
+const END: u8 = 255;
+
+// Reads just as many bytes as the buffer has; are they all there?
+fn read_all(buffer: &mut [u8]) -> bool {
+    let n = io::read_full(STDIN_FILENO, buffer);
+    n == buffer.len()
+}
+
+fn zero(buffer: &mut [u8]) {
+    let mut i = 0;
+    while i < buffer.len() {
+        buffer[i] = 0;
+        i += 1;
+    }
+}
+
+// A call's first byte, and its number.
+struct Call {
+    what: u8,
+    n: usize,
+}
+
+fn call_of(what: u8, n: usize) -> Call {
+    Call { what, n }
+}
+
+// A call's n bytes: the datagram for receive, else zeros. Its first byte, or END where the datagram is cut.
+fn fill(what: u8, bytes: &mut [u8]) -> u8 {
+    if what == 0 {
+        if read_all(bytes) {
+            return what;
+        }
+        return END;
+    }
+    zero(bytes);
+    what
+}
+
+// The next call's n bytes go to the front of the buffer.
+fn read_call(buffer: &mut [u8]) -> Call {
+    let mut head = [0u8; 3];
+    if read_all(&mut head) {} else {
+        return call_of(END, 0);
+    }
+    let n = base::be16_at(&head, 1) as usize;
+    if buffer.len() < n {
+        return call_of(END, 0);
+    }
+    let what = fill(head[0], &mut buffer[..n]);
+    call_of(what, n)
+}
+
+// The number of cells, or 0 where the input has none.
+fn read_cells() -> usize {
+    let mut head = [0u8; 2];
+    if read_all(&mut head) {
+        return base::be16_at(&head, 0) as usize;
+    }
+    0
+}
 
 fn one_call(x: Receiver, cells: usize, what: u8, store: &mut [u8], bytes: &mut [u8]) -> Receiver {
     if what == 0 {
@@ -203,7 +257,7 @@ fn run(x: Receiver, cells: usize, store: &mut [u8], buffer: &mut [u8]) {
     let mut now = x;
     let mut left: u64 = 18446744073709551615;
     while 0 < left {
-        let call = reading::read_call(buffer);
+        let call = read_call(buffer);
         let what = call.what;
         let n = call.n;
         if 3 < what {
@@ -240,5 +294,5 @@ fn start_within(cells: usize, whole: &mut [u8], buffer: &mut [u8]) {
 fn main() {
     let mut store = [0u8; STORE];
     let mut buffer = [0u8; BUFFER];
-    start_within(reading::read_cells(), &mut store, &mut buffer);
+    start_within(read_cells(), &mut store, &mut buffer);
 }

@@ -39,7 +39,7 @@ use Rattle.recv_queue.proofs.record_at as record-at
 use Rattle.recv_queue.proofs.put_record as put-record
 use Rattle.recv_queue.proofs.cell_at as cell-at
 use Rattle.recv_queue.proofs.put_cell as put-cell
-use Rattle.recv_queue.proofs.row.unused as unused
+use Rattle.recv_queue.proofs.unused as unused
 
 module _ {M : Type 1} (𝓤 : URA M) (H : Heap 𝓤) (A : Atoms 𝓤) (mem : Memory → SProp 𝓤) (run : Routine → Fun 𝓤) where
   abbrev pub RecordAt : Contract 𝓤

@@ -1,8 +1,9 @@
 // "One record stands beside each cell, in a lent slice of structs": make new, receive and take over such a slice, and the few functions that touch it.
 // The cores of receive and take work on rows of words.
 use cells::CellRecord;
+use rows::Row;
 ghost use mathlib.Core.Path.{_≡_};
-ghost use Prim.Native.Nat.{_<_, _≤_, _+_, _*_};
+ghost use Prim.Native.Nat.{_<_, _≤_, _+_, _*_, _%_};
 ghost use lib.ListN.{length, set, getD};
 ghost use Rattle.rows.specs.Rows.{rowWords, rowAt};
 ghost use Rattle.slots.specs.Widths.{blank, Fit, FitTo};
@@ -11,7 +12,6 @@ ghost use Rattle.recv_queue.specs.Call.{rowsFor};
 
 pub mod making;
 pub mod receiving;
-mod row;
 pub mod taking;
 
 pub use making::MakeNew;
@@ -28,6 +28,85 @@ const SMALL_CELLS: usize = 32;
 const SMALL_WORDS: usize = rows::ROW * SMALL_CELLS;
 
 const MAX_WORDS: usize = rows::ROW * base::MAX_CELLS;
+
+// ---- a record as a row of words, and back
+
+fn wide8(x: u8) -> u32
+    ensures { λ r. ⌜ r ≡ x ⌝ }
+{
+    x as u32
+}
+
+fn wide16(x: u16) -> u32
+    ensures { λ r. ⌜ r ≡ x ⌝ }
+{
+    x as u32
+}
+
+fn low8(x: u32) -> u8
+    ensures { λ r. ⌜ r ≡ x % 256 ⌝ }
+{
+    (x % 256) as u8
+}
+
+fn low16(x: u32) -> u16
+    ensures { λ r. ⌜ r ≡ x % 65536 ⌝ }
+{
+    (x % 65536) as u16
+}
+
+fn row_of(r: CellRecord) -> Row
+    ensures is { λ x. ⌜ x ≡ rowOf r ⌝ }
+    ensures fit { λ _. ⌜ Fit r ⌝ }
+{
+    Row {
+        used: wide8(r.used),
+        kind: wide8(r.kind),
+        channel: wide8(r.channel),
+        id: wide16(r.id),
+        index: wide16(r.index),
+        count: wide16(r.count),
+        length: wide16(r.length),
+        sequence: r.sequence,
+        order: r.order,
+        turn: r.turn,
+        place: 0,
+    }
+}
+
+fn record_of(r: Row) -> CellRecord
+    ensures { λ c. ⌜ c ≡ cut r ⌝ }
+{
+    CellRecord {
+        used: low8(r.used),
+        kind: low8(r.kind),
+        channel: low8(r.channel),
+        id: low16(r.id),
+        index: low16(r.index),
+        count: low16(r.count),
+        length: low16(r.length),
+        sequence: r.sequence,
+        order: r.order,
+        turn: r.turn,
+    }
+}
+
+fn unused() -> CellRecord
+    ensures { λ r. ⌜ r ≡ blank ⌝ }
+{
+    CellRecord {
+        used: 0,
+        kind: 0,
+        channel: 0,
+        id: 0,
+        index: 0,
+        count: 0,
+        length: 0,
+        sequence: 0,
+        order: 0,
+        turn: 0,
+    }
+}
 
 // ---- one record
 
@@ -52,7 +131,7 @@ fn put_cell(words: &mut [u32], i: usize, r: CellRecord)
     requires { ⌜ rowWords * i + rowWords ≤ length (now words) ⌝ }
     ensures { λ _. ⌜ (now (words .exit) ≡ putRow (now (words .entry)) i (rowOf r)) × Fit r ⌝ }
 {
-    let row = row::row_of(r);
+    let row = row_of(r);
     rows::put_row(words, i, row);
 }
 
@@ -61,7 +140,7 @@ fn cell_at(words: &[u32], i: usize) -> CellRecord
     ensures { λ r. ⌜ r ≡ cut (rowAt (now (words .entry)) i) ⌝ }
 {
     let row = rows::row_at(words, i);
-    row::record_of(row)
+    record_of(row)
 }
 
 // ---- all of them
@@ -107,7 +186,7 @@ fn clear(records: &mut [CellRecord], n: usize)
     requires { ⌜ n ≤ length (now records) ⌝ }
     ensures { λ _. ⌜ now (records .exit) ≡ cleared (now (records .entry)) n ⌝ }
 {
-    let r = row::unused();
+    let r = unused();
     let mut i: usize = 0;
     while i < n {
         put_record(records, i, r);

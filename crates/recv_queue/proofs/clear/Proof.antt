@@ -50,9 +50,9 @@ use Rattle.recv_queue.proofs.Order.{entry, var, gone1}
 use Rattle.recv_queue.proofs.Lent.{lending, returned}
 use Rattle.recv_queue.proofs.Counting.{Turn, counts, holds, fails}
 use Rattle.recv_queue.proofs.Elements.{Unused, PutRecord, calls-unused, calls-put-record}
-use Rattle.recv_queue.proofs.row.unused.Symbol as unused-def
-use Rattle.recv_queue.proofs.row.unused.Symbol.{name as #recv-queue·row·unused}
-use Rattle.recv_queue.proofs.row.unused.Met as unused-thm
+use Rattle.recv_queue.proofs.unused.Symbol as unused-def
+use Rattle.recv_queue.proofs.unused.Symbol.{name as #recv-queue·unused}
+use Rattle.recv_queue.proofs.unused.Met as unused-thm
 use Rattle.recv_queue.proofs.put_record.Symbol as put-record-def
 use Rattle.recv_queue.proofs.put_record.Symbol.{name as #recv-queue·put-record}
 use Rattle.recv_queue.proofs.put_record.Met as put-record-thm
@@ -154,7 +154,7 @@ module _ {M : Type 1} (𝓤 : URA M) (H : Heap 𝓤) (A : Atoms 𝓤) (W : Given
         returns ! (look ! 2 refl) $ move ! (2 ∷ 11 ∷ []) $ gone1 ! $ move ! (2 ∷ 10 ∷ []) $ gone1 ! $ move ! (2 ∷ 9 ∷ []) $ gone1 ! $ move ! (2 ∷ 8 ∷ []) $ gone1 ! $ move ! (2 ∷ 7 ∷ []) $ gone1 ! $
         move ! (2 ∷ 6 ∷ []) $ gone1 ! $ move ! (2 ∷ 5 ∷ []) $ free1 ! $ move ! (2 ∷ 4 ∷ []) $ free1 ! $ move ! (2 ∷ 3 ∷ []) $ free1 ! $ free0 ! $ by ! exits
 
-  walk : (𝓣 : Tables 𝓤 H) → FmC 𝓤 H (W .laws) (𝓣 .C) → Triple 𝓤 (𝓣 .C #recv-queue·row·unused) (Unused 𝓤 H A mem run) → Triple 𝓤 (𝓣 .C #recv-queue·put-record) (PutRecord 𝓤 H A mem run)
+  walk : (𝓣 : Tables 𝓤 H) → FmC 𝓤 H (W .laws) (𝓣 .C) → Triple 𝓤 (𝓣 .C #recv-queue·unused) (Unused 𝓤 H A mem run) → Triple 𝓤 (𝓣 .C #recv-queue·put-record) (PutRecord 𝓤 H A mem run)
       → ent 𝓤 (onEntry 𝓤 H A here.signature (κ, tt) (q, tt) (x γ rs, (n, tt)) (vx ∷ [], (vint w64 n ∷ [], tt))) (WpFn 𝓤 H (𝓣 .C) (𝓣 .Λ) code.function (vx ∷ vint w64 n ∷ []) Post)
   walk 𝓣 fm known-unused known-put =
       qed W ((‵ (flft κ q) ⊛ ‵ ftrue) ∷ ‵ (owns (MutSlice (named 0) κ C.the-row ∷ usize ∷ []) (x γ rs, (n, tt)) (vx ∷ [], (vint w64 n ∷ [], tt))) ∷ []) ∵ enter ! (𝓣 .C) (𝓣 .Λ) code.function (vx ∷ vint w64 n ∷ []) _ $
@@ -170,7 +170,7 @@ module _ {M : Type 1} (𝓤 : URA M) (H : Heap 𝓤) (A : Atoms 𝓤) (W : Given
       by ! (counts 𝓤 H A W 𝓣 (E 𝓣 fm known-put v is l₀ l₁ l₂ l₃ l₄ l₅ l₆ l₇ l₈) mir′.turn-1 (Left 𝓣 fm known-put v is l₀ l₁ l₂ l₃ l₄ l₅ l₆ l₇ l₈) n (λ _. Unit {0}) (λ i. ⋆ 𝓤 H A (At 𝓣 fm known-put v is l₀ l₁ l₂ l₃ l₄ l₅ l₆ l₇ l₈ i))
       (more 𝓣 fm known-put v is l₀ l₁ l₂ l₃ l₄ l₅ l₆ l₇ l₈) (ends 𝓣 fm known-put v is l₀ l₁ l₂ l₃ l₄ l₅ l₆ l₇ l₈) tt))))))))))))
 
-module _ {M : Type 1} (𝓤 : URA M) (H : Heap 𝓤) (A : Atoms 𝓤) (W : Given 𝓤 H A) (mem : Memory → SProp 𝓤) (run : Routine → Fun 𝓤) (𝓣 : Tables 𝓤 H) (known-unused : Triple 𝓤 (𝓣 .C #recv-queue·row·unused) (Unused 𝓤 H A mem run)) (known-put : Triple 𝓤 (𝓣 .C #recv-queue·put-record) (PutRecord 𝓤 H A mem run)) where
+module _ {M : Type 1} (𝓤 : URA M) (H : Heap 𝓤) (A : Atoms 𝓤) (W : Given 𝓤 H A) (mem : Memory → SProp 𝓤) (run : Routine → Fun 𝓤) (𝓣 : Tables 𝓤 H) (known-unused : Triple 𝓤 (𝓣 .C #recv-queue·unused) (Unused 𝓤 H A mem run)) (known-put : Triple 𝓤 (𝓣 .C #recv-queue·put-record) (PutRecord 𝓤 H A mem run)) where
   here-walks : Walks 𝓤 H A here.ended stayed (WpFn 𝓤 H (𝓣 .C) (𝓣 .Λ) code.function) (here.clauses 𝓤 H A mem run)
   here-walks = walked 𝓤 H A here.ended stayed (here.clauses 𝓤 H A mem run) (WpFn 𝓤 H (𝓣 .C) (𝓣 .Λ) code.function) (λ κs. (slice-vals, (uint-vals w64, tt))) (λ κs. (mut-slice-tells (named 0) (κs .0) C.the-row, (uint-tells w64, tt)))
       (λ κs qs bounds a g are. needs 𝓤 (a .1 .0 ≤ length (now (a .0))) _ (λ few.
@@ -185,5 +185,5 @@ clear-spec 𝓤 H 𝓜 𝓖 𝓡 =
     entered 𝓤 H (tripleOf 𝓤 H (𝓖 .A) here.signature (here.spec 𝓤 H (𝓖 .A) (𝓜 .mem) (𝓡 .run)))
     (tables 𝓤 H 𝓜 𝓡 code.env .C) (tables 𝓤 H 𝓜 𝓡 code.env .Λ) #recv-queue·clear code.function (code.unfolded 𝓤 H 𝓜 𝓡)
     (here-meets 𝓤 H (𝓖 .A) (givenOf 𝓤 H 𝓜 𝓖) (𝓜 .mem) (𝓡 .run) (tablesOf 𝓤 H 𝓜 (tables 𝓤 H 𝓜 𝓡 code.env))
-    (cited 𝓤 H (Unused 𝓤 H (𝓖 .A) (𝓜 .mem) (𝓡 .run)) 𝓜 𝓡 code.env #recv-queue·row·unused unused-def.routine code.calls-recv-queue·row·unused (unused-thm.met 𝓤 H 𝓜 𝓖 𝓡))
+    (cited 𝓤 H (Unused 𝓤 H (𝓖 .A) (𝓜 .mem) (𝓡 .run)) 𝓜 𝓡 code.env #recv-queue·unused unused-def.routine code.calls-recv-queue·unused (unused-thm.met 𝓤 H 𝓜 𝓖 𝓡))
     (cited 𝓤 H (PutRecord 𝓤 H (𝓖 .A) (𝓜 .mem) (𝓡 .run)) 𝓜 𝓡 code.env #recv-queue·put-record put-record-def.routine code.calls-recv-queue·put-record (put-record-thm.met 𝓤 H 𝓜 𝓖 𝓡)))

@@ -1,7 +1,7 @@
 use lib.Seq.{length-take-le}
 use borrow.Author.Needs.{needs}
-use Rattle.calls.proofs.reading.read_call.Statement.{statement}
-use Rattle.calls.proofs.reading.read_call.Tie as tie
+use Rattle.calls.proofs.read_call.Statement.{statement}
+use Rattle.calls.proofs.read_call.Tie as tie
 
 slice-aggregate-read-all : tie.Need-slice-aggregate-read-all
 slice-aggregate-read-all c = search needs

@@ -1,6 +1,6 @@
 use borrow.Author.Needs.{needs}
-use Rattle.recv_queue.proofs.row.unused.Statement.{statement}
-use Rattle.recv_queue.proofs.row.unused.Tie as tie
+use Rattle.recv_queue.proofs.unused.Statement.{statement}
+use Rattle.recv_queue.proofs.unused.Tie as tie
 
 returns : tie.Need-returns
 returns c = search needs

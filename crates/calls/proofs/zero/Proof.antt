@@ -2,8 +2,8 @@ use Prim.Native.Nat.{_≤_, _-_}
 use mathlib.Core.Path.{_≡_}
 use lib.ListN.{length}
 use borrow.Author.Needs.{needs}
-use Rattle.calls.proofs.reading.zero.Statement.{statement}
-use Rattle.calls.proofs.reading.zero.Tie as tie
+use Rattle.calls.proofs.zero.Statement.{statement}
+use Rattle.calls.proofs.zero.Tie as tie
 
 abbrev Inv-loop : tie.InvT-loop
 Inv-loop buffer₀ i₀ buffer i = (i ≤ length buffer₀) × (length buffer ≡ length buffer₀)

@@ -1,7 +1,7 @@
 use borrow.Author.Needs.{needs}
 use Rattle.recv_queue.proofs.Widths.{row-made}
-use Rattle.recv_queue.proofs.row.row_of.Statement.{statement}
-use Rattle.recv_queue.proofs.row.row_of.Tie as tie
+use Rattle.recv_queue.proofs.row_of.Statement.{statement}
+use Rattle.recv_queue.proofs.row_of.Tie as tie
 
 wide8-requires : tie.Need-wide8-requires
 wide8-requires c κs = search needs

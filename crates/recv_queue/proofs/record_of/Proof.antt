@@ -1,7 +1,7 @@
 use borrow.Author.Needs.{needs}
 use Rattle.recv_queue.proofs.Widths.{record-made}
-use Rattle.recv_queue.proofs.row.record_of.Statement.{statement}
-use Rattle.recv_queue.proofs.row.record_of.Tie as tie
+use Rattle.recv_queue.proofs.record_of.Statement.{statement}
+use Rattle.recv_queue.proofs.record_of.Tie as tie
 
 low8-requires : tie.Need-low8-requires
 low8-requires c κs = search needs
