@@ -1,0 +1,4 @@
+pub mod Bytes
+pub mod Cells
+pub mod Shown
+pub mod Sound

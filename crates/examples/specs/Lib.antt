@@ -1,0 +1,1 @@
+-- No definitions: the examples speak of those of line, cells and recv.

@@ -1,0 +1,334 @@
+//! Random examples for the definitions, as a file of proofs by computation: what every call is told and the state after it, from the model.
+use crate::bare::Bare;
+use crate::model::{Cell, Message, Receiver, Use};
+use crate::rng::Rng;
+use crate::sender::datagram;
+use crate::sound::sound_cells;
+use crate::window::REACH;
+use crate::wire::{frame_bytes, frames, Frame, Piece, KINDS};
+use std::fmt::Display;
+
+fn list<T: Display>(items: impl IntoIterator<Item = T>) -> String {
+    let mut text: String = items.into_iter().map(|item| format!("{item} ∷ ")).collect();
+    text += "[]";
+    text
+}
+
+/// A list as an argument.
+fn arg<T: Display>(items: impl IntoIterator<Item = T>) -> String {
+    match list(items) {
+        empty if empty == "[]" => empty,
+        text => format!("({text})"),
+    }
+}
+
+/// Bytes as document 01 writes them.
+fn hex(bytes: &[u8]) -> String {
+    arg(bytes.iter().map(|b| format!("0x{b:02X}")))
+}
+
+fn use_number(used: Use) -> u8 {
+    match used {
+        Use::Unused => 0,
+        Use::Open => 1,
+        Use::Held => 2,
+        Use::Ready => 3,
+        Use::Late => 4,
+    }
+}
+
+fn slot(c: &Cell) -> String {
+    if *c == Cell::default() {
+        return "emptySlot".to_string();
+    }
+    let Cell { id, index, kind, channel, count, sequence, order, turn, .. } = c;
+    format!("slot {} {id} {index} {kind} {channel} {count} {sequence} {order} {turn} {}", use_number(c.used), arg(&c.body))
+}
+
+fn frame(f: &Frame) -> String {
+    let numbers = format!("{} {} {} {} {}", f.kind, f.reliable, f.sequence, f.order, f.channel);
+    match f.piece {
+        None => format!("whole {numbers} {}", arg(&f.body)),
+        Some(p) => format!("part {numbers} {} {} {} {}", p.count, p.id, p.index, arg(&f.body)),
+    }
+}
+
+fn message(m: &Message) -> String {
+    format!("msg {} {} {} {}", m.kind, m.channel, m.order, arg(&m.body))
+}
+
+/// A sender of small frames: reliable numbers mostly new, and pieces that wait for their turn.
+#[derive(Default)]
+struct Small {
+    reliable: u32,
+    waiting: Vec<Frame>,
+}
+
+impl Small {
+    fn reliable(&mut self, rng: &mut Rng) -> u32 {
+        self.reliable += 1;
+        if rng.percent(90) {
+            self.reliable - 1
+        } else {
+            rng.below(12) as u32
+        }
+    }
+
+    /// A frame whose kind's uncarried fields are 0.
+    fn frame(&mut self, rng: &mut Rng) -> Frame {
+        if !self.waiting.is_empty() && rng.percent(70) {
+            let at = rng.below(self.waiting.len());
+            let mut f = self.waiting.remove(at);
+            f.reliable = if f.fields().reliable { self.reliable(rng) } else { 0 };
+            return f;
+        }
+        let kind = rng.pick(&[0, 1, 2, 3, 3, 3, 3, 4, 5, 6, 7, 7]);
+        let fields = &KINDS[kind as usize];
+        let reliable = if fields.reliable { self.reliable(rng) } else { 0 };
+        let sequence = if fields.sequence { rng.below(2) as u32 } else { 0 };
+        let order = if fields.order { rng.pick(&[0, 0, 1, 1, 2, 3]) } else { 0 };
+        let channel = if fields.order { rng.pick(&[0, 0, 0, 0, 0, 1, 1, 31, 32]) } else { 0 };
+        let mut f = Frame { kind, reliable, sequence, order, channel, piece: None, body: body(rng) };
+        match rng.below(20) {
+            0 => f.piece = Some(Piece { count: rng.pick(&[0, 1023, 1024, 1025]), id: 7, index: rng.pick(&[0, 1023, 1024]) }),
+            1..=7 => self.split(rng, &mut f),
+            _ => {}
+        }
+        f
+    }
+
+    /// The frame becomes one piece; the others wait.
+    fn split(&mut self, rng: &mut Rng, f: &mut Frame) {
+        let count = rng.pick(&[1, 2, 2, 2, 3]);
+        let id = rng.pick(&[0, 7]);
+        let first = rng.below(count as usize) as u32;
+        f.piece = Some(Piece { count, id, index: first });
+        for index in (0..count).filter(|i| *i != first) {
+            self.waiting.push(Frame { piece: Some(Piece { count, id, index }), body: body(rng), ..f.clone() });
+        }
+    }
+
+    fn frames(&mut self, rng: &mut Rng, most: usize) -> Vec<Frame> {
+        (0..rng.from_to(1, most)).map(|_| self.frame(rng)).collect()
+    }
+}
+
+fn body(rng: &mut Rng) -> Vec<u8> {
+    let length = rng.below(3);
+    (0..length).map(|_| rng.below(100) as u8).collect()
+}
+
+/// The frames' bytes: reading them gives the very frames back.
+fn bytes_of(number: u32, all: &[Frame]) -> Vec<u8> {
+    let bytes: Vec<Vec<u8>> = all.iter().map(|f| frame_bytes(f, 0, 0)).collect();
+    let d = datagram(0x84, number, &bytes);
+    assert!(frames(&d[4..]).0 == all);
+    d
+}
+
+/// Frames as values on a receiver with cells, and the line of the accepted ones.
+fn cells_example(rng: &mut Rng, name: &str) -> String {
+    let cells = rng.from_to(1, 6);
+    let mut r = Receiver::new(cells);
+    let mut bare = Bare::default();
+    let mut small = Small::default();
+    let (mut calls, mut seen, mut fed, mut counts) = (Vec::new(), Vec::new(), Vec::new(), Vec::new());
+    for number in 0..rng.from_to(2, 6) as u32 {
+        let told = if rng.percent(70) {
+            let all = small.frames(rng, 4);
+            let bytes = bytes_of(number, &all);
+            let text = arg(all.iter().map(frame));
+            calls.push(format!("receive {text}"));
+            match r.receive(&bytes) {
+                Err(n) => format!("(refused {n})"),
+                Ok(report) => {
+                    let (ready, dropped) = bare.feed(&bytes);
+                    fed.push(text);
+                    counts.push(format!("line.gave {ready} {dropped}"));
+                    format!("(gave {} {})", report.ready, report.dropped)
+                }
+            }
+        } else {
+            calls.push("take".to_string());
+            match r.take(usize::MAX) {
+                Err(n) => format!("(refused {n})"),
+                Ok(m) => format!("(took ({}))", message(&m)),
+            }
+        };
+        seen.push(format!("saw {told} {}", arg(r.cells.iter().map(slot))));
+    }
+    let line = format!("line.seen {} {}", arg(&counts), arg(bare.line.iter().map(message)));
+    format!(
+        "pub {name} :\n    (run {cells} ({})\n    ≡ {})\n    × (line.run ({})\n    ≡ {line})\nunfolding run line.run\n{name} = (refl, refl)\n",
+        lines(&calls),
+        lines(&seen),
+        lines(&fed)
+    )
+}
+
+/// A list with one item to a line.
+fn lines(items: &[String]) -> String {
+    let mut text: String = items.iter().map(|item| format!("{item}\n    ∷ ")).collect();
+    text += "[]";
+    text
+}
+
+/// A datagram's bytes: small frames, now and then cut, with a tail, of another first byte, an old number or one beyond.
+fn small_datagram(rng: &mut Rng, small: &mut Small, r: &Receiver) -> Vec<u8> {
+    let low = r.datagrams.low;
+    let number = match rng.below(12) {
+        0 => low + REACH,
+        1 => low + REACH + 1,
+        2 => low.saturating_sub(1),
+        3 | 4 => low + 2,
+        5 => low + 1,
+        _ => low,
+    };
+    let mut all = small.frames(rng, 3);
+    if let Some(f) = all.iter_mut().find(|f| f.fields().reliable).filter(|_| rng.percent(10)) {
+        f.reliable = r.reliables.low + REACH + rng.below(2) as u32;
+    }
+    let mut d = bytes_of(number, &all);
+    match rng.below(16) {
+        0 => d.truncate(rng.below(d.len())),
+        1 => d.extend([0x60, 0, 8]),
+        2 => d[0] = rng.pick(&[0x7F, 0x80, 0x8D, 0x8E]),
+        3 => d[4] |= 0x0F,
+        4 => d[6] |= 7,
+        _ => {}
+    }
+    d
+}
+
+fn told(letter: &str, answer: Result<String, u8>) -> String {
+    match answer {
+        Err(number) => format!("(no {number})"),
+        Ok(text) => format!("({letter} {text})"),
+    }
+}
+
+/// One call: its text, and what it is told.
+fn bytes_call(rng: &mut Rng, small: &mut Small, r: &mut Receiver) -> (String, String) {
+    let room = rng.pick(&[0, 2, 3, 6, 7, 10, 14]);
+    let zeros = format!("(replicate {room} 0)");
+    match rng.below(10) {
+        0..=2 => {
+            let answer = r.take(room).map(|m| format!("{} {} {} {}", m.kind, m.channel, m.order, arg(&m.body)));
+            (format!("take-with {zeros}"), told("took", answer))
+        }
+        3 => (format!("write-unsent {zeros}"), told("wrote", r.write_unsent(room).map(|b| hex(&b)))),
+        4 => (format!("write-missing {zeros}"), told("wrote", r.write_missing(room).map(|b| hex(&b)))),
+        _ => {
+            let d = small_datagram(rng, small, r);
+            let answer = r.receive(&d).map(|report| format!("{} {} {}", report.ready, report.dropped, report.left));
+            (format!("receive {}", hex(&d)), told("gave", answer))
+        }
+    }
+}
+
+/// Bytes on a receiver: every call's answer and the whole state after it.
+fn bytes_example(rng: &mut Rng, name: &str) -> String {
+    let cells = rng.from_to(1, 4);
+    let mut r = Receiver::new(cells);
+    let mut small = Small::default();
+    let (mut calls, mut seen) = (Vec::new(), Vec::new());
+    for _ in 0..rng.from_to(2, 6) {
+        let (call, told) = bytes_call(rng, &mut small, &mut r);
+        let lows = arg([r.datagrams.low, r.reliables.low]);
+        let nexts = arg([r.next[0], r.next[1]]);
+        seen.push(format!("saw {told} {lows} {} {nexts} {}", arg(&r.unsent), arg(r.cells.iter().map(slot))));
+        calls.push(call);
+    }
+    format!("pub {name} :\n    run {cells} ({})\n    ≡ {}\nunfolding run\n{name} = refl\n", lines(&calls), lines(&seen))
+}
+
+/// A random field of a random cell is changed.
+fn spoil(rng: &mut Rng, cells: &mut [Cell]) {
+    let at = rng.below(cells.len());
+    let c = &mut cells[at];
+    let small = rng.below(4) as u32;
+    match rng.below(10) {
+        0 => c.used = rng.pick(&[Use::Unused, Use::Open, Use::Held, Use::Ready, Use::Late]),
+        1 => c.id = rng.pick(&[0, 7]),
+        2 => c.index = small,
+        3 => c.kind = rng.pick(&[0, 3, 7, 8]),
+        4 => c.channel = rng.pick(&[0, 1, 31, 32]),
+        5 => c.count = rng.pick(&[0, 1, 2, 3, 1024, 1025]),
+        6 => c.sequence = rng.pick(&[0, 1, (1 << 24) - 1, 1 << 24]),
+        7 => c.order = rng.pick(&[0, 1, 2, 3, (1 << 24) - 1, 1 << 24]),
+        8 => c.turn = small,
+        _ => {
+            let from = rng.below(cells.len());
+            cells[at] = cells[from].clone();
+        }
+    }
+}
+
+/// A state that calls lead to, and what becomes of it where fields are changed: sound or not.
+fn sound_example(rng: &mut Rng, name: &str) -> String {
+    let mut r = Receiver::new(rng.from_to(2, 6));
+    let mut small = Small::default();
+    for number in 0..rng.from_to(3, 8) as u32 {
+        let all = small.frames(rng, 4);
+        let _ = r.receive(&bytes_of(number, &all));
+    }
+    let mut states = Vec::new();
+    let next = rng.pick(&[0, 0, 1]);
+    for changes in [0, 1, 1, 1, 2] {
+        let mut cells = r.cells.clone();
+        for _ in 0..changes {
+            spoil(rng, &mut cells);
+        }
+        let verdict = if sound_cells(&[next; 256], &cells) { "true" } else { "false" };
+        states.push(format!("(soundAt {next} {} ≡ {verdict})", arg(cells.iter().map(slot))));
+    }
+    let proofs = vec!["refl"; states.len()].join(", ");
+    format!("pub {name} :\n    {}\nunfolding run soundAt\n{name} = ({proofs})\n", states.join("\n    × "))
+}
+
+const CELLS_HEAD: &str = "use mathlib.Core.Path.{_≡_, refl}
+use mathlib.Core.List.{List, [], _∷_}
+use Rattle.line.proofs.Shown as line
+use Rattle.line.proofs.Shown.{msg}
+use Rattle.cells.specs.Cell.{emptySlot}
+use Rattle.cells.specs.Calls.{receive, take}
+use Rattle.cells.proofs.Shown.{slot, gave, took, refused, saw, run}
+use Rattle.examples.proofs.Shown.{whole, part}
+";
+
+const BYTES_HEAD: &str = "use mathlib.Core.Path.{_≡_, refl}
+use mathlib.Core.List.{List, [], _∷_}
+use lib.ListN.{replicate}
+use Rattle.cells.specs.Cell.{emptySlot}
+use Rattle.cells.proofs.Shown.{slot}
+use Rattle.recv.specs.Calls.{receive, take-with, write-unsent, write-missing}
+use Rattle.examples.proofs.Shown.{run, saw, gave, took, wrote, no}
+";
+
+const SOUND_HEAD: &str = "use mathlib.Core.Path.{_≡_, refl}
+use mathlib.Core.Bool.{true, false}
+use mathlib.Core.List.{List, [], _∷_}
+use Rattle.cells.specs.Cell.{emptySlot}
+use Rattle.cells.proofs.Shown.{slot, run, soundAt}
+";
+
+/// A file of n examples: `cells`, `bytes` or `sound`.
+pub fn file(what: &str, seed: u64, n: u64) -> Option<String> {
+    type Maker = fn(&mut Rng, &str) -> String;
+    let (about, head, one): (&str, &str, Maker) = match what {
+        "cells" => (
+            "frames as values on a receiver with cells, with the slots after every call; and the line of the accepted ones",
+            CELLS_HEAD,
+            cells_example,
+        ),
+        "bytes" => ("bytes on a receiver, with what it keeps after every call", BYTES_HEAD, bytes_example),
+        "sound" => ("states that calls lead to, and the same with fields changed: sound or not", SOUND_HEAD, sound_example),
+        _ => return None,
+    };
+    let mut text = format!("-- Random examples: {about}.\n-- Made by `model examples {what} {seed} {n}` (folder model/), an independent model of document 01; here they are computed.\n-- Assumes nothing.\n{head}");
+    for i in 0..n {
+        text += "\n";
+        text += &one(&mut Rng::new(seed * 1000 + i), &format!("{what}-{seed}-{i}"));
+    }
+    Some(text)
+}
