@@ -1,12 +1,17 @@
-//! Compares the original, built unchanged, with our static library, in one process.
+//! Compares the original, built unchanged, with our static library (windows, lists, splits) and with our program `calls` (channels, receivers).
 //!
-//! usage: compare short|long [SEED]
+//! usage: compare short|long CALLS [SEED]      CALLS is the program, target/bin/calls
 //!
 //! Prints what was compared and how many, and stops at the first difference with a smallest input.
+mod calls;
+mod channels;
+mod datagrams;
 mod lists;
 mod ours;
 mod random;
+mod receivers;
 mod report;
+mod senders;
 mod shrink;
 mod splits;
 mod windows;
@@ -14,7 +19,7 @@ mod windows;
 use random::Random;
 use report::Report;
 
-fn compare(long: bool, seed: u64) -> Result<(), String> {
+fn compare(long: bool, program: &str, seed: u64) -> Result<(), String> {
     let mut report = Report::new();
     let mut r = Random::new(seed);
     let times = if long { 100 } else { 1 };
@@ -27,17 +32,22 @@ fn compare(long: bool, seed: u64) -> Result<(), String> {
     lists::random(&mut report, &mut r, 1_000 * times)?;
     splits::exhaustive(&mut report, &mut r)?;
     splits::random(&mut report, &mut r, 200 * times)?;
+    datagrams::kinds()?;
+    channels::exhaustive(&mut report, program)?;
+    channels::random(&mut report, &mut r, program, 5_000 * times)?;
+    receivers::random(&mut report, &mut r, program, 10_000 * times)?;
     report.totals();
     Ok(())
 }
 
 fn main() {
     let words: Vec<String> = std::env::args().skip(1).collect();
-    let seed = words.get(1).map_or(Ok(1), |s| s.parse()).expect("SEED is a number");
-    let done = match words.first().map(|s| s.as_str()) {
-        Some("short") => compare(false, seed),
-        Some("long") => compare(true, seed),
-        _ => Err("usage: compare short|long [SEED]".to_string()),
+    let words: Vec<&str> = words.iter().map(|w| w.as_str()).collect();
+    let seed = |w: Option<&&str>| w.map_or(Ok(1), |s| s.parse()).expect("SEED is a number");
+    let done = match words[..] {
+        ["short", program, ..] => compare(false, program, seed(words.get(2))),
+        ["long", program, ..] => compare(true, program, seed(words.get(2))),
+        _ => Err("usage: compare short|long CALLS [SEED]".to_string()),
     };
     if let Err(e) = done {
         println!("DIFFERENT  {e}");
