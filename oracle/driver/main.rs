@@ -1,11 +1,15 @@
 //! Compares the original, built unchanged, with our static library (windows, lists, splits) and with our program `calls` (channels, receivers).
 //!
 //! usage: compare short|long CALLS [SEED]      CALLS is the program, target/bin/calls
+//!        compare differences CALLS           the intended differences, each on its smallest input
+//!        compare answers SEED                the stored input of program oracle_replay
 //!
 //! Prints what was compared and how many, and stops at the first difference with a smallest input.
+mod answers;
 mod calls;
 mod channels;
 mod datagrams;
+mod differences;
 mod lists;
 mod ours;
 mod random;
@@ -18,6 +22,7 @@ mod windows;
 
 use random::Random;
 use report::Report;
+use std::io::Write;
 
 fn compare(long: bool, program: &str, seed: u64) -> Result<(), String> {
     let mut report = Report::new();
@@ -40,6 +45,12 @@ fn compare(long: bool, program: &str, seed: u64) -> Result<(), String> {
     Ok(())
 }
 
+fn answers(seed: u64) -> Result<(), String> {
+    let (input, done) = answers::input(seed);
+    eprintln!("{} bytes: {} answers of windows, {} lists, {} splits", input.len(), done[0], done[1], done[2]);
+    std::io::stdout().write_all(&input).map_err(|e| e.to_string())
+}
+
 fn main() {
     let words: Vec<String> = std::env::args().skip(1).collect();
     let words: Vec<&str> = words.iter().map(|w| w.as_str()).collect();
@@ -47,7 +58,9 @@ fn main() {
     let done = match words[..] {
         ["short", program, ..] => compare(false, program, seed(words.get(2))),
         ["long", program, ..] => compare(true, program, seed(words.get(2))),
-        _ => Err("usage: compare short|long CALLS [SEED]".to_string()),
+        ["differences", program] => differences::all(program),
+        ["answers", _] => answers(seed(words.get(1))),
+        _ => Err("usage: compare short|long CALLS [SEED]; compare differences CALLS; compare answers SEED".to_string()),
     };
     if let Err(e) = done {
         println!("DIFFERENT  {e}");
