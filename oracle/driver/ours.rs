@@ -69,6 +69,12 @@ pub fn write_list(room: usize, nack: bool, numbers: &[u32]) -> Result<Vec<u8>, u
     Ok(out)
 }
 
+/// How many bytes were written; 0 on a refusal. (For speed/.)
+#[allow(dead_code)]
+pub fn write_list_into(out: &mut [u8], nack: bool, numbers: &[u32]) -> usize {
+    unsafe { poghduka_write_list(out.as_mut_ptr(), out.len(), nack, numbers.as_ptr(), numbers.len()) }.len
+}
+
 pub fn split_piece(buffer: &[u8], mtu: u16, k: u32) -> SplitPiece {
     unsafe { poghduka_split_piece(buffer.as_ptr(), buffer.len(), mtu, k) }
 }
