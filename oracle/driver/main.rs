@@ -14,6 +14,7 @@ mod lists;
 mod ours;
 mod random;
 mod receivers;
+mod references;
 mod report;
 mod senders;
 mod shrink;

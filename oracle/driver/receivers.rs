@@ -3,13 +3,12 @@
 use crate::calls::{first_difference, Call, Expected};
 use crate::datagrams::{set_bytes, Datagram};
 use crate::random::Random;
+use crate::references::{within, REACH};
 use crate::report::Report;
 use crate::senders::Sender;
 use crate::shrink::smallest;
 use rak_rs::oracle::{window_low, RecvQueue};
 use std::collections::HashSet;
-
-const REACH: u32 = 2048;
 
 /// A datagram, and whether the unsent and the missing are written after it.
 #[derive(Clone, Debug)]
@@ -70,14 +69,49 @@ fn expected(steps: &[Step]) -> Vec<(Call, Expected)> {
     calls
 }
 
-/// The steps without some of their datagrams and frames, as long as they differ. What is taken out may put the rest outside 'References', so
-/// the smallest input found is read with that in mind; the whole list is within them.
+/// A step with a little less in it.
+fn lesser(step: &Step) -> Vec<Step> {
+    let mut out = Vec::new();
+    for (unsent, missing) in [(false, step.missing), (step.unsent, false)] {
+        if (unsent, missing) != (step.unsent, step.missing) {
+            out.push(Step { unsent, missing, ..step.clone() });
+        }
+    }
+    for i in 0..step.datagram.frames.len() {
+        let mut fewer = step.clone();
+        fewer.datagram.frames.remove(i);
+        out.push(fewer);
+        let body = &step.datagram.frames[i].body;
+        for len in [0, body.len() / 2, body.len().saturating_sub(1)] {
+            if len < body.len() {
+                let mut shorter = step.clone();
+                shorter.datagram.frames[i].body.truncate(len);
+                out.push(shorter);
+            }
+        }
+    }
+    out
+}
+
+/// The smallest list within 'References' that still differs.
 fn fails(program: &str, cells: u16, steps: &[Step]) -> String {
-    let differs = |l: &[Step]| matches!(first_difference(program, cells, &expected(l)), Ok(Some(_)));
-    let fewest = smallest(steps, &differs);
-    let calls = expected(&fewest);
+    let differs = |l: &[Step]| within(cells as usize, l) && matches!(first_difference(program, cells, &expected(l)), Ok(Some(_)));
+    let mut least = smallest(steps, &differs);
+    let mut i = 0;
+    while i < least.len() {
+        let less = lesser(&least[i]).into_iter().find(|s| {
+            let mut l = least.clone();
+            l[i] = s.clone();
+            differs(&l)
+        });
+        match less {
+            Some(step) => least[i] = step,
+            None => i += 1,
+        }
+    }
+    let calls = expected(&least);
     match first_difference(program, cells, &calls) {
-        Ok(Some((i, line))) => format!("{cells} cells, {fewest:?}: {:?} by the original, ours '{line}'", calls[i].1),
+        Ok(Some((i, line))) => format!("{cells} cells, {least:?}: {:?} by the original, ours '{line}'", calls[i].1),
         _ => "receivers: a difference that does not come back".to_string(),
     }
 }
@@ -103,6 +137,7 @@ pub fn random(report: &mut Report, r: &mut Random, program: &str, datagrams: u64
         let cells = *r.pick(&[1, 2, 8, 32, 32, 256]);
         let mut sender = Sender::new(cells as usize);
         let steps: Vec<Step> = (0..r.between(1, 3000)).map(|_| sender.step(r)).collect();
+        assert!(within(cells as usize, &steps));
         let calls = expected(&steps);
         if first_difference(program, cells, &calls)?.is_some() {
             return Err(fails(program, cells, &steps));

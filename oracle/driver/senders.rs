@@ -1,149 +1,106 @@
-//! Random datagrams within document 01's 'References': nothing gets 2 or 6 to 8 or is dropped in step 2, kinds 3 and 7 come whole and in order from
-//! 0, the pieces of an id agree; and no order number that came with kind 7 comes again under a fresh reliable number. What a refused datagram
-//! or a frame with a reliable number accepted before holds doesn't matter, so there it is anything.
+//! Random datagrams within document 01's 'References'.
 use crate::datagrams::{has_order, has_reliable, Datagram, Fields};
 use crate::random::Random;
 use crate::receivers::Step;
-use std::collections::{BTreeMap, BTreeSet};
+use crate::references::{Numbers, Session, MAX_DATAGRAM, REACH};
 
-const REACH: u32 = 2048;
-const MAX_DATAGRAM: usize = 1500;
 /// Sixty pieces of so many bytes fit the joining buffer that `calls` can lend.
 const MAX_PIECE: usize = 1000;
 
-/// The numbers that a window will have accepted.
-#[derive(Default)]
-struct Numbers {
-    low: u32,
-    above: BTreeSet<u32>,
+fn fresh_number(numbers: &Numbers, r: &mut Random) -> u32 {
+    let ahead = match r.below(40) {
+        0 => r.below(REACH + 1),
+        1 => r.between(REACH - 1, REACH),
+        2..=11 => r.below(12),
+        _ => 0,
+    };
+    let mut n = numbers.low + ahead;
+    while numbers.has(n) {
+        n = if n == numbers.low + REACH { numbers.low } else { n + 1 };
+    }
+    n
 }
 
-impl Numbers {
-    fn has(&self, n: u32) -> bool {
-        n < self.low || self.above.contains(&n)
+/// A number accepted before, where there is one.
+fn old_number(numbers: &Numbers, r: &mut Random) -> u32 {
+    if !numbers.above.is_empty() && r.one_in(2) {
+        let listed: Vec<u32> = numbers.above.iter().copied().collect();
+        return *r.pick(&listed);
     }
-
-    fn accept(&mut self, n: u32) {
-        self.above.insert(n);
-        while self.above.remove(&self.low) {
-            self.low += 1;
-        }
-    }
-
-    fn fresh(&self, r: &mut Random) -> u32 {
-        let ahead = match r.below(40) {
-            0 => r.below(REACH + 1),
-            1 => r.between(REACH - 1, REACH),
-            2..=11 => r.below(12),
-            _ => 0,
-        };
-        let mut n = self.low + ahead;
-        while self.has(n) {
-            n = if n == self.low + REACH { self.low } else { n + 1 };
-        }
-        n
-    }
-
-    fn repeated(&self, r: &mut Random) -> u32 {
-        if !self.above.is_empty() && r.one_in(2) {
-            let listed: Vec<u32> = self.above.iter().copied().collect();
-            return *r.pick(&listed);
-        }
-        self.low.saturating_sub(1 + r.below(30))
-    }
+    numbers.low.saturating_sub(1 + r.below(30))
 }
 
-/// The pieces sent of an id that is open.
-struct Open {
-    like: Fields,
-    count: u32,
-    sent: Vec<u32>,
+/// A frame that holds anything, some of it over the limits.
+fn anything(r: &mut Random) -> Fields {
+    let mut number = || if r.one_in(3) { r.below(1 << 24) } else { r.below(40) };
+    let (reliable, sequence, order) = (number(), number(), number());
+    let piece = r.one_in(3).then(|| (r.below(5), r.below(40) as u16, r.below(5)));
+    let len = r.below(30) as usize;
+    Fields { kind: r.below(8) as u8, reliable, sequence, order, channel: r.below(40) as u8, piece, body: r.bytes(len) }
 }
 
 pub struct Sender {
-    cells: usize,
-    datagrams: Numbers,
-    reliables: Numbers,
-    next: [u32; 32],
-    /// one above the highest order number that came with kind 3
-    next_3: [u32; 32],
-    open: BTreeMap<u16, Open>,
-    unsent: usize,
+    session: Session,
+    since: usize,
 }
 
 impl Sender {
     pub fn new(cells: usize) -> Sender {
-        Sender {
-            cells,
-            datagrams: Numbers::default(),
-            reliables: Numbers::default(),
-            next: [0; 32],
-            next_3: [0; 32],
-            open: BTreeMap::new(),
-            unsent: 0,
-        }
+        Sender { session: Session::new(cells), since: 0 }
     }
 
     pub fn step(&mut self, r: &mut Random) -> Step {
-        let refused = r.one_in(12);
-        let datagram = if refused { self.refused(r) } else { self.accepted(r) };
-        self.unsent += !refused as usize;
-        let unsent = self.unsent >= 1000 || r.one_in(16);
+        let datagram = if r.one_in(12) { self.refused(r) } else { self.accepted(r) };
+        self.since += 1;
+        let unsent = self.since >= 1000 || r.one_in(16);
         if unsent {
-            self.unsent = 0;
+            self.since = 0;
         }
         Step { datagram, unsent, missing: r.one_in(16) }
     }
 
     /// A number accepted before or beyond the reach, and frames that hold anything.
-    fn refused(&mut self, r: &mut Random) -> Datagram {
-        let number = if self.datagrams.low == 0 || r.one_in(3) {
-            let further = if r.one_in(2) { 0 } else { r.below(10_000) };
-            self.datagrams.low + REACH + 1 + further
-        } else {
-            self.datagrams.repeated(r)
-        };
-        let mut frames = Vec::new();
-        for _ in 0..r.below(3) {
-            frames.push(self.anything(r));
+    fn refused(&self, r: &mut Random) -> Datagram {
+        let numbers = &self.session.datagrams;
+        let mut number = old_number(numbers, r);
+        if !numbers.has(number) || r.one_in(3) {
+            number = numbers.low + REACH + 1 + if r.one_in(2) { 0 } else { r.below(10_000) };
         }
-        Datagram { number, frames }
+        Datagram { number, frames: (0..r.below(3)).map(|_| anything(r)).collect() }
     }
 
     fn accepted(&mut self, r: &mut Random) -> Datagram {
-        let number = self.datagrams.fresh(r);
-        self.datagrams.accept(number);
-        let mut left = self.cells - self.open.values().map(|o| o.sent.len()).sum::<usize>();
+        let number = fresh_number(&self.session.datagrams, r);
+        self.session.takes(&Step { datagram: Datagram { number, frames: Vec::new() }, unsent: true, missing: false });
+        let mut left = self.session.cells - self.session.used();
         let mut room = MAX_DATAGRAM - 4;
         let mut frames = Vec::new();
         for _ in 0..*r.pick(&[0, 1, 1, 1, 2, 3, 8]) {
             let frame = if r.one_in(10) { self.repeated(r) } else { self.fresh(r, room) };
-            let kept = !self.dropped(&frame);
-            if frame.size() > room || (kept && left == 0) {
+            if frame.size() > room || (left == 0 && !self.session.dropped(&frame)) {
                 break;
             }
-            self.sent(&frame, kept);
+            assert!(self.session.takes_frame(&frame, &mut left));
             room -= frame.size();
-            left -= kept as usize;
             frames.push(frame);
         }
         Datagram { number, frames }
     }
 
-    /// A frame whose reliable number was accepted before; a fresh message where there is no such number yet.
+    /// A frame whose reliable number was accepted before; a fresh one where there is no such number yet.
     fn repeated(&self, r: &mut Random) -> Fields {
-        let reliable = self.reliables.repeated(r);
-        if !self.reliables.has(reliable) {
-            return self.fresh(r, MAX_PIECE);
+        let reliable = old_number(&self.session.reliables, r);
+        if !self.session.reliables.has(reliable) {
+            return self.fresh(r, 100);
         }
-        Fields { kind: *r.pick(&[2, 3, 4, 7]), reliable, ..self.anything(r) }
+        Fields { kind: *r.pick(&[2, 3, 4, 7]), reliable, ..anything(r) }
     }
 
     /// A piece or a whole message under a fresh reliable number.
     fn fresh(&self, r: &mut Random, room: usize) -> Fields {
         let piece = if r.one_in(3) { self.piece(r) } else { None };
         let mut f = piece.unwrap_or_else(|| self.whole(r));
-        f.reliable = if has_reliable(f.kind) { self.reliables.fresh(r) } else { 0 };
+        f.reliable = if has_reliable(f.kind) { fresh_number(&self.session.reliables, r) } else { 0 };
         let most = room.saturating_sub(f.size()).min(if f.piece.is_some() { MAX_PIECE } else { MAX_DATAGRAM });
         let len = if r.one_in(12) { most } else { r.below(most.min(40) as u32 + 1) as usize };
         f.body = r.bytes(len);
@@ -156,8 +113,8 @@ impl Sender {
         let channel = *r.pick(&[0, 0, 0, 1, 5, 31]);
         let c = channel as usize;
         let order = match kind {
-            3 if self.next_3[c] > 0 && r.one_in(10) => r.below(self.next_3[c]),
-            3 | 7 => self.next[c],
+            3 if self.session.next_3[c] > 0 && r.one_in(10) => r.below(self.session.next_3[c]),
+            3 | 7 => self.session.next[c],
             _ => r.below(1 << 24),
         };
         let sequence = r.below(1 << 24);
@@ -169,73 +126,28 @@ impl Sender {
 
     /// A piece of an open id, or of a new one where the cells are sure to suffice until it is whole.
     fn piece(&self, r: &mut Random) -> Option<Fields> {
-        let ids: Vec<u16> = self.open.keys().copied().collect();
-        let promised: usize = self.open.values().map(|o| o.count as usize).sum();
-        let room = (self.cells / 2).saturating_sub(promised) as u32;
-        if room > 0 && (ids.is_empty() || r.one_in(4)) {
-            let id = r.below(40) as u16;
-            if !self.open.contains_key(&id) {
-                let kind = *r.pick(&[0, 1, 2, 4, 5, 6]);
-                let most = room.min(*r.pick(&[3, 10, 60]));
-                let count = r.between(1, most);
-                let (order, channel) = if has_order(kind) { (r.below(1 << 24), r.below(32) as u8) } else { (0, 0) };
-                let piece = Some((count, id, r.below(count)));
-                return Some(Fields { kind, sequence: r.below(1 << 24), order, channel, piece, ..Fields::default() });
-            }
+        let open = &self.session.open;
+        let ids: Vec<u16> = open.keys().copied().collect();
+        let promised: u32 = open.values().map(|o| o.count()).sum();
+        let room = (self.session.cells as u32 / 2).saturating_sub(promised);
+        let id = r.below(40) as u16;
+        if room > 0 && !open.contains_key(&id) && (ids.is_empty() || r.one_in(4)) {
+            let kind = *r.pick(&[0, 1, 2, 4, 5, 6]);
+            let most = room.min(*r.pick(&[3, 10, 60]));
+            let count = r.between(1, most);
+            let (order, channel) = if has_order(kind) { (r.below(1 << 24), r.below(32) as u8) } else { (0, 0) };
+            let piece = Some((count, id, r.below(count)));
+            return Some(Fields { kind, sequence: r.below(1 << 24), order, channel, piece, ..Fields::default() });
         }
         if ids.is_empty() {
             return None;
         }
         let id = *r.pick(&ids);
-        let open = &self.open[&id];
-        let mut index = r.below(open.count);
+        let o = &open[&id];
+        let mut index = r.below(o.count());
         if !r.one_in(6) {
-            index = (0..open.count).find(|i| !open.sent.contains(i)).unwrap();
+            index = (0..o.count()).find(|i| !o.came.contains(i)).unwrap();
         }
-        Some(Fields { piece: Some((open.count, id, index)), body: Vec::new(), ..open.like.clone() })
-    }
-
-    /// Its reliable number, piece or order number came before.
-    fn dropped(&self, f: &Fields) -> bool {
-        if has_reliable(f.kind) && self.reliables.has(f.reliable) {
-            return true;
-        }
-        match f.piece {
-            Some((_, id, index)) => self.open.get(&id).is_some_and(|o| o.sent.contains(&index)),
-            None => f.kind == 3 && f.order < self.next[f.channel as usize],
-        }
-    }
-
-    /// Takes note of a frame sent in a datagram that is accepted.
-    fn sent(&mut self, f: &Fields, kept: bool) {
-        if has_reliable(f.kind) && !self.reliables.has(f.reliable) {
-            self.reliables.accept(f.reliable);
-        }
-        if !kept {
-            return;
-        }
-        if let Some((count, id, index)) = f.piece {
-            let fresh = Open { like: f.clone(), count, sent: Vec::new() };
-            let open = self.open.entry(id).or_insert(fresh);
-            open.sent.push(index);
-            if open.sent.len() == count as usize {
-                self.open.remove(&id);
-            }
-        } else if f.kind == 3 || f.kind == 7 {
-            let c = f.channel as usize;
-            self.next[c] += 1;
-            if f.kind == 3 {
-                self.next_3[c] = self.next[c];
-            }
-        }
-    }
-
-    /// A frame that holds anything, some of it over the limits.
-    fn anything(&self, r: &mut Random) -> Fields {
-        let mut number = || if r.one_in(3) { r.below(1 << 24) } else { r.below(40) };
-        let (reliable, sequence, order) = (number(), number(), number());
-        let piece = r.one_in(3).then(|| (r.below(5), r.below(40) as u16, r.below(5)));
-        let len = r.below(30) as usize;
-        Fields { kind: r.below(8) as u8, reliable, sequence, order, channel: r.below(40) as u8, piece, body: r.bytes(len) }
+        Some(Fields { piece: Some((o.count(), id, index)), ..o.first.clone() })
     }
 }
