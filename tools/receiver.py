@@ -257,22 +257,22 @@ def put(d):
 
 
 def recording():
-    """A shift's worth of lever commands: in order, out of order, twice, in pieces, damaged."""
-    lever = [b"lift %d" % i for i in range(8)]
-    o = [frame(3, lever[i], reliable=i, order=i, channel=1) for i in range(8)]
+    """Document 01's own input for trace; then a shift's worth of lever commands: in order, out of order, twice, in pieces, damaged."""
+    first = [datagram(0, frame(3, b"B", reliable=0, order=1)), datagram(1, frame(3, b"A", reliable=1, order=0))]
+    o = [frame(3, b"lift %d" % i, reliable=2 + i, order=i, channel=1) for i in range(8)]
     long = bytes(range(256)) * 11
     p = [frame(3, long[i * 1000:][:1000], reliable=20 + i, order=8, channel=1, piece=(3, 7, i)) for i in range(3)]
     late = frame(7, b"brake", reliable=30, order=1, channel=2)
-    ds = [datagram(0, o[0]), datagram(2, o[2], o[3]), datagram(1, o[1]), datagram(1, o[1]), datagram(3, o[3], o[4]),
-          datagram(4, p[2]), datagram(5, p[0]), datagram(6, o[6], o[7]), datagram(7, o[5]), datagram(8, p[1]),
-          datagram(9, late), datagram(10, frame(7, b"hold", reliable=31, order=0, channel=2)),
-          datagram(11, frame(0, b"hum"), frame(1, b"tick", sequence=4, order=9, channel=3), frame(4, b"tock", reliable=32, sequence=5)),
-          datagram(12, frame(3, b"far channel", reliable=33, order=0, channel=32)),
-          datagram(13, frame(2, b"piece 2 of 2", reliable=34, piece=(2, 9, 2))),
-          datagram(14, frame(2, b"cut", reliable=35)[:-1]), b"", b"\x84\0\0", datagram(15, first=0xC0), bytes(1501),
-          datagram(3000), datagram(15, frame(2, b"beyond", reliable=9000)), datagram(16), datagram(17, b"\0\0\0")]
+    ds = first + [first[0], datagram(2, o[0]), datagram(4, o[2], o[3]), datagram(3, o[1]), datagram(3, o[1]), datagram(5, o[3], o[4]),
+                  datagram(6, p[2]), datagram(7, p[0]), datagram(8, o[6], o[7]), datagram(9, o[5]), datagram(10, p[1]),
+                  datagram(11, late), datagram(12, frame(7, b"hold", reliable=31, order=0, channel=2)),
+                  datagram(13, frame(0, b"hum"), frame(1, b"tick", sequence=4, order=9, channel=3), frame(4, b"tock", reliable=32, sequence=5)),
+                  datagram(14, frame(3, b"far channel", reliable=33, order=0, channel=32)),
+                  datagram(15, frame(2, b"piece 2 of 2", reliable=34, piece=(2, 9, 2))),
+                  datagram(16, frame(2, b"cut", reliable=35)[:-1]), b"", b"\x84\0\0", datagram(17, first=0xC0), bytes(1501),
+                  datagram(3000), datagram(17, frame(2, b"beyond", reliable=9000)), datagram(18), datagram(19, b"\0\0\0")]
     many = [frame(0, b"%d" % i) for i in range(33)]
-    ds += [datagram(18, *many), datagram(19, *many[:32])]
+    ds += [datagram(20, *many), datagram(21, *many[:32])]
     return b"".join(put(d) for d in ds)
 
 

@@ -3,15 +3,12 @@
 use recv::RecvQueue;
 
 mod sort;
-mod sound;
 mod unsent;
+mod values;
 mod write;
 
-pub use sound::sound_channels;
-pub use sound::sound_queue;
-pub use sound::sound_unsent;
-pub use sound::sound_window;
 pub use unsent::with_number;
+pub use values::sound_queue;
 pub use write::write_missing;
 pub use write::write_unsent;
 

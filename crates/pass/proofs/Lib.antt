@@ -9,3 +9,7 @@ pub mod Stepping
 pub mod Growing
 pub mod Passing
 pub mod Flushing
+pub mod Receiving
+pub mod Beginning
+pub mod ReceivingAccepted
+pub mod ReceivingRows

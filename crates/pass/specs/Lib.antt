@@ -4,3 +4,5 @@ pub mod Placing
 pub mod Moves
 pub mod Frames
 pub mod Flush
+pub mod Outcome
+pub mod Receives

@@ -1,6 +1,7 @@
 // A datagram's frames put through the four steps, on rows. A module uses its parents' functions: the steps stand over the leaves here, and receive over the steps.
 use frame::Placed;
 use recv::Channel;
+use recv::RecvQueue;
 use rows::ROW;
 use rows::Row;
 use window::ReliableWindow;
@@ -25,6 +26,8 @@ ghost use Rattle.window.specs.Window as Window;
 
 mod steps;
 
+pub use steps::datagram::receive::receive_rows;
+
 // What a datagram's frames work on, beside the rows. turn: that of the next message made ready. full is 1 where a body found no cell.
 pub struct Pass {
     pub reliables: ReliableWindow,
@@ -33,6 +36,31 @@ pub struct Pass {
     pub ready: u32,
     pub dropped: u32,
     pub full: u32,
+}
+
+// Refusals: 9, 1, 2, 3, 4, 5, 6, 7, 8.
+pub enum Receive {
+    NotSound,
+    TooShort,
+    TooLong,
+    NotDatagram,
+    Old,
+    Beyond,
+    UnsentFull,
+    ReliableBeyond,
+    NoRoom,
+    Accepted {
+        ready: u32,
+        dropped: u32,
+        left: usize,
+    },
+}
+
+// rows: how many records are to be written, all or none.
+pub struct ReceivedRows {
+    pub answer: Receive,
+    pub queue: RecvQueue,
+    pub rows: usize,
 }
 
 // What step 4 does with a message: drop it, hold it, make it ready with the held ones that follow, or make it ready.

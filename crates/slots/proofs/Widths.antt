@@ -6,7 +6,7 @@ use mathlib.Core.Bool.{Bool, true, false, cond}
 use mathlib.Core.List.{List, [], _∷_, _++_, map, map-append}
 use native.Mathlib.Omega.{arith}
 use lib.Dec.{ltb}
-use lib.ListN.{length, getD, take, drop, length-map}
+use lib.ListN.{length, getD, take}
 use lib.Seq.{length-take-le, getD-take, take-all}
 use borrow.Author.Tests.{ltb-true, ltb-false}
 use Rattle.base.specs.If.{ifLt}
@@ -15,7 +15,6 @@ use Rattle.base.proofs.Ifs.{lt-yes, lt-no}
 use Rattle.cells.specs.Cell.{Cell}
 use Rattle.rows.specs.declared.Row.{Row}
 use Rattle.rows.specs.Rows.{rowWords, field, rowAt, listed, rowCount, rowsOf, cellOf, cellsIn, blankRow, changeRow, changeRows}
-use Rattle.rows.proofs.Listed.{listed-length, listed-get}
 use Rattle.rows.proofs.Rows.{cells-length}
 use Rattle.slots.specs.Widths.{rowsIn, firstCells, blank, Fit, FitTo}
 

@@ -1,4 +1,8 @@
 pub mod Counting
 pub mod Tests
 pub mod Scans
+pub mod Numbered
+pub mod Tallies
+pub mod Certified
+pub mod EntryCases
 pub mod Calls

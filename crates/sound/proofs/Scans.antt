@@ -11,6 +11,8 @@ use Rattle.cells.specs.Cell.{Cell}
 use Rattle.cells.specs.Sound.{soundCells}
 use Rattle.rows.specs.declared.Row.{Row}
 use Rattle.rows.specs.Rows.{rowAt, rowCount, cellOf, cellsIn}
+use Rattle.rows.specs.Whole.{wholeRow}
+use Rattle.rows.proofs.Rows.{whole-is}
 use Rattle.rows.proofs.ForBase.{count-append}
 use Rattle.rows.proofs.Below.{cellsBelow, below-all, below-none, below-more, below-length, below-split}
 use Rattle.sound.specs.declared.Tally.{Tally}
@@ -18,7 +20,7 @@ use Rattle.sound.specs.Counted.{mate, twin, unlike, tallyOf, countedCell
 use Rattle.row_scans.proofs.Scans.{at-end}
 use Rattle.sound.proofs.Counting.{counted-sound}
 
-every-append : {A : Type 0} (p : A → Bool) (xs ys : List A) → every p (xs ++ ys) ≡ (every p xs && every p ys)
+pub every-append : {A : Type 0} (p : A → Bool) (xs ys : List A) → every p (xs ++ ys) ≡ (every p xs && every p ys)
 unfolding every
 every-append p [] ys = refl
 every-append p (x ∷ xs) ys = passed (p x) (every-append p xs ys)
@@ -36,9 +38,9 @@ module _ (p : Cell → Bool) (ws : List ℕ) where
   unfolding every
   every-none = rw (below-none ws)
 
-  module _ (i : ℕ) {r : Row} {b : Bool} (q : r ≡ rowAt ws i) (t : b ≡ p (cellOf r)) where
+  module _ (i : ℕ) {r : Row} {b : Bool} (l : i < rowCount ws) (q : r ≡ wholeRow ws i) (t : b ≡ p (cellOf r)) where
     tested : {v : Bool} → b ≡ v → p (cellOf (rowAt ws i)) ≡ v
-    tested y = ap (λ (x : Row). p (cellOf x)) (sym q) ∙ sym t ∙ y
+    tested y = ap (λ (x : Row). p (cellOf x)) (sym (q ∙ whole-is ws i l)) ∙ sym t ∙ y
 
     pub count-bit : {k v : ℕ} → k ≡ countOf p (cellsBelow ws i) → v ≡ cond b 1 0 → k + v ≡ countOf p (cellsBelow ws (i + 1))
     unfolding countOf
@@ -48,9 +50,9 @@ module _ (p : Cell → Bool) (ws : List ℕ) where
     unfolding every
     every-pass e y = rw (below-more ws i, every-append p (cellsBelow ws i) (cellOf (rowAt ws i) ∷ []), ← e, tested y)
 
-    pub every-fail : i < rowCount ws → true ≡ every p (cellsBelow ws i) → b ≡ false → false ≡ every p (cellsIn ws)
+    pub every-fail : true ≡ every p (cellsBelow ws i) → b ≡ false → false ≡ every p (cellsIn ws)
     unfolding every
-    every-fail l e y =
+    every-fail e y =
         let s = below-split ws i (rowCount ws) l in
         rw (← below-all ws, s .1, every-append p (cellsBelow ws i) (cellOf (rowAt ws i) ∷ s .0), ← e, tested y)
 

@@ -44,18 +44,42 @@ channel-within r e f =
     let e₂ = and-right (leb (r .kind) 7) _ e₁ in
     ltb-true _ _ (and-left (ltb (r .channel) maxOrdChans) _ e₂)
 
+-- What is asked of a cell alone, in the code's two ways.
+module _ (next : ℕ → ℕ) (r : Row) {b : Bool} (e : b ≡ limits (cellOf r)) where
+  pub within-ahead : {n : ℕ} → b ≡ true → n ≡ next (r .channel) → (not (eqb (r .used) 2) || ltb n (r .order)) ≡ (limits (cellOf r) && ahead next (cellOf r))
+  unfolding ahead cellOf
+  within-ahead y f = rw (← e, y, f)
+
+  pub beyond-limits : b ≡ false → false ≡ (limits (cellOf r) && ahead next (cellOf r))
+  beyond-limits y = rw (← e, y)
+
 -- The test by counts, in the code's three ways.
 module _ (cs : List Cell) (next : ℕ → ℕ) (r : Row) where
   pub unused-passes : r .used ≡ 0 → true ≡ countedCell cs next (cellOf r)
   unfolding countedCell cellOf
   unused-passes u = rw (eq-eqb (r .used) 0 u)
 
-  pub beyond-fails : {b : Bool} → (r .used ≡ 0 → ⊥) → b ≡ limits (cellOf r) → b ≡ false → false ≡ countedCell cs next (cellOf r)
+  pub beyond-fails : {b : Bool} → (r .used ≡ 0 → ⊥) → b ≡ (limits (cellOf r) && ahead next (cellOf r)) → b ≡ false → false ≡ countedCell cs next (cellOf r)
   unfolding countedCell cellOf
-  beyond-fails u e f = rw (ne-eqb (r .used) 0 u, ← e, f)
+  beyond-fails u e f = sym (rw (ne-eqb (r .used) 0 u) (last-false (limits (cellOf r)) (eqb (countOf (twin (cellOf r)) cs) 1) (eqb (countOf (unlike (cellOf r)) cs) 0) (cond (eqb (cellOf r .used) 1) (not (whole cs (cellOf r))) (whole cs (cellOf r))) (ahead next (cellOf r)) (sym e ∙ f)))
+    where
+      last-false : (a b c d e : Bool) → (a && e) ≡ false → (a && (b && (c && (d && e)))) ≡ false
+      last-false false b c d e z = refl
+      last-false true false c d e z = refl
+      last-false true true false d e z = refl
+      last-false true true true false e z = refl
+      last-false true true true true e z = z
 
-  pub used-tested : {b due : Bool} {t : Tally} {n : ℕ} → (r .used ≡ 0 → ⊥) → b ≡ limits (cellOf r) → b ≡ true → t ≡ tallyOf cs (cellOf r)
-      → due ≡ cond (eqb (r .used) 1) (not (eqb (t .mates) (r .count))) (eqb (t .mates) (r .count)) → n ≡ next (r .channel)
-      → (eqb (t .twins) 1 && (eqb (t .unlike) 0 && (due && (not (eqb (r .used) 2) || ltb n (r .order))))) ≡ countedCell cs next (cellOf r)
-  unfolding countedCell tallyOf whole ahead cellOf
-  used-tested u e f g h k = rw (ne-eqb (r .used) 0 u, ← e, f, h, g, k)
+  pub used-tested : {b due : Bool} {t : Tally} → (r .used ≡ 0 → ⊥) → b ≡ (limits (cellOf r) && ahead next (cellOf r)) → b ≡ true → t ≡ tallyOf cs (cellOf r)
+      → due ≡ cond (eqb (r .used) 1) (not (eqb (t .mates) (r .count))) (eqb (t .mates) (r .count))
+      → (eqb (t .twins) 1 && (eqb (t .unlike) 0 && due)) ≡ countedCell cs next (cellOf r)
+  unfolding countedCell tallyOf whole cellOf
+  used-tested u e f g h =
+      let both = sym e ∙ f in
+      rw (ne-eqb (r .used) 0 u, and-left (limits (cellOf r)) _ both, and-right (limits (cellOf r)) _ both, h, g) (true-last (eqb (countOf (twin (cellOf r)) cs) 1) (eqb (countOf (unlike (cellOf r)) cs) 0) _)
+    where
+      true-last : (a b c : Bool) → (a && (b && c)) ≡ (a && (b && (c && true)))
+      true-last false b c = refl
+      true-last true false c = refl
+      true-last true true false = refl
+      true-last true true true = refl

@@ -5,12 +5,17 @@ use rows::ROW;
 use rows::Row;
 ghost use mathlib.Core.Path.{_≡_};
 ghost use Prim.Native.Nat.{_≤_, _<_};
-ghost use mathlib.Core.Bool.{cond, not};
+ghost use mathlib.Core.Bool.{cond, not, _&&_};
 ghost use Rattle.base.specs.Limits.{maxOrdChans};
 ghost use Rattle.cells.specs.Sound.{limits, agree, soundCells, lengths};
 ghost use Rattle.rows.specs.Rows.{cellOf, cellsIn};
 ghost use Rattle.recv.specs.Receive.{soundCall};
-ghost use Rattle.sound.specs.Counted.{nextIn, mate, countedCell, tallyOf};
+ghost use Rattle.sound.specs.Counted.{nextIn, mate, ahead, countedCell, tallyOf};
+
+mod entries;
+
+// Up to so many rows the test by pairs is the quicker one, as measured.
+const PAIRS: usize = 8;
 
 const MAX_USE: u32 = 3;
 
@@ -73,7 +78,7 @@ fn count_mates(words: &[u32], a: Row) -> Tally
     let mut twins: usize = 0;
     let mut unlike: usize = 0;
     while i < n {
-        let d = rows::row_at(words, i);
+        let d = rows::whole_row(words, i);
         let mate = is_mate(a, d);
         let like = agrees(a, d);
         mates += one_if(mate);
@@ -104,6 +109,17 @@ fn next_in(channels: [Channel; 32], c: usize) -> u32
     channel.next
 }
 
+// What is asked of a cell alone: the limits, and of a held one that its order number exceeds its channel's next.
+fn is_within(channels: [Channel; 32], r: Row) -> bool
+    ensures { λ b. ⌜ b ≡ (limits (cellOf r) && ahead (nextIn channels) (cellOf r)) ⌝ }
+{
+    if in_limits(r) {
+        let next = next_in(channels, r.channel as usize);
+        return (r.used != 2) | (next < r.order);
+    }
+    false
+}
+
 // Is this cell sound among those in the words? Asked by counts.
 fn is_sound(words: &[u32], channels: [Channel; 32], r: Row) -> bool
     ensures { λ b. ⌜ b ≡ countedCell (cellsIn (now (words .entry))) (nextIn channels) (cellOf r) ⌝ }
@@ -111,23 +127,22 @@ fn is_sound(words: &[u32], channels: [Channel; 32], r: Row) -> bool
     if r.used == 0 {
         return true;
     }
-    if in_limits(r) {
+    if is_within(channels, r) {
         let t = count_mates(words, r);
         let due = is_due(r.used == 1, t.mates == r.count as usize);
-        let next = next_in(channels, r.channel as usize);
-        return (t.twins == 1) & ((t.unlike == 0) & (due & ((r.used != 2) | (next < r.order))));
+        return (t.twins == 1) & ((t.unlike == 0) & due);
     }
     false
 }
 
-// Are the cells' records sound beside these channels' next order numbers?
-pub fn sound_cells(words: &[u32], channels: [Channel; 32]) -> bool
+// Each used row against all rows.
+fn by_pairs(words: &[u32], channels: [Channel; 32]) -> bool
     ensures { λ r. ⌜ r ≡ soundCells (cellsIn (now (words .entry))) (nextIn channels) ⌝ }
 {
     let n = words.len() / ROW;
     let mut i = 0;
     while i < n {
-        let r = rows::row_at(words, i);
+        let r = rows::whole_row(words, i);
         if is_sound(words, channels, r) {
             i += 1;
         } else {
@@ -137,8 +152,18 @@ pub fn sound_cells(words: &[u32], channels: [Channel; 32]) -> bool
     true
 }
 
+// Are the cells' records sound beside these channels' next order numbers? Where there are many rows, sorted entries tell it sooner.
+pub fn sound_cells(words: &[u32], channels: [Channel; 32]) -> bool
+    ensures { λ r. ⌜ r ≡ soundCells (cellsIn (now (words .entry))) (nextIn channels) ⌝ }
+{
+    if words.len() / ROW <= PAIRS {
+        return by_pairs(words, channels);
+    }
+    entries::by_entries(words, channels)
+}
+
 // "1 to 4,096 cells of 1,500 bytes"; "the store is exactly one cell for each record".
-fn lengths_fit(cells: usize, bytes: usize) -> bool
+pub fn lengths_fit(cells: usize, bytes: usize) -> bool
     ensures { λ r. ⌜ r ≡ lengths cells bytes ⌝ }
 {
     if cells < 1 {

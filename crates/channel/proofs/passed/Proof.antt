@@ -9,14 +9,14 @@ use lib.Dec.{T}
 use mir.Syntax.{named, tyUnit}
 use mir.Val.{Val, vunit, vptr, hasTy, WT}
 use base.Logic.{SProp, ent, sep, guard, emp, via, fst∗, id⊢}
-use base.Fml.{GName, Lft, Share, ftrue, fsep, fat, flft, fres, flent}
+use base.Fml.{GName, ftrue, fsep, fat, flft, fres, flent}
 use prog.Memory.{Memory}
 use prog.Routine.{Routine}
 use prog.Wp.{Heap, Calls, Loops, WpFn, Tables}
 use ghost.Atoms.{Atoms, sem}
 use contract.Monad.{Fun, fact}
 use contract.Running.{givenOf, tables, tablesOf}
-use types.Kit.{Given, ‵, raw, _⊛_, some, later, given, _$_, _∵_, !, qed, by, move, keep, drop, use1, use2, use3, split, join, pick, learn, check, rewrite, fsplit, fjoin, fpick, fpack, feqL, suffices, frame, await, updating, now as at-once, done}
+use types.Kit.{Given, ‵, raw, _⊛_, some, later, given, _$_, _∵_, !, qed, by, move, keep, use1, use2, use3, split, join, pick, learn, check, rewrite, fsplit, fjoin, fpick, fpack, feqL, suffices, frame, await, updating, now as at-once, done}
 use types.Tokens.{lft-new, lft-end}
 use types.Run.{look, init, forget, stop, from, load, of-opd, addr, and-then, no-more, land, assigns, returns, enter, alloc1, alloc0, params1, pass1, pass0, free1, free0}
 use types.SemTy.{Body}
@@ -36,7 +36,7 @@ use denote.Triple.Entry.{onEntry}
 use denote.Triple.Spec.{Meets, tripleOf}
 use denote.Triple.Table.{entered, cited}
 use denote.Triple.Walked.{says, Stays, stay-none, walkOf, goes-none, Walks, ends-at, walked, walk-meets}
-use denote.Triple.Clauses.{Lasts, ensured, lasts}
+use denote.Triple.Clauses.{Lasts, lasts}
 use denote.Exit.{yes}
 use Rattle.recv.specs.declared.Channel.{Channel}
 use Rattle.channel.specs.Advance.{advancedOf}

@@ -18,6 +18,8 @@ ghost use Rattle.cells.specs.Store.{cellSize};
 ghost use Rattle.slots.specs.Slots.{isPlaced, flushed, Fits, AllFit};
 ghost use Rattle.pass.specs.Flush.{flushedRow};
 
+pub mod receive;
+
 // All frames of the datagram, in order.
 fn frames(words: &mut [u32], pass: Pass, datagram: &[u8]) -> Pass
     requires { ⌜ Begun pass (rowsOf (now words)) (now datagram) ⌝ }

@@ -36,7 +36,8 @@ count-mates-spec = tie.close (tie.spec
     (λ c. omega arith)
     (λ c. omega arith)
     (λ c.
-    let q = c .before .before .before .before .before .before .before .row-at .ensures in
+    let q = c .before .before .before .before .before .before .before .whole-row .ensures in
+    let l₀ = c .before .before .before .before .before .before .before .before .loop-test .taken in
     let m = c .before .before .before .before .before .before .is-mate .ensures in
     let l = c .before .before .before .before .before .agrees .ensures in
     let e = c .before .before .before .before .before .before .before .before .before .loop .inv in
@@ -47,8 +48,8 @@ count-mates-spec = tie.close (tie.spec
       omega (arith, x .1),
       omega (arith, y .1),
       omega (arith, z .1),
-      count-bit _ _ _ q m (e .4) (x .0),
-      count-bit _ _ _ q (twin-is _ _ m) (e .5) (y .0),
-      count-bit _ _ _ q (unlike-is _ _ m l) (e .6) (z .0),
+      count-bit _ _ _ l₀ q m (e .4) (x .0),
+      count-bit _ _ _ l₀ q (twin-is _ _ m) (e .5) (y .0),
+      count-bit _ _ _ l₀ q (unlike-is _ _ m l) (e .6) (z .0),
     ))
     (λ c. let e = c .before .loop .inv in tally-end _ _ (e .0) (c .loop-test .left) (e .4) (e .5) (e .6)))

@@ -1,5 +1,5 @@
 use borrow.Author.Needs.{needs}
-use Rattle.sound.proofs.Tests.{channel-within, unused-passes, beyond-fails, used-tested}
+use Rattle.sound.proofs.Tests.{unused-passes, beyond-fails, used-tested}
 use Rattle.sound.proofs.is_sound.Statement.{statement}
 use Rattle.sound.proofs.is_sound.Tie as tie
 
@@ -10,7 +10,5 @@ is-sound-spec = tie.close (tie.spec
     (λ c κs. tt)
     (λ c. search needs)
     (λ c κs. tt)
-    (λ c. search needs)
-    (λ c κs. channel-within _ (c .before .before .before .before .before .before .before .in-limits .ensures) (c .before .before .before .before .before .before .if2 .taken))
-    (λ c. used-tested _ _ _ (c .before .before .before .before .before .before .before .before .before .before .before .before .before .if1 .left) (c .before .before .before .before .before .before .before .before .before .before .before .before .in-limits .ensures) (c .before .before .before .before .before .before .before .before .before .before .before .if2 .taken) (c .before .before .before .before .before .before .before .before .before .before .count-mates .ensures) (c .before .before .before .before .before .before .is-due .ensures) (c .before .before .before .before .next-in .ensures))
-    (λ c. beyond-fails _ _ _ (c .before .before .if1 .left) (c .before .in-limits .ensures) (c .if2 .left)))
+    (λ c. used-tested _ _ _ (c .before .before .before .before .before .before .before .before .before .if1 .left) (c .before .before .before .before .before .before .before .before .is-within .ensures) (c .before .before .before .before .before .before .before .if2 .taken) (c .before .before .before .before .before .before .count-mates .ensures) (c .before .before .is-due .ensures))
+    (λ c. beyond-fails _ _ _ (c .before .before .if1 .left) (c .before .is-within .ensures) (c .if2 .left)))

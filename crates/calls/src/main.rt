@@ -1,0 +1,244 @@
+// Replays a list of calls, read from standard input, and prints every answer.
+//
+// Input: the number of cells, 16 bits big-endian, 1 to 256 (else `- 9` is printed and nothing else); then per call one byte and 16 bits n big-endian:
+// 0 receive, followed by n bytes; 1 take with a joining buffer of n bytes; 2 write the unsent, 3 write the missing, each into an output of n bytes.
+// A cut call ends the input, as does another first byte. Output, one line a call: `r 0 READY DROPPED LEFT`, `t 0 LENGTH SUM KIND CHANNEL ORDER`, `u 0 LENGTH SUM`, `m 0
+// LENGTH SUM`; on a refusal the letter and document 01's number. SUM is over the bytes handed out: from 1 on, for each byte h = (31 h + byte) mod 65521.
+use acks::WriteQueue;
+use cells::CellRecord;
+use libc::STDOUT_FILENO;
+use pass::Receive;
+use recv::RecvQueue;
+use takes::Take;
+
+mod reading;
+
+const STORE: usize = base::CELL_BYTES * held::HELD;
+
+// A call's number has 16 bits.
+const BUFFER: usize = 65535;
+
+const MODULUS: u64 = 65521;
+
+fn text(s: &[u8]) {
+    io::write_all(STDOUT_FILENO, s);
+}
+
+fn value(n: u64) {
+    text(b" ");
+    io::print_decimal(STDOUT_FILENO, n);
+}
+
+fn refused(letter: &[u8], number: u64) {
+    text(letter);
+    value(number);
+    text(b"\n");
+}
+
+fn mixed(h: u64, byte: u8) -> u64 {
+    (h % MODULUS * 31 + byte as u64) % MODULUS
+}
+
+fn sum(s: &[u8]) -> u64 {
+    let mut h: u64 = 1;
+    let mut i = 0;
+    while i < s.len() {
+        h = mixed(h, s[i]);
+        i += 1;
+    }
+    h
+}
+
+// The receiver and its cells' records.
+struct Receiver {
+    queue: RecvQueue,
+    records: [CellRecord; 256],
+}
+
+fn with_cells(queue: RecvQueue, records: [CellRecord; 256]) -> Receiver {
+    Receiver { queue, records }
+}
+
+// ---- receive
+
+fn show_accepted(ready: u32, dropped: u32, left: usize) {
+    text(b"r 0");
+    value(ready as u64);
+    value(dropped as u64);
+    value(left as u64);
+    text(b"\n");
+}
+
+fn show_receive(answer: Receive) {
+    match answer {
+        Receive::NotSound => refused(b"r", 9),
+        Receive::TooShort => refused(b"r", 1),
+        Receive::TooLong => refused(b"r", 2),
+        Receive::NotDatagram => refused(b"r", 3),
+        Receive::Old => refused(b"r", 4),
+        Receive::Beyond => refused(b"r", 5),
+        Receive::UnsentFull => refused(b"r", 6),
+        Receive::ReliableBeyond => refused(b"r", 7),
+        Receive::NoRoom => refused(b"r", 8),
+        Receive::Accepted {
+            ready,
+            dropped,
+            left,
+        } => show_accepted(ready, dropped, left),
+    }
+}
+
+fn receive(x: Receiver, cells: usize, store: &mut [u8], datagram: &[u8]) -> Receiver {
+    let queue = x.queue;
+    let records = x.records;
+    let r = held::receive_held(queue, records, cells, store, datagram);
+    let answer = r.answer;
+    let q = r.queue;
+    let rs = r.records;
+    show_receive(answer);
+    with_cells(q, rs)
+}
+
+// ---- take
+
+fn show_handed(body: &[u8], kind: u8, channel: u8, order: u32) {
+    text(b"t 0");
+    value(body.len() as u64);
+    value(sum(body));
+    value(kind as u64);
+    value(channel as u64);
+    value(order as u64);
+    text(b"\n");
+}
+
+fn show_take<'a>(answer: Take, store: &'a [u8], joined: &'a [u8]) {
+    let body = recv_queue::body(store, joined, answer);
+    match answer {
+        Take::NotSound => refused(b"t", 9),
+        Take::NoneReady => refused(b"t", 20),
+        Take::ShortBuffer => refused(b"t", 12),
+        Take::InStore {
+            kind,
+            channel,
+            order,
+            start: _,
+            len: _,
+        } => show_handed(body, kind, channel, order),
+        Take::Joined {
+            kind,
+            channel,
+            order,
+            len: _,
+        } => show_handed(body, kind, channel, order),
+    }
+}
+
+fn take(x: Receiver, cells: usize, store: &[u8], joined: &mut [u8]) -> Receiver {
+    let queue = x.queue;
+    let records = x.records;
+    let r = held::take_held(queue, records, cells, store, joined);
+    let answer = r.answer;
+    let rs = r.records;
+    show_take(answer, store, joined);
+    with_cells(queue, rs)
+}
+
+// ---- the writings
+
+fn show_written(letter: &[u8], out: &[u8], len: usize) {
+    text(letter);
+    text(b" 0");
+    value(len as u64);
+    if len <= out.len() {
+        value(sum(&out[..len]));
+    }
+    text(b"\n");
+}
+
+fn show_write(letter: &[u8], answer: WriteQueue, out: &[u8]) {
+    match answer {
+        WriteQueue::Unsound => refused(letter, 9),
+        WriteQueue::NoRoom => refused(letter, 12),
+        WriteQueue::Written { len } => show_written(letter, out, len),
+    }
+}
+
+fn write_unsent(x: Receiver, out: &mut [u8]) -> Receiver {
+    let queue = x.queue;
+    let records = x.records;
+    let r = acks::write_unsent(queue, out);
+    let answer = r.answer;
+    let q = r.queue;
+    show_write(b"u", answer, out);
+    with_cells(q, records)
+}
+
+fn write_missing(x: Receiver, out: &mut [u8]) -> Receiver {
+    let queue = x.queue;
+    let records = x.records;
+    let r = acks::write_missing(queue, out);
+    let answer = r.answer;
+    let q = r.queue;
+    show_write(b"m", answer, out);
+    with_cells(q, records)
+}
+
+// ---- the list
+
+fn one_call(x: Receiver, cells: usize, what: u8, store: &mut [u8], bytes: &mut [u8]) -> Receiver {
+    if what == 0 {
+        return receive(x, cells, store, bytes);
+    }
+    if what == 1 {
+        return take(x, cells, store, bytes);
+    }
+    if what == 2 {
+        return write_unsent(x, bytes);
+    }
+    write_missing(x, bytes)
+}
+
+// The count of turns is far above what any input has: a call takes three bytes or more.
+fn run(x: Receiver, cells: usize, store: &mut [u8], buffer: &mut [u8]) {
+    let mut now = x;
+    let mut left: u64 = 18446744073709551615;
+    while 0 < left {
+        let call = reading::read_call(buffer);
+        let what = call.what;
+        let n = call.n;
+        if 3 < what {
+            return;
+        }
+        if buffer.len() < n {
+            return;
+        }
+        now = one_call(now, cells, what, store, &mut buffer[..n]);
+        left -= 1;
+    }
+}
+
+fn start(cells: usize, store: &mut [u8], buffer: &mut [u8]) {
+    let made = held::make_held(cells, store);
+    let queue = made.queue;
+    let records = made.records;
+    run(with_cells(queue, records), cells, store, buffer);
+}
+
+// The receiver's store is the front of the whole, as long as its cells are.
+fn start_within(cells: usize, whole: &mut [u8], buffer: &mut [u8]) {
+    if cells < 1 {
+        refused(b"-", 9);
+        return;
+    }
+    if whole.len() / base::CELL_BYTES < cells {
+        refused(b"-", 9);
+        return;
+    }
+    start(cells, &mut whole[..base::CELL_BYTES * cells], buffer);
+}
+
+fn main() {
+    let mut store = [0u8; STORE];
+    let mut buffer = [0u8; BUFFER];
+    start_within(reading::read_cells(), &mut store, &mut buffer);
+}

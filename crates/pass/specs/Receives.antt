@@ -1,0 +1,81 @@
+-- A receive on rows, from one refusal to the next: what is known when the later ones are asked, and what is returned.
+use Prim.Native.Nat.{ℕ, _<_, _≤_}
+use mathlib.Core.Path.{_≡_}
+use mathlib.Core.Bool.{true, false}
+use mathlib.Core.Option.{some}
+use mathlib.Core.List.{List, map}
+use lib.ListN.{length, getD}
+use Rattle.base.specs.Bytes.{Bytes}
+use Rattle.base.specs.Limits.{minDatagram, maxDatagram, maxUnsent, windowPlaces}
+use Rattle.base.specs.Lists.{countOf}
+use Rattle.base.specs.Numbers.{distance}
+use Rattle.window.specs.declared.ReliableWindow.{ReliableWindow}
+use Rattle.window.specs.Window.{accepted, accept}
+use Rattle.cells.specs.Cell.{Cell}
+use Rattle.cells.specs.Records.{firstCell, beforeCell}
+use Rattle.rows.specs.declared.Row.{Row}
+use Rattle.rows.specs.Rows.{cellsIn, cellOf, markRow, changeRows}
+use Rattle.acks.specs.Unsent.{withNumber}
+use Rattle.recv.specs.declared.RecvQueue.{RecvQueue}
+use Rattle.recv.specs.Receive.{numberOf, isDatagram, framesIn, acceptAll, bytesLeft, soundCall, receiveOf}
+use Rattle.row_tests.specs.Uses.{uses}
+use Rattle.corollaries.specs.Widths.{AllFit}
+use Rattle.pass.specs.declared.Pass.{Pass}
+use Rattle.pass.specs.declared.Receive.{Receive}
+use Rattle.pass.specs.declared.Receive.the-variants.{Accepted}
+use Rattle.pass.specs.declared.ReceivedRows.{ReceivedRows}
+use Rattle.pass.specs.Outcome.{receiveAnswer, unlessAccepted, rowsSaved, outcome}
+
+-- what a call returns that refuses, and one that accepts
+abbrev pub refusal : RecvQueue → Receive → ReceivedRows
+refusal q a = record { answer = a; queue = q; rows = 0 }
+
+unfoldable pub joinedQueue : RecvQueue → ReliableWindow → Pass → ℕ → RecvQueue
+joinedQueue q datagrams x number = withNumber (record { datagrams = datagrams; reliables = x .reliables; channels = x .channels; unsent = q .unsent; pending = q .pending }) number
+
+unfoldable pub acceptance : RecvQueue → ReliableWindow → Pass → ℕ → List ℕ → ReceivedRows
+acceptance q datagrams x n d = record { answer = Accepted (x .ready) (x .dropped) (bytesLeft d); queue = joinedQueue q datagrams x (numberOf d); rows = n }
+
+-- r, and the words and the store afterwards, are what the definition says of all rows of the words: where it refuses, the records are those before.
+-- Records within their widths stay so.
+pub record Receives (q : RecvQueue) (ws : List ℕ) (n : ℕ) (st d : List ℕ) (r : ReceivedRows) (ws′ st′ : List ℕ) : Type 0 where
+  pub is : outcome r (unlessAccepted (receiveAnswer (r .answer)) (cellsIn ws) (cellsIn ws′)) st′ ≡ receiveOf q (cellsIn ws) st d
+  pub rows : r .rows ≡ rowsSaved (r .answer) n
+  pub fits : AllFit (cellsIn ws) → AllFit (receiveOf q (cellsIn ws) st d .records)
+
+-- refusals 9, 1, 2 and 3 do not apply
+pub record Headed (q : RecvQueue) (cs : List Cell) (st d : List ℕ) : Type 0 where
+  pub sound : soundCall q cs st ≡ true
+  pub long : minDatagram ≤ length d
+  pub short : length d ≤ maxDatagram
+  pub first : isDatagram (getD d 0 0) ≡ true
+
+-- nor do 4 and 5; the window of datagram numbers afterwards
+pub record Numbered (q : RecvQueue) (cs : List Cell) (st d : List ℕ) (datagrams : ReliableWindow) : Type 0 where
+  pub head : Headed q cs st d
+  pub fresh : accepted (q .datagrams) (numberOf d) ≡ false
+  pub near : distance (q .datagrams .low) (numberOf d) ≤ windowPlaces
+  pub after : datagrams ≡ accept (q .datagrams) (numberOf d)
+
+-- nor do 6 and 7; the window of reliable numbers afterwards
+pub record Within (q : RecvQueue) (cs : List Cell) (st d : List ℕ) (datagrams : ReliableWindow) : Type 0 where
+  pub number : Numbered q cs st d datagrams
+  pub room : q .pending < maxUnsent
+  pub reliables : ReliableWindow
+  pub reaches : acceptAll (q .reliables) (framesIn d) ≡ some reliables
+  pub bytes : Bytes d
+
+-- a row whose body stands in the store
+abbrev pub stored : Row → Row
+stored r = record { used = r .used; kind = r .kind; channel = r .channel; id = r .id; index = r .index; count = r .count; length = r .length; sequence = r .sequence; order = r .order; turn = r .turn; place = 0 }
+
+-- the ready messages' turns become 0, 1, 2, .. in their order
+unfoldable pub rankedRows : List Row → List Row
+rankedRows rs = changeRows (uses 3) (λ r. markRow 3 (countOf (beforeCell (r .turn)) (map cellOf rs)) r) rs
+
+-- the rows and the working values that a datagram's frames begin with
+unfoldable pub begunRows : List Row → List Row
+begunRows rs = rankedRows (map stored rs)
+
+unfoldable pub begunPass : RecvQueue → List Row → Pass
+begunPass q rs = record { reliables = q .reliables; channels = q .channels; turn = countOf firstCell (map cellOf rs); ready = 0; dropped = 0; full = 0 }

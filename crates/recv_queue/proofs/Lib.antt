@@ -1,0 +1,16 @@
+pub mod Order
+pub mod Lent
+pub mod Offset
+pub mod Counting
+pub mod Widths
+pub mod Words
+pub mod Loaded
+pub mod Saved
+pub mod Cleared
+pub mod Round
+pub mod Refusals
+pub mod Receives
+pub mod Takes
+pub mod Elements
+pub mod Calls
+pub mod Local

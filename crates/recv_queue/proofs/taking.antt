@@ -1,0 +1,4 @@
+mod Core
+mod In
+mod Out
+mod Cases

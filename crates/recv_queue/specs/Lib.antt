@@ -1,0 +1,4 @@
+pub mod Records
+pub mod Call
+pub mod Answers
+pub mod New

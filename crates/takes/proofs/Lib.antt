@@ -1,0 +1,4 @@
+pub mod Pieces
+pub mod Turns
+pub mod Calls
+pub mod Outcomes

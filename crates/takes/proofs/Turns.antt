@@ -1,0 +1,179 @@
+-- What taking the message of a turn does, in the code's three ways.
+-- Assumes nothing.
+use Prim.Native.Nat.{ℕ, zero, suc, _+_, _*_, _≤_, _<_}
+use mathlib.Core.Path.{_≡_, refl, sym, _∙_, ap, subst}
+use mathlib.Core.Bool.{Bool, true, false, cond, _&&_}
+use mathlib.Core.Option.{some}
+use mathlib.Core.List.{List, [], _∷_}
+use native.Mathlib.Omega.{arith}
+use native.Mathlib.Nat.{suc-mul}
+use lib.Dec.{eqb}
+use lib.ListN.{length, take, drop, length-append, length-take, length-drop}
+use lib.Seq.{drop-drop}
+use borrow.Author.Tests.{eqb-true, eq-eqb, ne-eqb}
+use Rattle.base.specs.Limits.{cellBytes, maxFrags}
+use Rattle.base.specs.Lists.{option, find}
+use Rattle.base.specs.Put.{put, andThen}
+use Rattle.base.proofs.Choices.{caseOption, and-left, neither}
+use Rattle.base.proofs.Ifs.{by-lt-yes, by-lt-no}
+use Rattle.base.proofs.Lists.{find-some, find-none, any-true}
+use Rattle.line.specs.Frame.{Message}
+use Rattle.cells.specs.Cell.{Cell, Slot, readyAs, bears, at, sits, join, messageOf, messageAt, emptyCell, freed}
+use Rattle.cells.specs.Records.{indexOf, changeCells}
+use Rattle.cells.specs.Store.{cellSize, bodyOf, slotsOf, cellsOf}
+use Rattle.cells.proofs.Records.{cells-freed}
+use Rattle.cells.proofs.Store.{cells-slots}
+use Rattle.rows.specs.declared.Row.{Row}
+use Rattle.rows.specs.Rows.{rowsOf, cellOf, cellsIn, blankRow, changeRows}
+use Rattle.rows.specs.Whole.{wholeRow}
+use Rattle.rows.proofs.Changes.{cells-change}
+use Rattle.slots.proofs.Widths.{freed-fit}
+use Rattle.recv.specs.Take.{handed}
+use Rattle.takes.specs.declared.Take.the-variants.{ShortBuffer, InStore, Joined}
+use Rattle.takes.specs.Outcome.{takeAnswer, takeResult, KeepsWidths}
+use Rattle.takes.specs.Pieces.{pieceAt, pieceBytes, lengthTo, joinedTo, Within, Takeable, takeTurn}
+use Rattle.takes.proofs.Pieces.{piece-row, piece-ends, blank-cell}
+
+-- ---- a record and its slot
+
+-- The slot of the first record that passes.
+record SlotOf (p : Cell → Bool) (cs : List Cell) (st : List ℕ) (c : Cell) : Type 0 where
+  pub slot : Slot
+  pub found : find (λ (s : Slot). p (s .cell)) (slotsOf cs st) ≡ some slot
+  pub cell-is : slot .cell ≡ c
+
+slot-of : (p : Cell → Bool) (cs : List Cell) (st : List ℕ) (c : Cell) → find p cs ≡ some c → SlotOf p cs st c
+unfolding find slotsOf
+slot-of p [] st c e = absurd (let z : _≡_ {A = ℕ} 0 1 = cc in omega arith)
+slot-of p (r ∷ cs) st c e = go (p r) refl e (λ f. slot-of p cs (drop cellSize st) c f)
+  where
+    go : (b : Bool) → p r ≡ b → cond b (some r) (find p cs) ≡ some c → (find p cs ≡ some c → SlotOf p cs (drop cellSize st) c) → SlotOf p (r ∷ cs) st c
+    go true t f k = let q : r ≡ c = cc in record { slot = record { cell = r; body = bodyOf r st }; found = rw t; cell-is = q }
+    go false t f k = let s = k f in record { slot = s .slot; found = rw t (s .found); cell-is = s .cell-is }
+
+empty-body : (bytes : List ℕ) → bodyOf emptyCell bytes ≡ []
+unfolding bodyOf emptyCell
+empty-body bytes = refl
+
+-- The body of that slot; none where no record passes.
+body-found : (p : Cell → Bool) (cs : List Cell) (st : List ℕ) → option (find (λ (s : Slot). p (s .cell)) (slotsOf cs st)) [] (λ s. s .body) ≡ bodyOf (option (find p cs) emptyCell (λ c. c)) (drop (indexOf p cs * cellSize) st)
+unfolding find slotsOf indexOf
+body-found p [] st = sym (empty-body (drop (0 * cellSize) st))
+body-found p (r ∷ cs) st = go (p r) refl (body-found p cs (drop cellSize st))
+  where
+    go : (b : Bool) → p r ≡ b → option (find (λ (s : Slot). p (s .cell)) (slotsOf cs (drop cellSize st))) [] (λ s. s .body) ≡ bodyOf (option (find p cs) emptyCell (λ c. c)) (drop (indexOf p cs * cellSize) (drop cellSize st))
+        → option (cond (p r) (some (record { cell = r; body = bodyOf r st })) (find (λ (s : Slot). p (s .cell)) (slotsOf cs (drop cellSize st)))) [] (λ s. s .body)
+        ≡ bodyOf (option (cond (p r) (some r) (find p cs)) emptyCell (λ c. c)) (drop (cond (p r) 0 (suc (indexOf p cs)) * cellSize) st)
+    go true t e = rw t (let z : 0 * cellSize ≡ 0 = omega arith in rw z)
+    go false t e =
+        let m = suc-mul (indexOf p cs) cellSize in
+        let z : suc (indexOf p cs) * cellSize ≡ cellSize + indexOf p cs * cellSize = omega arith in
+        rw (t, z) (e ∙ ap (bodyOf (option (find p cs) emptyCell (λ c. c))) (drop-drop (indexOf p cs * cellSize) cellSize st))
+
+-- ---- the pieces joined
+
+module _ (t : ℕ) (cs : List Cell) (st : List ℕ) where
+  pub ready-used : (i : ℕ) (c : Cell) → at (readyAs t) i c ≡ true → eqb (c .used) 0 ≡ false
+  unfolding at bears
+  ready-used i c e =
+      let u = eqb-true (c .used) 3 (and-left (eqb (c .used) 3) _ (and-left (eqb (c .used) 3 && eqb (c .turn) t) _ e)) in
+      ne-eqb (c .used) 0 (λ q. omega arith)
+
+  piece-body : (i : ℕ) → option (find (sits (readyAs t) i) (slotsOf cs st)) [] (λ s. s .body) ≡ pieceBytes t cs st i
+  unfolding sits pieceBytes pieceAt cellSize bodyOf
+  piece-body i = body-found (at (readyAs t) i) cs st ∙ caseOption (find (at (readyAs t) i) cs)
+      (λ e. rw e (empty-piece (drop (indexOf (at (readyAs t) i) cs * cellBytes) st)))
+      (λ c e. rw (e, ready-used i c (find-some (at (readyAs t) i) cs e .1)))
+    where
+      empty-piece : (bytes : List ℕ) → bodyOf emptyCell bytes ≡ take (emptyCell .length) bytes
+      empty-piece bytes = unfold emptyCell in refl
+
+  joined-is : (n : ℕ) → join (readyAs t) (slotsOf cs st) n ≡ joinedTo t cs st n
+  unfolding join joinedTo andThen
+  joined-is zero = refl
+  joined-is (suc n) = rw (joined-is n, piece-body n)
+
+  module _ (v : Takeable t cs st) where
+    bytes-long : (i : ℕ) → length (pieceBytes t cs st i) ≡ pieceAt t cs i .length
+    unfolding pieceBytes
+    bytes-long i =
+        let h : indexOf (at (readyAs t) i) cs * cellBytes + pieceAt t cs i .length ≤ length st = piece-ends v i in
+        simp (length-take, length-drop) (omega arith)
+
+    pub joined-long : (n : ℕ) → length (joinedTo t cs st n) ≡ lengthTo t cs n
+    unfolding joinedTo lengthTo andThen
+    joined-long zero = refl
+    joined-long (suc n) = rw (length-append (joinedTo t cs st n) (pieceBytes t cs st n), joined-long n, bytes-long n)
+
+    -- the message, as its first record and its pieces say it
+    abbrev messageFrom : Cell → Message
+    messageFrom c = record { kind = c .kind; channel = c .channel; order = c .order; body = joinedTo t cs st (c .count) }
+
+    -- A take of the turn hands out this message.
+    turn-hands : (buffer : List ℕ) → takeTurn t cs st buffer ≡ handed cs st buffer t (messageFrom (pieceAt t cs 0)) (pieceAt t cs 0)
+    unfolding takeTurn pieceAt messageAt sits messageOf
+    turn-hands buffer = caseOption (find (at (readyAs t) 0) cs)
+        (λ e. let a = any-true (at (readyAs t) 0) cs (v .first) in neither (at (readyAs t) 0 (a .0)) (a .2) (find-none (at (readyAs t) 0) cs e (a .0) (a .1)))
+        (λ c e.
+        let s = slot-of (at (readyAs t) 0) cs st c e in
+        rw (s .found, e) (same (s .slot) c (s .cell-is)))
+      where
+        same : (s : Slot) (c : Cell) → s .cell ≡ c
+            → handed cs st buffer t (record { kind = s .cell .kind; channel = s .cell .channel; order = s .cell .order; body = join (readyAs t) (slotsOf cs st) (s .cell .count) }) c ≡ handed cs st buffer t (messageFrom c) c
+        same s c q = subst (λ (d : Cell). handed cs st buffer t (record { kind = s .cell .kind; channel = s .cell .channel; order = s .cell .order; body = join (readyAs t) (slotsOf cs st) (s .cell .count) }) d ≡ handed cs st buffer t (messageFrom d) d) q
+            (ap (λ (bytes : List ℕ). handed cs st buffer t (record { kind = s .cell .kind; channel = s .cell .channel; order = s .cell .order; body = bytes }) (s .cell)) (joined-is (s .cell .count)))
+
+-- ---- the code's three ways
+
+-- The records that a taken message leaves.
+records-left : (t : ℕ) (ws new st : List ℕ) → rowsOf new ≡ changeRows (bears (readyAs t)) (λ _. blankRow) (rowsOf ws) → cellsIn new ≡ cellsOf (freed (readyAs t) (slotsOf (cellsIn ws) st))
+records-left t ws new st e =
+    cells-change (bears (readyAs t)) (λ _. blankRow) (λ _. emptyCell) (λ r. blank-cell) ws new e
+    ∙ sym (cells-freed (readyAs t) (slotsOf (cellsIn ws) st) ∙ ap (changeCells (bears (readyAs t)) (λ c. emptyCell)) (cells-slots (cellsIn ws) st))
+
+module _ (t : ℕ) (ws st buffer : List ℕ) (j : ℕ) (r : Row) (v : Takeable t (cellsIn ws) st) (found : j ≡ indexOf (at (readyAs t) 0) (cellsIn ws)) (is : r ≡ wholeRow ws j) where
+  hands : takeTurn t (cellsIn ws) st buffer ≡ handed (cellsIn ws) st buffer t (messageFrom t (cellsIn ws) st v (cellOf r)) (cellOf r)
+  hands = turn-hands t (cellsIn ws) st v buffer ∙ ap (λ (c : Cell). handed (cellsIn ws) st buffer t (messageFrom t (cellsIn ws) st v c) c) (sym (piece-row t ws 0 j r found is))
+
+  -- "handed back as part of the store"
+  pub took-store : (new : List ℕ) → rowsOf new ≡ changeRows (bears (readyAs t)) (λ _. blankRow) (rowsOf ws) → r .count ≡ 1
+      → takeResult (InStore (r .kind) (r .channel) (r .order) (j * cellBytes) (r .length)) (cellsIn new) buffer ≡ takeTurn t (cellsIn ws) st buffer
+  unfolding takeResult takeAnswer handed cellOf
+  took-store new e one = rw (hands, eq-eqb (r .count) 1 one, records-left t ws new st e, found)
+
+  module _ (several : r .count ≡ 1 → ⊥) (len : ℕ) (long : len ≡ lengthTo t (cellsIn ws) (r .count)) where
+    len-is : len ≡ length (joinedTo t (cellsIn ws) st (r .count))
+    len-is = long ∙ sym (joined-long t (cellsIn ws) st v (r .count))
+
+    -- "12 joining buffer shorter than a message of several pieces"
+    pub took-short : length buffer < len → takeResult ShortBuffer (cellsIn ws) buffer ≡ takeTurn t (cellsIn ws) st buffer
+    unfolding takeResult takeAnswer handed cellOf
+    took-short l = rw (hands, ne-eqb (r .count) 1 several) (by-lt-yes (length buffer) (length (joinedTo t (cellsIn ws) st (r .count))) len _ _ _ len-is l refl)
+
+    -- "or of the joining buffer"
+    pub took-joined : len ≤ length buffer → (new out : List ℕ) → rowsOf new ≡ changeRows (bears (readyAs t)) (λ _. blankRow) (rowsOf ws) → out ≡ put buffer 0 (joinedTo t (cellsIn ws) st (r .count))
+        → takeResult (Joined (r .kind) (r .channel) (r .order) len) (cellsIn new) out ≡ takeTurn t (cellsIn ws) st buffer
+    unfolding takeResult takeAnswer handed cellOf
+    took-joined l new out e f =
+        rw (hands, ne-eqb (r .count) 1 several)
+        (by-lt-no (length buffer) (length (joinedTo t (cellsIn ws) st (r .count))) len _ _ _ len-is l (rw (len-is, records-left t ws new st e, f)))
+
+  -- The numbers of a first record fit the answer.
+  pub first-within : Within (cellOf r)
+  first-within = subst Within (sym (piece-row t ws 0 j r found is)) (v .within 0)
+
+  pub first-kind : r .kind < 256
+  unfolding cellOf
+  first-kind = first-within .kind
+
+  pub first-channel : r .channel < 256
+  unfolding cellOf
+  first-channel = first-within .channel
+
+  pub first-count : r .count ≤ maxFrags
+  unfolding cellOf
+  first-count = first-within .count
+
+-- A taken message's rows become blank ones, which fit the widths of a record.
+pub widths-kept : (t : ℕ) (ws new : List ℕ) → rowsOf new ≡ changeRows (bears (readyAs t)) (λ _. blankRow) (rowsOf ws) → KeepsWidths ws new
+widths-kept t ws new e k = freed-fit (bears (readyAs t)) ws new k e
