@@ -13,6 +13,7 @@ ghost use Rattle.window.specs.Window as Window;
 ghost use Rattle.window.specs.Missing.{unlessAccepted};
 ghost use Rattle.window.specs.Missing as Missing;
 
+#[repr(C)]
 pub struct ReliableWindow {
     pub low: u32,
     pub bits: [u8; 256],

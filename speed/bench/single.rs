@@ -1,0 +1,50 @@
+//! Calls by themselves: ACK lists written, and the missing list at the worst window.
+use crate::clock;
+use crate::ours;
+use crate::Figure;
+use rak_rs::oracle::{Ack, ReliableWindow};
+
+/// Nanoseconds a call.
+fn time(rounds: usize, calls: u32, call: &mut dyn FnMut() -> usize) -> Figure {
+    let mut one = || {
+        let mut sum = 0;
+        let start = clock::nanoseconds();
+        for _ in 0..calls {
+            sum += call();
+        }
+        let taken = clock::nanoseconds() - start;
+        assert!(sum > 0);
+        taken / calls as f64
+    };
+    Figure::of((0..rounds).map(|_| one()).collect())
+}
+
+fn row(what: &str, original: Figure, ours: Figure) {
+    println!("{what:50} original {:24} ours {:24} ratio {:.2}", original.told(), ours.told(), ours.median / original.median);
+}
+
+fn list(rounds: usize, what: &str, numbers: &[u32]) {
+    let original = time(rounds, 500, &mut || Ack::from_records(numbers.to_vec(), false).records.len());
+    let mut out = vec![0; 9000];
+    let ours = time(rounds, 500, &mut || ours::write_list_into(&mut out, false, numbers));
+    row(what, original, ours);
+}
+
+/// Every second number of the reach accepted.
+fn missing(rounds: usize) {
+    let mut original = ReliableWindow::new();
+    let mut w = ours::Window::new();
+    for n in (2..=2048).step_by(2) {
+        original.insert(n);
+        w.insert(n);
+    }
+    let first = time(rounds, 200, &mut || original.missing().len());
+    let second = time(rounds, 200, &mut || w.missing().len());
+    row("missing list, every second number accepted", first, second);
+}
+
+pub fn all(rounds: usize) {
+    list(rounds, "ACK list of 32 numbers in one run (original: no bytes)", &(100..132).collect::<Vec<u32>>());
+    list(rounds, "ACK list of 1,024 numbers, two apart (original: no bytes)", &(100..1124).map(|i| 2 * i).collect::<Vec<u32>>());
+    missing(rounds);
+}
