@@ -50,8 +50,6 @@ fn one(right: bool) -> Tally {
     }
 }
 
-// ---- windows
-
 struct Inserts {
     window: ReliableWindow,
     tally: Tally,
@@ -98,8 +96,6 @@ fn window_item(p: &[u8]) -> Tally {
     }
     t
 }
-
-// ---- lists
 
 // The numbers, which stand three bytes apart.
 fn fill(list: &mut [u32], p: &[u8]) {
@@ -163,8 +159,6 @@ fn list_item(p: &[u8]) -> Tally {
     let n = size_in(&list, base::be16_at(p, 0) as usize);
     list_in(&mut list[..n], &mut out, p)
 }
-
-// ---- splits
 
 // Piece k starts at `start` and has `len` bytes, of `count` pieces.
 fn is_piece(piece: Piece, start: usize, len: usize, count: u32, k: u32) -> bool {
@@ -238,8 +232,6 @@ fn split_item(p: &[u8]) -> Tally {
     let n = io::count(base::be32_at(p, 0) as isize, &data);
     one(split_right(&data[..n], p))
 }
-
-// ---- the items
 
 fn item(tag: u8, p: &[u8]) -> Tally {
     match tag {
