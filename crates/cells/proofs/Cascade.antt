@@ -131,7 +131,7 @@ unfolding cascade
 cascade-stop zero c w e = refl
 cascade-stop (suc m) c w e = rw e
 
-cascade-more : (n m c : ℕ) (w : Work) → n ≤ m → isHeld c (cascade n c w .next c) (cascade n c w .slots) ≡ false → cascade m c w ≡ cascade n c w
+pub cascade-more : (n m c : ℕ) (w : Work) → n ≤ m → isHeld c (cascade n c w .next c) (cascade n c w .slots) ≡ false → cascade m c w ≡ cascade n c w
 unfolding cascade
 cascade-more zero m c w le e = cascade-stop m c w e
 cascade-more (suc n) zero c w le e = absurd (omega arith)

@@ -81,7 +81,7 @@ sits-of k i s = refl
 pub sits-not : (k : Key) (i : ℕ) (s : Slot) → of k s ≡ false → sits k i s ≡ false
 sits-not k i s e = rw (sits-of k i s, e)
 
-sits-free : (k : Key) (i : ℕ) (s : Slot) → isFree s ≡ true → sits k i s ≡ false
+pub sits-free : (k : Key) (i : ℕ) (s : Slot) → isFree s ≡ true → sits k i s ≡ false
 sits-free k i s e = sits-not k i s (of-free k s e)
 
 pub sits-is : (k : Key) (i : ℕ) (s : Slot) → sits k i s ≡ true → (of k s ≡ true) × (s .cell .index ≡ i)

@@ -40,7 +40,7 @@ free-cascade zero c w = refl
 free-cascade (suc n) c w = byBool (λ (x : Work). countOf isFree (x .slots) ≡ countOf isFree (w .slots)) (isHeld c (w .next c) (w .slots))
     (λ y. free-cascade n c (goOn c w) ∙ free-turn (heldAs c (w .next c)) 3 (w .turn) (w .slots) (λ q. omega arith)) (λ y. refl)
 
-free-follows : (c : ℕ) (w : Work) → countOf isFree (follows c w .slots) ≡ countOf isFree (w .slots)
+pub free-follows : (c : ℕ) (w : Work) → countOf isFree (follows c w .slots) ≡ countOf isFree (w .slots)
 unfolding follows rise
 free-follows c w = free-cascade (length (w .slots)) c (rise c w)
 
@@ -51,7 +51,7 @@ free-joins early f w = free-turn (openAs (f .id)) 2 0 (w .slots) (λ q. omega ar
 free-joins free f w = free-turn (openAs (f .id)) 3 (w .turn) (w .slots) (λ q. omega arith)
 free-joins due f w = free-follows (f .channel) (made (turnTo (openAs (f .id)) 3 (w .turn) (w .slots)) w) ∙ free-turn (openAs (f .id)) 3 (w .turn) (w .slots) (λ q. omega arith)
 
-free-kept : (f : Frame) (w : Work) → countOf isFree (kept f w .slots) ≡ countOf isFree (w .slots)
+pub free-kept : (f : Frame) (w : Work) → countOf isFree (kept f w .slots) ≡ countOf isFree (w .slots)
 unfolding kept
 free-kept f w = byBool (λ (x : Work). countOf isFree (x .slots) ≡ countOf isFree (w .slots)) (allThere (openAs (f .id)) (w .slots) (f .count)) (λ y. free-joins (fateOf f w) f w) (λ y. refl)
 

@@ -15,7 +15,7 @@ use Rattle.recv.specs.Receive as Receive
 use Rattle.pass.specs.declared.ReceivedRows.{ReceivedRows}
 use Rattle.pass.specs.Outcome.{receiveAnswer, rowsSaved, outcome}
 use Rattle.recv_queue.specs.declared.receiving.Received.{Received}
-use Rattle.sound.proofs.Calls.{no-cells, many-cells}
+use Rattle.sound_call.proofs.Calls.{no-cells, many-cells}
 use Rattle.recv_queue.specs.Records.{loaded, saved}
 use Rattle.recv_queue.specs.Call.{rowsFor}
 use Rattle.recv_queue.specs.Answers.{received, answerOf}

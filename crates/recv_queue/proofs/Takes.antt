@@ -14,7 +14,7 @@ use Rattle.recv.specs.Take.{TakeResult, refuse, takeOf}
 use Rattle.takes.specs.declared.Take.{Take}
 use Rattle.takes.specs.declared.TakenRows.{TakenRows}
 use Rattle.takes.specs.Outcome.{takeAnswer, takeSaved, takeOutcome, takeResult}
-use Rattle.sound.proofs.Calls.{no-cells, many-cells}
+use Rattle.sound_call.proofs.Calls.{no-cells, many-cells}
 use Rattle.recv_queue.specs.Records.{loaded, saved}
 use Rattle.recv_queue.specs.Call.{rowsFor}
 use Rattle.recv_queue.proofs.Round as Round

@@ -37,7 +37,7 @@ fn new_queue() -> RecvQueue
 fn cells_made(records: usize, store: usize) -> usize
     ensures { λ r. ⌜ (r ≡ cellsMade records store) × (r ≤ records) ⌝ }
 {
-    if sound::lengths_fit(records, store) {
+    if sound_call::lengths_fit(records, store) {
         return records;
     }
     0

@@ -5,4 +5,3 @@ pub mod Numbered
 pub mod Tallies
 pub mod Certified
 pub mod EntryCases
-pub mod Calls

@@ -1,21 +1,18 @@
-// Whether receiver, cells' records and store are sound (document 01, "Calls and their numbers", 9).
+// Whether the cells' records are sound (document 01, "Calls and their numbers", 9).
 use recv::Channel;
-use recv::RecvQueue;
 use rows::ROW;
 use rows::Row;
 ghost use mathlib.Core.Path.{_≡_};
 ghost use Prim.Native.Nat.{_≤_, _<_};
 ghost use mathlib.Core.Bool.{cond, not, _&&_};
 ghost use Rattle.base.specs.Limits.{maxOrdChans};
-ghost use Rattle.cells.specs.Sound.{limits, agree, soundCells, lengths};
+ghost use Rattle.cells.specs.Sound.{limits, agree, soundCells};
 ghost use Rattle.rows.specs.Rows.{cellOf, cellsIn};
-ghost use Rattle.recv.specs.Receive.{soundCall};
 ghost use Rattle.sound.specs.Counted.{nextIn, mate, ahead, countedCell, tallyOf};
 
 mod entries;
 
-// Up to so many rows the test by pairs is the quicker one, as measured.
-const PAIRS: usize = 8;
+pub use entries::sound_cells;
 
 const MAX_USE: u32 = 3;
 
@@ -150,41 +147,4 @@ fn by_pairs(words: &[u32], channels: [Channel; 32]) -> bool
         }
     }
     true
-}
-
-// Are the cells' records sound beside these channels' next order numbers? Where there are many rows, sorted entries tell it sooner.
-pub fn sound_cells(words: &[u32], channels: [Channel; 32]) -> bool
-    ensures { λ r. ⌜ r ≡ soundCells (cellsIn (now (words .entry))) (nextIn channels) ⌝ }
-{
-    if words.len() / ROW <= PAIRS {
-        return by_pairs(words, channels);
-    }
-    entries::by_entries(words, channels)
-}
-
-// "1 to 4,096 cells of 1,500 bytes"; "the store is exactly one cell for each record".
-pub fn lengths_fit(cells: usize, bytes: usize) -> bool
-    ensures { λ r. ⌜ r ≡ lengths cells bytes ⌝ }
-{
-    if cells < 1 {
-        return false;
-    }
-    if base::MAX_CELLS < cells {
-        return false;
-    }
-    bytes == base::CELL_BYTES * cells
-}
-
-// "9 slice lengths .. or records unsound": the tests that come first in a call that is lent cells. The words have one row for each cell.
-pub fn sound_call(queue: RecvQueue, words: &[u32], store: &[u8]) -> bool
-    ensures { λ r. ⌜ r ≡ soundCall queue (cellsIn (now (words .entry))) (now (store .entry)) ⌝ }
-{
-    if lengths_fit(words.len() / ROW, store.len()) {} else {
-        return false;
-    }
-    if acks::sound_queue(queue) {} else {
-        return false;
-    }
-    let channels = queue.channels;
-    sound_cells(words, channels)
 }

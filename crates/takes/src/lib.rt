@@ -88,7 +88,7 @@ fn take_all(queue: RecvQueue, words: &mut [u32], store: &[u8], joined: &mut [u8]
     ensures is { λ r. ⌜ takeResult r (cellsIn (now (words .exit))) (now (joined .exit)) ≡ takeOf queue (cellsIn (now (words .entry))) (now (store .entry)) (now (joined .entry)) ⌝ }
     ensures fit { λ _. ⌜ KeepsWidths (now (words .entry)) (now (words .exit)) ⌝ }
 {
-    if sound::sound_call(queue, words, store) {} else {
+    if sound_call::sound_call(queue, words, store) {} else {
         return Take::NotSound;
     }
     match row_scans::earliest_ready(words) {

@@ -26,6 +26,9 @@ ghost use Rattle.rows.specs.Rows.{rowCount, cellOf, cellsIn};
 ghost use Rattle.sound.specs.Counted.{nextIn};
 ghost use Rattle.sound.specs.Sorted.{isOwn, isLed, isPlaced, counted, tallied, isDue};
 
+// Up to so many rows the test by pairs is the quicker one, as measured.
+const PAIRS: usize = 8;
+
 // Up to so many rows short lists are enough.
 const FEW: usize = 256;
 
@@ -249,7 +252,7 @@ fn by_many(words: &[u32], channels: [Channel; 32]) -> bool
 }
 
 // The same answer as that of the test by pairs. A call refuses more than 4,096 cells before it asks this.
-pub fn by_entries(words: &[u32], channels: [Channel; 32]) -> bool
+fn by_entries(words: &[u32], channels: [Channel; 32]) -> bool
     ensures { λ b. ⌜ b ≡ soundCells (cellsIn (now (words .entry))) (nextIn channels) ⌝ }
 {
     let n = words.len() / ROW;
@@ -260,4 +263,14 @@ pub fn by_entries(words: &[u32], channels: [Channel; 32]) -> bool
         return by_many(words, channels);
     }
     by_pairs(words, channels)
+}
+
+// Are the cells' records sound beside these channels' next order numbers? Where there are many rows, sorted entries tell it sooner.
+pub fn sound_cells(words: &[u32], channels: [Channel; 32]) -> bool
+    ensures { λ r. ⌜ r ≡ soundCells (cellsIn (now (words .entry))) (nextIn channels) ⌝ }
+{
+    if words.len() / ROW <= PAIRS {
+        return by_pairs(words, channels);
+    }
+    by_entries(words, channels)
 }

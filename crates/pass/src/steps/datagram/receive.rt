@@ -65,7 +65,7 @@ fn receive_all(
 ) -> ReceivedRows
     ensures { λ r. ⌜ Receives queue (now (words .entry)) n (now (store .entry)) (now (datagram .entry)) r (now (words .exit)) (now (store .exit)) ⌝ }
 {
-    if sound::sound_call(queue, words, store) {
+    if sound_call::sound_call(queue, words, store) {
         return receive_sound(queue, words, n, store, datagram);
     }
     refuse(queue, Receive::NotSound)

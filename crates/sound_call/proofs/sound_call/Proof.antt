@@ -1,7 +1,7 @@
 use borrow.Author.Needs.{needs}
-use Rattle.sound.proofs.Calls.{lengths-not, queue-not, cells-decide}
-use Rattle.sound.proofs.sound_call.Statement.{statement}
-use Rattle.sound.proofs.sound_call.Tie as tie
+use Rattle.sound_call.proofs.Calls.{lengths-not, queue-not, cells-decide}
+use Rattle.sound_call.proofs.sound_call.Statement.{statement}
+use Rattle.sound_call.proofs.sound_call.Tie as tie
 
 pub sound-call-spec : {M : Type 1} → statement M
 sound-call-spec = tie.close (tie.spec

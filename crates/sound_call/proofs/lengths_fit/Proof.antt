@@ -1,7 +1,7 @@
 use native.Mathlib.Omega.{arith}
-use Rattle.sound.proofs.Calls.{no-cells, many-cells, some-cells}
-use Rattle.sound.proofs.lengths_fit.Statement.{statement}
-use Rattle.sound.proofs.lengths_fit.Tie as tie
+use Rattle.sound_call.proofs.Calls.{no-cells, many-cells, some-cells}
+use Rattle.sound_call.proofs.lengths_fit.Statement.{statement}
+use Rattle.sound_call.proofs.lengths_fit.Tie as tie
 
 pub lengths-fit-spec : {M : Type 1} → statement M
 lengths-fit-spec = tie.close (tie.spec
