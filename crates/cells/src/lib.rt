@@ -1,6 +1,7 @@
 // The receiver with cells: a cell's record; definitions (specs/) and the theorems that they refine document 01's bare receiver (proofs/).
 
 // One record stands beside each cell.
+#[repr(C)]
 pub struct CellRecord {
     pub used: u8,
     pub kind: u8,

@@ -9,6 +9,9 @@ ghost use Rattle.window.specs.Missing as Missing;
 ghost use Rattle.ack.specs.Write.{writeListOf, writtenOf, writeAnswer};
 ghost use Rattle.queue.specs.Split.{pieceOf, pieceAnswer};
 ghost use Rattle.exports.specs.Numbers.{numbered, insertionOf, writtenAnswer, fragmentAnswer};
+
+pub mod receiver;
+
 use ack::WriteAck;
 use queue::Piece;
 use window::Insert;

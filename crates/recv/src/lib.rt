@@ -2,12 +2,14 @@
 use window::ReliableWindow;
 
 // An ordered channel: the order number that is made ready next.
+#[repr(C)]
 pub struct Channel {
     pub next: u32,
 }
 
 // datagrams: the datagram numbers accepted. reliables: the reliable numbers accepted. unsent: the first pending are the numbers
 // of datagrams not yet acknowledged.
+#[repr(C)]
 pub struct RecvQueue {
     pub datagrams: ReliableWindow,
     pub reliables: ReliableWindow,
