@@ -13,6 +13,7 @@ mod ours;
 #[path = "../../oracle/driver/random.rs"]
 #[allow(dead_code)]
 mod random;
+mod receivers;
 mod single;
 mod streams;
 
@@ -41,19 +42,36 @@ fn machine() -> String {
     format!("{model}, {processors} processors")
 }
 
+/// Cells, and how many of them stay free where they are nearly full.
+const CELLS: [usize; 3] = [32, 256, 4096];
+const FREE: usize = 20;
+
+/// One stream: the original, and ours at each number of cells, empty and nearly full. A round times each of them once.
+fn row(stream: &streams::Stream, rounds: usize) {
+    let fillings: Vec<Vec<datagrams::Datagram>> = CELLS.iter().map(|&c| streams::filling(c, FREE)).collect();
+    let mut figures = vec![Vec::new(); 1 + 2 * CELLS.len()];
+    for _ in 0..rounds {
+        figures[0].push(original::time(stream, &[]));
+        for (i, &cells) in CELLS.iter().enumerate() {
+            figures[1 + 2 * i].push(receivers::time(stream, cells, &[]));
+            figures[2 + 2 * i].push(receivers::time(stream, cells, &fillings[i]));
+        }
+    }
+    let mut figures = figures.into_iter().map(Figure::of);
+    let original = figures.next().unwrap();
+    println!("{}\n    the original        {}", stream.name, original.told());
+    for (i, ours) in figures.enumerate() {
+        let full = if i % 2 == 0 { "empty" } else { "nearly full" };
+        println!("    {:>5} cells, {full:11} {:28} ratio {:.1}", CELLS[i / 2], ours.told(), ours.median / original.median);
+    }
+}
+
 fn main() {
     let words: Vec<usize> = std::env::args().skip(1).map(|w| w.parse().expect("usage: bench ROUNDS DATAGRAMS")).collect();
     let (rounds, datagrams) = (words[0], words[1]);
     println!("{}; {rounds} rounds of {datagrams} datagrams; nanoseconds a datagram, median (least to most)", machine());
     for stream in streams::all(datagrams as u32) {
-        let filling = streams::filling(4096, 20);
-        let (mut empty, mut filled) = (Vec::new(), Vec::new());
-        for _ in 0..rounds {
-            empty.push(original::time(&stream, &[]));
-            filled.push(original::time(&stream, &filling));
-        }
-        let (empty, filled) = (Figure::of(empty), Figure::of(filled));
-        println!("{:50} original {:24} with 4,076 pieces kept {}", stream.name, empty.told(), filled.told());
+        row(&stream, rounds);
     }
     single::all(rounds);
 }

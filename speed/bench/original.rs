@@ -13,7 +13,7 @@ pub fn time(stream: &Stream, before: &[Datagram]) -> f64 {
     }
     queue.flush();
     queue.ack_flush();
-    let packets: Vec<FramePacket> = stream.datagrams.iter().map(|d| later(d, first).original()).collect();
+    let packets: Vec<FramePacket> = stream.datagrams.iter().map(|d| d.later(first).original()).collect();
     let mut bytes = 0;
     let start = clock::nanoseconds();
     for (i, packet) in packets.into_iter().enumerate() {
@@ -28,9 +28,4 @@ pub fn time(stream: &Stream, before: &[Datagram]) -> f64 {
     let taken = clock::nanoseconds() - start;
     assert!(bytes > 0);
     taken / stream.datagrams.len() as f64
-}
-
-/// The datagram, its number after those sent before.
-pub fn later(d: &Datagram, first: u32) -> Datagram {
-    Datagram { number: d.number + first, frames: d.frames.clone() }
 }
