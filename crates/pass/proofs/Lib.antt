@@ -13,3 +13,5 @@ pub mod Receiving
 pub mod Beginning
 pub mod ReceivingAccepted
 pub mod ReceivingRows
+pub mod Prefix
+pub mod Narrowing

@@ -169,7 +169,8 @@ fn receive_frames(
     ensures { λ r. ⌜ Receives queue (now (words .entry)) n (now (store .entry)) (now (datagram .entry)) r (now (words .exit)) (now (store .exit)) ⌝ }
 {
     let begun = begin(queue, words);
-    let pass = super::frames(words, begun, datagram);
+    let k = super::rows_needed(words, datagram);
+    let pass = super::frames_in(words, k, begun, datagram);
     if pass.full == 1 {
         return refuse(queue, Receive::NoRoom);
     }
