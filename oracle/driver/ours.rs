@@ -8,6 +8,13 @@ pub struct Window {
 }
 
 #[repr(C)]
+#[allow(dead_code)]
+pub struct FramesFound {
+    pub count: usize,
+    pub left: usize,
+}
+
+#[repr(C)]
 pub struct WindowInsert {
     pub number: u32,
     pub window: Window,
@@ -96,6 +103,7 @@ struct QueueWritten {
 }
 
 extern "C" {
+    fn poghduka_read_frames(s: *const u8, len: usize, at: usize) -> FramesFound;
     fn poghduka_window_new() -> Window;
     fn poghduka_window_insert(w: Window, n: u32) -> WindowInsert;
     fn poghduka_window_missing(w: Window, list: *mut u32, len: usize) -> usize;
@@ -122,6 +130,12 @@ extern "C" {
     ) -> QueueTaken;
     fn poghduka_write_unsent(queue: RecvQueue, out: *mut u8, room: usize) -> QueueWritten;
     fn poghduka_write_missing(queue: RecvQueue, out: *mut u8, room: usize) -> QueueWritten;
+}
+
+/// How many frames a datagram has, and the bytes left. (For speed/.)
+#[allow(dead_code)]
+pub fn read_frames(datagram: &[u8]) -> FramesFound {
+    unsafe { poghduka_read_frames(datagram.as_ptr(), datagram.len(), 4) }
 }
 
 impl Window {

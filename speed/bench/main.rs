@@ -1,7 +1,7 @@
 //! Nanoseconds a datagram: the original from frames as values, ours from bytes through the static library, in one run. It is the thread's processor
 //! time, which other work on the machine disturbs less than the time on the wall.
 //!
-//! usage: bench ROUNDS DATAGRAMS
+//! usage: bench ROUNDS DATAGRAMS PICTURE
 mod clock;
 #[path = "../../oracle/driver/datagrams.rs"]
 #[allow(dead_code)]
@@ -10,6 +10,7 @@ mod original;
 #[path = "../../oracle/driver/ours.rs"]
 #[allow(dead_code)]
 mod ours;
+mod picture;
 #[path = "../../oracle/driver/random.rs"]
 #[allow(dead_code)]
 mod random;
@@ -47,7 +48,7 @@ const CELLS: [usize; 3] = [32, 256, 4096];
 const FREE: usize = 20;
 
 /// One stream: the original, and ours at each number of cells, empty and nearly full. A round times each of them once.
-fn row(stream: &streams::Stream, rounds: usize) {
+fn row(stream: &streams::Stream, rounds: usize) -> picture::Row {
     let fillings: Vec<Vec<datagrams::Datagram>> = CELLS.iter().map(|&c| streams::filling(c, FREE)).collect();
     let mut figures = vec![Vec::new(); 1 + 2 * CELLS.len()];
     for _ in 0..rounds {
@@ -59,19 +60,32 @@ fn row(stream: &streams::Stream, rounds: usize) {
     }
     let mut figures = figures.into_iter().map(Figure::of);
     let original = figures.next().unwrap();
-    println!("{}\n    the original        {}", stream.name, original.told());
-    for (i, ours) in figures.enumerate() {
-        let full = if i % 2 == 0 { "empty" } else { "nearly full" };
-        println!("    {:>5} cells, {full:11} {:28} ratio {:.1}", CELLS[i / 2], ours.told(), ours.median / original.median);
+    println!("{}\n    {:24} {}", stream.name, "the original", original.told());
+    let mut ours = Vec::new();
+    for (i, figure) in figures.enumerate() {
+        let label = format!("{} cells, {}", CELLS[i / 2], if i % 2 == 0 { "empty" } else { "nearly full" });
+        println!("    {label:24} {:28} ratio {:.2}", figure.told(), figure.median / original.median);
+        ours.push((label, figure.median));
+    }
+    picture::Row { stream: stream.name.to_string(), original: original.median, ours }
+}
+
+/// How our time grows with the cells.
+fn growth(rows: &[picture::Row]) {
+    for row in rows {
+        let times: Vec<String> = row.ours.iter().skip(1).map(|(label, t)| format!("{label} {:.1}", t / row.ours[0].1)).collect();
+        println!("{}, times the cost at {}: {}", row.stream, row.ours[0].0, times.join("; "));
     }
 }
 
 fn main() {
-    let words: Vec<usize> = std::env::args().skip(1).map(|w| w.parse().expect("usage: bench ROUNDS DATAGRAMS")).collect();
-    let (rounds, datagrams) = (words[0], words[1]);
+    let words: Vec<String> = std::env::args().skip(1).collect();
+    let [rounds, datagrams, path] = &words[..] else { panic!("usage: bench ROUNDS DATAGRAMS PICTURE") };
+    let (rounds, datagrams) = (rounds.parse().expect("ROUNDS is a number"), datagrams.parse().expect("DATAGRAMS is a number"));
     println!("{}; {rounds} rounds of {datagrams} datagrams; nanoseconds a datagram, median (least to most)", machine());
-    for stream in streams::all(datagrams as u32) {
-        row(&stream, rounds);
-    }
+    let rows: Vec<picture::Row> = streams::all(datagrams).iter().map(|s| row(s, rounds)).collect();
+    growth(&rows);
     single::all(rounds);
+    let title = format!("Our time to the original's, {}, {}", std::env::var("SPEED_DATE").unwrap_or_default(), machine());
+    std::fs::write(path, picture::svg(&title, &rows)).expect("the picture is written");
 }

@@ -1,5 +1,6 @@
-//! Calls by themselves: ACK lists written, and the missing list at the worst window.
+//! Calls by themselves: frames read, ACK lists written, and the missing list at the worst window.
 use crate::clock;
+use crate::datagrams::{Datagram, Fields};
 use crate::ours;
 use crate::Figure;
 use rak_rs::oracle::{Ack, ReliableWindow};
@@ -43,7 +44,17 @@ fn missing(rounds: usize) {
     row("missing list, every second number accepted", first, second);
 }
 
+/// A datagram full of frames of 20 bytes; the original's reading of bytes isn't at hand.
+fn frames(rounds: usize) {
+    let frame = |i| Fields { kind: 3, reliable: i, order: i, body: vec![1; 20], ..Fields::default() };
+    let datagram = Datagram { number: 0, frames: (0..48).map(frame).collect() }.bytes();
+    let count = ours::read_frames(&datagram).count;
+    let figure = time(rounds, 2000, &mut || ours::read_frames(&datagram).count);
+    println!("{:50} ours {} of {count} frames: {:.1} million frames a second", "frames read from a datagram", figure.told(), count as f64 / figure.median * 1e3);
+}
+
 pub fn all(rounds: usize) {
+    frames(rounds);
     list(rounds, "ACK list of 32 numbers in one run (original: no bytes)", &(100..132).collect::<Vec<u32>>());
     list(rounds, "ACK list of 1,024 numbers, two apart (original: no bytes)", &(100..1124).map(|i| 2 * i).collect::<Vec<u32>>());
     missing(rounds);
