@@ -1,8 +1,10 @@
-//! Compares the original, built unchanged, with our static library, in one process.
+//! Compares the original, built unchanged, with our static library (windows, lists, splits) and with our program `calls` (channels, receivers).
 //!
-//! usage: compare short|long [SEED]      prints what was compared and how many, and stops at the first difference with a smallest input
-//!        compare differences            the intended differences, each on its smallest input
-//!        compare answers SEED           the stored input of program oracle_replay
+//! usage: compare short|long CALLS [SEED]      CALLS is the program, target/bin/calls
+//!        compare differences CALLS           the intended differences, each on its smallest input
+//!        compare answers SEED                the stored input of program oracle_replay
+//!
+//! Prints what was compared and how many, and stops at the first difference with a smallest input.
 mod answers;
 mod calls;
 mod channels;
@@ -23,7 +25,7 @@ use random::Random;
 use report::Report;
 use std::io::Write;
 
-fn compare(long: bool, seed: u64) -> Result<(), String> {
+fn compare(long: bool, program: &str, seed: u64) -> Result<(), String> {
     let mut report = Report::new();
     let mut r = Random::new(seed);
     let times = if long { 100 } else { 1 };
@@ -37,9 +39,9 @@ fn compare(long: bool, seed: u64) -> Result<(), String> {
     splits::exhaustive(&mut report, &mut r)?;
     splits::random(&mut report, &mut r, 200 * times)?;
     datagrams::kinds()?;
-    channels::exhaustive(&mut report)?;
-    channels::random(&mut report, &mut r, 5_000 * times)?;
-    receivers::random(&mut report, &mut r, 10_000 * times)?;
+    channels::exhaustive(&mut report, program)?;
+    channels::random(&mut report, &mut r, program, 5_000 * times)?;
+    receivers::random(&mut report, &mut r, program, 10_000 * times)?;
     report.totals();
     Ok(())
 }
@@ -55,14 +57,11 @@ fn main() {
     let words: Vec<&str> = words.iter().map(|w| w.as_str()).collect();
     let seed = |w: Option<&&str>| w.map_or(Ok(1), |s| s.parse()).expect("SEED is a number");
     let done = match words[..] {
-        ["short", ..] => compare(false, seed(words.get(1))),
-        ["long", ..] => compare(true, seed(words.get(1))),
-        ["differences"] => {
-            differences::all();
-            Ok(())
-        }
+        ["short", program, ..] => compare(false, program, seed(words.get(2))),
+        ["long", program, ..] => compare(true, program, seed(words.get(2))),
+        ["differences", program] => differences::all(program),
         ["answers", _] => answers(seed(words.get(1))),
-        _ => Err("usage: compare short|long [SEED]; compare differences; compare answers SEED".to_string()),
+        _ => Err("usage: compare short|long CALLS [SEED]; compare differences CALLS; compare answers SEED".to_string()),
     };
     if let Err(e) = done {
         println!("DIFFERENT  {e}");

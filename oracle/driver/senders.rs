@@ -4,6 +4,9 @@ use crate::random::Random;
 use crate::receivers::Step;
 use crate::references::{Numbers, Session, MAX_DATAGRAM, REACH};
 
+/// Sixty pieces of so many bytes fit the joining buffer that `calls` can lend.
+const MAX_PIECE: usize = 1000;
+
 fn fresh_number(numbers: &Numbers, r: &mut Random) -> u32 {
     let ahead = match r.below(40) {
         0 => r.below(REACH + 1),
@@ -98,7 +101,7 @@ impl Sender {
         let piece = if r.one_in(3) { self.piece(r) } else { None };
         let mut f = piece.unwrap_or_else(|| self.whole(r));
         f.reliable = if has_reliable(f.kind) { fresh_number(&self.session.reliables, r) } else { 0 };
-        let most = room.saturating_sub(f.size());
+        let most = room.saturating_sub(f.size()).min(if f.piece.is_some() { MAX_PIECE } else { MAX_DATAGRAM });
         let len = if r.one_in(12) { most } else { r.below(most.min(40) as u32 + 1) as usize };
         f.body = r.bytes(len);
         f
@@ -130,7 +133,7 @@ impl Sender {
         let id = r.below(40) as u16;
         if room > 0 && !open.contains_key(&id) && (ids.is_empty() || r.one_in(4)) {
             let kind = *r.pick(&[0, 1, 2, 4, 5, 6]);
-            let most = room.min(*r.pick(&[3, 3, 10, 60, 1024]));
+            let most = room.min(*r.pick(&[3, 10, 60]));
             let count = r.between(1, most);
             let (order, channel) = if has_order(kind) { (r.below(1 << 24), r.below(32) as u8) } else { (0, 0) };
             let piece = Some((count, id, r.below(count)));

@@ -9,16 +9,6 @@ use Rattle.window.specs.Window.{Insertion, insertAnswer, insertion, insertOf}
 use Rattle.ack.specs.declared.WriteAck.{WriteAck}
 use Rattle.ack.specs.declared.WriteAck.the-variants.{Written}
 use Rattle.ack.specs.Write.{writeAnswer}
-use Rattle.acks.specs.declared.WriteQueue.{WriteQueue}
-use Rattle.acks.specs.declared.WriteQueue.the-variants as WriteQueue
-use Rattle.acks.specs.Wrote.{queueAnswer}
-use Rattle.pass.specs.declared.Receive.{Receive}
-use Rattle.pass.specs.declared.Receive.the-variants.{Accepted}
-use Rattle.pass.specs.Outcome.{receiveAnswer}
-use Rattle.takes.specs.declared.Take.{Take}
-use Rattle.takes.specs.declared.Take.the-variants.{InStore, Joined}
-use Rattle.takes.specs.Outcome.{takeAnswer}
-use Rattle.recv.specs.Take.{inStore, inJoined}
 use Rattle.queue.specs.declared.Piece.{Piece}
 use Rattle.queue.specs.declared.Piece.the-variants.{Part}
 use Rattle.queue.specs.Split.{pieceAnswer}
@@ -40,21 +30,3 @@ written a len e = rw e refl
 pub part : (p : Piece) (s l c i : ℕ) → p ≡ Part s l c i → numbered 0 (record { start = s; len = l; count = c; index = i }) ≡ pieceAnswer p
 unfolding numbered pieceAnswer
 part p s l c i e = rw e refl
-
-pub report : (a : Receive) (ready dropped left : ℕ) → a ≡ Accepted ready dropped left → numbered 0 (record { ready = ready; dropped = dropped; left = left }) ≡ receiveAnswer a
-unfolding numbered receiveAnswer
-report a ready dropped left e = rw e refl
-
-pub in-store : (a : Take) (kind channel order start len : ℕ) → a ≡ InStore kind channel order start len
-    → numbered 0 (record { kind = kind; channel = channel; order = order; body = inStore start len }) ≡ takeAnswer a
-unfolding numbered takeAnswer
-in-store a kind channel order start len e = rw e refl
-
-pub in-joined : (a : Take) (kind channel order len : ℕ) → a ≡ Joined kind channel order len
-    → numbered 0 (record { kind = kind; channel = channel; order = order; body = inJoined len }) ≡ takeAnswer a
-unfolding numbered takeAnswer
-in-joined a kind channel order len e = rw e refl
-
-pub sent : (a : WriteQueue) (len : ℕ) → a ≡ WriteQueue.Written len → numbered 0 len ≡ queueAnswer a
-unfolding numbered
-sent a len e = rw e refl

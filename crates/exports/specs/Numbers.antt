@@ -2,10 +2,8 @@
 -- beside it say nothing.
 use Prim.Native.Nat.{ℕ, zero, suc}
 use Rattle.base.specs.Answer.{Answer, refused, gives}
-use Rattle.frame.specs.declared.FramesRead.{FramesRead}
 use Rattle.window.specs.Window.{Insertion}
 use Rattle.queue.specs.Split.{Fragment}
-use Rattle.exports.specs.declared.FramesFound.{FramesFound}
 use Rattle.exports.specs.declared.WindowInsert.{WindowInsert}
 use Rattle.exports.specs.declared.AckWritten.{AckWritten}
 use Rattle.exports.specs.declared.SplitPiece.{SplitPiece}
@@ -13,9 +11,6 @@ use Rattle.exports.specs.declared.SplitPiece.{SplitPiece}
 unfoldable pub numbered : {A : Type 0} → ℕ → A → Answer A
 numbered zero x = gives x
 numbered (suc k) x = refused (suc k)
-
-abbrev pub framesRead : FramesFound → FramesRead
-framesRead r = record { count = r .count; left = r .left }
 
 abbrev pub insertionOf : WindowInsert → Insertion
 insertionOf r = record { answer = numbered (r .number) tt; window = r .window }

@@ -4,26 +4,15 @@
 ghost use mathlib.Core.Path.{_≡_};
 ghost use lib.ListN.{length};
 ghost use Rattle.base.specs.Put.{Run};
-ghost use Rattle.frame.specs.Frames.{readFramesOf};
 ghost use Rattle.window.specs.Window.{newWindow, insertOf, insertAnswer};
 ghost use Rattle.window.specs.Missing as Missing;
 ghost use Rattle.ack.specs.Write.{writeListOf, writtenOf, writeAnswer};
 ghost use Rattle.queue.specs.Split.{pieceOf, pieceAnswer};
-ghost use Rattle.exports.specs.Numbers.{numbered, framesRead, insertionOf, writtenAnswer, fragmentAnswer};
-
-pub mod receiver;
-
+ghost use Rattle.exports.specs.Numbers.{numbered, insertionOf, writtenAnswer, fragmentAnswer};
 use ack::WriteAck;
 use queue::Piece;
 use window::Insert;
 use window::ReliableWindow;
-
-// How many frames were read, and the bytes left.
-#[repr(C)]
-pub struct FramesFound {
-    pub count: usize,
-    pub left: usize,
-}
 
 #[repr(C)]
 pub struct WindowInsert {
@@ -46,18 +35,6 @@ pub struct SplitPiece {
     pub len: usize,
     pub count: u32,
     pub index: u32,
-}
-
-// The frames from place `at` on.
-#[no_mangle]
-pub extern "C" fn poghduka_read_frames(s: &[u8], at: usize) -> FramesFound
-    ensures { λ r. ⌜ framesRead r ≡ readFramesOf (now (s .entry)) at ⌝ }
-{
-    let r = frame::read_frames(s, at);
-    FramesFound {
-        count: r.count,
-        left: r.left,
-    }
 }
 
 #[no_mangle]
