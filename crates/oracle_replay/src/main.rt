@@ -174,18 +174,7 @@ fn is_piece(piece: Piece, start: usize, len: usize, count: u32, k: u32) -> bool 
             len: l,
             count: c,
             index: i,
-        } => {
-            if s != start {
-                return false;
-            }
-            if l != len {
-                return false;
-            }
-            if c != count {
-                return false;
-            }
-            i == k
-        }
+        } => (s == start) & (l == len) & (c == count) & (i == k),
         _ => false,
     }
 }
