@@ -49,11 +49,11 @@ fn received_with(r: Received, records: [CellRecord; HELD]) -> HeldReceived
     }
 }
 
-fn taken_with(answer: Take, records: [CellRecord; HELD]) -> HeldTake
-    ensures { λ h. ⌜ h ≡ takenWith answer records ⌝ }
+fn taken_with(taken: Take, records: [CellRecord; HELD]) -> HeldTake
+    ensures { λ h. ⌜ h ≡ takenWith taken records ⌝ }
 {
     HeldTake {
-        answer: answer,
+        answer: taken,
         records: records,
     }
 }
@@ -61,11 +61,11 @@ fn taken_with(answer: Take, records: [CellRecord; HELD]) -> HeldTake
 fn new_with(r: NewReceiver, records: [CellRecord; HELD]) -> HeldNew
     ensures { λ h. ⌜ h ≡ newWith r records ⌝ }
 {
-    let answer = r.answer;
-    let queue = r.queue;
+    let made = r.answer;
+    let new = r.queue;
     HeldNew {
-        answer: answer,
-        queue: queue,
+        answer: made,
+        queue: new,
         records: records,
     }
 }

@@ -14,3 +14,4 @@ pub mod Takes
 pub mod Elements
 pub mod Calls
 pub mod Local
+pub mod Begins
