@@ -1,8 +1,5 @@
-pub mod ForBase
-pub mod Ascending
+pub mod Sorted
+pub mod SortCases
 pub mod Sendable
-pub mod SoundCases
-pub mod MoveCases
 pub mod WriteCases
-pub mod WithNumber
 pub mod WriteLaws

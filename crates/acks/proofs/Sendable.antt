@@ -26,7 +26,7 @@ use Rattle.recv.specs.declared.RecvQueue.{RecvQueue}
 use Rattle.recv.specs.Queue.{nextOf, unsentOf, placesWithin, soundWindow, differ, soundUnsent, soundQueue}
 use Rattle.recv.specs.Write.{sorted}
 use Rattle.acks.specs.Wrote.{Sendable}
-use Rattle.acks.proofs.Ascending.{length-sorted, sorted-member, sorted-ascending}
+use Rattle.acks.proofs.Sorted.{length-sorted, sorted-member, sorted-ascending}
 
 -- ---- a list by its numbers
 below-limit : (l : List ℕ) → ((n : ℕ) → List·Memᴰ n l → n < numbers24) → someOver l ≡ false

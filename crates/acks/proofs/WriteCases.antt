@@ -29,7 +29,7 @@ use Rattle.recv.specs.Write.{sorted, writeOf, emptied, writeUnsentOf, writeMiss
 use Rattle.acks.specs.declared.WriteQueue.{WriteQueue}
 use Rattle.acks.specs.declared.WriteQueue.the-variants.{Written, Unsound, NoRoom}
 use Rattle.acks.specs.Wrote.{queueAnswer, Sendable, afterSending}
-use Rattle.acks.proofs.Ascending.{length-sorted}
+use Rattle.acks.proofs.Sorted.{length-sorted}
 use Rattle.acks.proofs.Sendable.{pending-limit, unsent-sendable, missing-sendable}
 
 -- ---- a list that neither 13 nor 14 refuses: 12, or written

@@ -21,7 +21,7 @@ use Rattle.recv.specs.declared.RecvQueue.{RecvQueue}
 use Rattle.recv.specs.Queue.{unsentOf, soundQueue}
 use Rattle.recv.specs.Write.{sorted, Wrote, writeOf, emptied, writeUnsentOf, writeMissingOf}
 use Rattle.acks.specs.Wrote.{Sendable}
-use Rattle.acks.proofs.Ascending.{sorted-member}
+use Rattle.acks.proofs.Sorted.{sorted-member}
 use Rattle.acks.proofs.Sendable.{unsent-sendable, missing-sendable}
 use Rattle.acks.proofs.WriteCases.{short-or-written, write-unsound, write-given, write-refused}
 

@@ -1,3 +1,2 @@
-pub mod Sound
-pub mod Unsent
+pub mod Sort
 pub mod Wrote

@@ -1,14 +1,9 @@
-// The receiver's own values: the rules on them, a number that joins the unsent, and ACK and NACK written from them. Document 01, "Calls and
-// their numbers".
+// ACK and NACK written from the receiver: document 01, "Write ACK or NACK".
 use recv::RecvQueue;
 
 mod sort;
-mod unsent;
-mod values;
 mod write;
 
-pub use unsent::with_number;
-pub use values::sound_queue;
 pub use write::write_missing;
 pub use write::write_unsent;
 

@@ -1,4 +1,4 @@
-// ACK and NACK written from the receiver: document 01, "Write ACK or NACK".
+// The two writings.
 use super::WriteQueue;
 use super::WroteQueue;
 use ack::WriteAck;
@@ -18,7 +18,7 @@ ghost use Rattle.acks.specs.Wrote.{Sendable, afterSending, queueAnswer, 
 pub fn write_unsent(queue: RecvQueue, out: &mut [u8]) -> WroteQueue
     ensures { λ r. ⌜ wrote r (now (out .exit)) ≡ writeUnsentOf queue (now (out .entry)) ⌝ }
 {
-    if super::sound_queue(queue) {} else {
+    if sound_queue::sound_queue(queue) {} else {
         return WroteQueue {
             answer: WriteQueue::Unsound,
             queue: queue,
@@ -57,7 +57,7 @@ fn after_sending(queue: RecvQueue, answer: WriteQueue) -> RecvQueue
 pub fn write_missing(queue: RecvQueue, out: &mut [u8]) -> WroteQueue
     ensures { λ r. ⌜ wrote r (now (out .exit)) ≡ writeMissingOf queue (now (out .entry)) ⌝ }
 {
-    if super::sound_queue(queue) {} else {
+    if sound_queue::sound_queue(queue) {} else {
         return WroteQueue {
             answer: WriteQueue::Unsound,
             queue: queue,

@@ -21,7 +21,7 @@ use Rattle.line.specs.Order.{lineFor}
 use Rattle.line.proofs.Shown.{whole-frame, msg}
 use Rattle.cells.specs.Records.{indexOf}
 use Rattle.cells.proofs.Shown.{run}
-use Rattle.recv.specs.Queue.{newQueue, placesWithin, soundWindow, differ, soundUnsent, soundQueue, nextOf, unsentOf, insertUnsent}
+use Rattle.recv.specs.Queue.{newQueue, placesWithin, soundWindow, differ, soundUnsent, soundQueue, nextIn, nextOf, unsentOf, insertUnsent}
 use Rattle.recv.specs.Receive.{frameIn, framesIn, bytesLeft, acceptAll, stateOf, channelsAfter, queueAfter, acceptedOf, refusedOf, soundCall, receiveOf}
 use Rattle.recv.specs.Take.{handed, takeOf}
 use Rattle.recv.specs.Write.{sorted, writeOf, emptied, writeUnsentOf}
@@ -37,7 +37,7 @@ unfolding trace1 trace2 traceCalls traceStart made zeros takes bytesAt messageOf
     framesIn frameIn bytesLeft frs.framesOf frs.framesFrom frs.endOf frs.endFrom frs.onRead fr.readFrameOf fr.frameAt fr.placedAt ifTrue ifLt ifLe ifEq be16 be32 le24 be16Bytes le24Bytes put andThen fieldsOf
     records.firstOf records.lastOf records.recordBytes records.recordsBytes records.grow records.runs ack.idOf ack.headerBytes ack.listBytes ack.someOver ack.tooLarge ack.ascending ack.byCase ack.writeListOf ack.writtenOf
     places.bit places.placeSet places.setPlace places.clearPlace window.newWindow window.accepted window.advance window.accept
-    newQueue placesWithin soundWindow differ soundUnsent soundQueue nextOf unsentOf insertUnsent acceptAll stateOf channelsAfter queueAfter acceptedOf refusedOf soundCall receiveOf
+    newQueue placesWithin soundWindow differ soundUnsent soundQueue nextIn nextOf unsentOf insertUnsent acceptAll stateOf channelsAfter queueAfter acceptedOf refusedOf soundCall receiveOf
     handed takeOf indexOf sorted writeOf emptied writeUnsentOf idle untouched acknowledged firstOnly mute ours
 outBy p = handedOutBy p (begun traceStart) traceCalls ++ stillOutBy p (afterAllBy p (begun traceStart) traceCalls)
 

@@ -27,10 +27,10 @@ use denote.Triple.Spec.{tripleOf}
 use denote.Triple.Clauses.{Lasts, lasts}
 use Rattle.cells.specs.declared.CellRecord.{CellRecord}
 use Rattle.cells.proofs.CellRecord as C
-use Rattle.recv_queue.specs.declared.making.NewReceiver.{NewReceiver}
+use Rattle.recv_new.specs.declared.NewReceiver.{NewReceiver}
 use Rattle.held.proofs.Said.{MakeSays}
-use Rattle.recv_queue.proofs.making.NewReceiver as R
-use Rattle.recv_queue.proofs.making.make_new as callee
+use Rattle.recv_new.proofs.NewReceiver as R
+use Rattle.recv_new.proofs.make_new as callee
 
 module _ {M : Type 1} (𝓤 : URA M) (H : Heap 𝓤) (A : Atoms 𝓤) (mem : Memory → SProp 𝓤) (run : Routine → Fun 𝓤) where
   abbrev pub Call : Contract 𝓤

@@ -13,8 +13,8 @@ use Rattle.recv.specs.Take.{takeOf}
 use Rattle.takes.specs.Outcome.{takeResult}
 use Rattle.takes.specs.declared.Take.{Take}
 use Rattle.recv_queue.specs.declared.receiving.Received.{Received}
-use Rattle.recv_queue.specs.declared.making.NewReceiver.{NewReceiver}
-use Rattle.recv_queue.specs.New.{MadeNew, madeNew, makeNewOf}
+use Rattle.recv_new.specs.declared.NewReceiver.{NewReceiver}
+use Rattle.recv_new.specs.New.{MadeNew, madeNew, makeNewOf}
 use Rattle.recv_queue.specs.Answers.{received}
 use Rattle.held.specs.Held.{heldCells, unusedCells, receivedWith, takenWith, newWith, heldReceived, heldTaken, heldNew}
 use Rattle.held.proofs.First.{first}

@@ -7,13 +7,13 @@ use Rattle.recv.specs.Receive as Receive
 use Rattle.recv.specs.Take.{TakeResult}
 use Rattle.takes.specs.declared.Take.{Take}
 use Rattle.recv_queue.specs.declared.receiving.Received.{Received}
-use Rattle.recv_queue.specs.declared.making.NewReceiver.{NewReceiver}
+use Rattle.recv_new.specs.declared.NewReceiver.{NewReceiver}
 use Rattle.held.specs.declared.HeldReceived.{HeldReceived}
 use Rattle.held.specs.declared.HeldTake.{HeldTake}
 use Rattle.held.specs.declared.HeldNew.{HeldNew}
 use Rattle.takes.specs.Outcome.{takeResult}
 use Rattle.recv_queue.specs.Answers.{received}
-use Rattle.recv_queue.specs.New.{MadeNew, madeNew}
+use Rattle.recv_new.specs.New.{MadeNew, madeNew}
 
 -- how many records are held
 abbrev pub heldCells : ℕ

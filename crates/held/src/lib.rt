@@ -12,7 +12,7 @@ ghost use Prim.Native.Nat.{min};
 ghost use lib.ListN.{take, drop};
 ghost use Rattle.recv.specs.Receive.{receiveOf};
 ghost use Rattle.recv.specs.Take.{takeOf};
-ghost use Rattle.recv_queue.specs.New.{makeNewOf};
+ghost use Rattle.recv_new.specs.New.{makeNewOf};
 ghost use Rattle.held.specs.Held.{heldCells, unusedCells, receivedWith, takenWith, newWith, heldReceived, heldTaken, heldNew};
 
 // How many records a program holds, in use or not.

@@ -27,10 +27,8 @@ use Rattle.cells.proofs.SoundCascade.{Sound}
 use Rattle.cells.proofs.SoundRest.{begin-sound}
 use Rattle.cells.proofs.SoundTest.{sound-rest}
 use Rattle.rows.specs.declared.Row.{Row}
-use Rattle.rows.specs.Rows.{rowCount, rowsOf, cellOf, cellsIn, markRow, changeRow, changeRows}
-use Rattle.rows.specs.Whole.{rest}
+use Rattle.rows.specs.Rows.{rowCount, rowsOf, cellOf, cellsIn, markRow}
 use Rattle.rows.proofs.Rows.{cells-length}
-use Rattle.row_sweeps.proofs.Sweeps.{Sweeping, sweep-ends}
 use Rattle.row_ranks.specs.Renumber.{renumbered}
 use Rattle.row_ranks.proofs.Renumbering.{renumbered-is}
 use Rattle.slots.specs.Slots.{slotsIn, AllFit}
@@ -38,26 +36,19 @@ use Rattle.slots.proofs.Meaning.{slots-stored}
 use Rattle.slots.proofs.Changes.{slots-renumbered}
 use Rattle.slots.proofs.Fitting.{fit-stored, fit-renumbered, changed-length}
 use Rattle.recv.specs.declared.RecvQueue.{RecvQueue}
-use Rattle.recv.specs.Queue.{nextOf}
+use Rattle.recv.specs.Queue.{nextIn, nextOf}
 use Rattle.recv.specs.Receive.{framesIn, acceptAll, stateOf, soundCall}
 use Rattle.recv.proofs.Receives.{lengths-sound, cells-sound, bodies-short}
 use Rattle.pass.specs.declared.Pass.{Pass}
-use Rattle.pass.specs.Work.{nextIn, workOf}
+use Rattle.pass.specs.Work.{workOf}
 use Rattle.pass.specs.Frames.{Begun}
 use Rattle.pass.specs.Receives.{stored, rankedRows, begunRows, begunPass}
 
 -- ---- places cleared
 
--- A sweep of all rows.
-abbrev pub clearing : Row → Row
-clearing = changeRow (λ c. true) stored
-
-pub clears-row : (r : Row) {q : Row} → q ≡ stored r → q ≡ clearing r
-unfolding changeRow
-clears-row r e = e
-
-pub cleared : {ws₀ ws : List ℕ} {i : ℕ} → Sweeping clearing ws₀ ws i → rowCount ws₀ ≤ i → (rowsOf ws ≡ map stored (rowsOf ws₀)) × (rest ws ≡ rest ws₀)
-cleared s l = let e = sweep-ends (λ c. true) stored s l in (e .0 ∙ (unfold changeRows changeRow in refl), e .1)
+-- A row with place 0 stays as it is.
+pub stored-left : (r : Row) → r .place ≤ 0 → r ≡ stored r
+stored-left r h = let e : r .place ≡ 0 = omega arith in λ k. record { used = r .used; kind = r .kind; channel = r .channel; id = r .id; index = r .index; count = r .count; length = r .length; sequence = r .sequence; order = r .order; turn = r .turn; place = e k }
 
 stored-cells : (rs : List Row) → map cellOf (map stored rs) ≡ map cellOf rs
 unfolding cellOf
@@ -98,7 +89,7 @@ first-slots cs st = ap (countOf firstCell) (sym (cells-slots cs st)) ∙ (count-
 
 -- The working state is the definition's at its begin.
 pub begun-work : (q : RecvQueue) (rs : List Row) (st d : List ℕ) → workOf (begunPass q rs) (begunRows rs) st d ≡ begin (stateOf q (map cellOf rs) st)
-unfolding workOf begunPass begin stateOf nextIn nextOf
+unfolding workOf begunPass begin stateOf nextOf
 begun-work q rs st d = rw (begun-slots rs st d, first-slots (map cellOf rs) st)
 
 -- ---- what the frames require
@@ -113,7 +104,7 @@ module _ (q : RecvQueue) (rs : List Row) (st d : List ℕ) (s : soundCall q (map
   begun-few = omega (arith, few-cells, length-map rs cellOf, length-map rs stored, changed-length (λ c. eqb (c .used) 3) (λ r. markRow 3 (countOf (beforeCell (r .turn)) (map cellOf (map stored rs))) r) (map stored rs))
 
   begun-sound : (store : List ℕ) → Sound (nextIn (q .channels)) (slotsIn (begunRows rs) store d) (countOf firstCell (map cellOf rs))
-  unfolding nextIn nextOf
+  unfolding nextOf
   begun-sound store =
       rw (begun-slots rs store d, first-slots (map cellOf rs) store)
       (begin-sound (nextOf q) (slotsOf (map cellOf rs) store) (sound-rest (nextOf q) (slotsOf (map cellOf rs) store) (rw (cells-slots (map cellOf rs) store) (cells-sound q (map cellOf rs) st s))))

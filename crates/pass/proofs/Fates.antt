@@ -14,9 +14,10 @@ use Rattle.rows.specs.Rows.{rowsOf, cellsIn}
 use Rattle.slots.specs.Slots.{slotsIn}
 use Rattle.slots.proofs.Tests.{held-rows}
 use Rattle.recv.specs.Receive.{frameIn}
+use Rattle.recv.specs.Queue.{nextIn}
 use Rattle.pass.specs.declared.Pass.{Pass}
 use Rattle.pass.specs.declared.Course.the-variants.{Late, Early, Due, Free}
-use Rattle.pass.specs.Work.{nextIn, workOf, fateIs}
+use Rattle.pass.specs.Work.{workOf, fateIs}
 
 module _ (ws : List ℕ) (x : Pass) (p : Placed) (b : Bool) (eb : b ≡ ordered (p .frame .kind)) where
   pub fate-free : b ≡ false → (store d : List ℕ) → fateIs Free ≡ fateOf (frameIn d p) (workOf x (rowsOf ws) store d)

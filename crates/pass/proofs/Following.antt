@@ -16,7 +16,8 @@ use Rattle.slots.specs.Slots.{slotsIn, AllFit}
 use Rattle.slots.proofs.Meaning.{slots-in-length}
 use Rattle.slots.proofs.Tests.{held-rows}
 use Rattle.pass.specs.declared.Pass.{Pass}
-use Rattle.pass.specs.Work.{nextIn, workOf}
+use Rattle.recv.specs.Queue.{nextIn}
+use Rattle.pass.specs.Work.{workOf}
 use Rattle.pass.specs.Own.{madeOne, risen, Counts}
 use Rattle.pass.specs.Moves.{Changes, Moves}
 use Rattle.pass.proofs.Own.{counts-fewer, counts-risen, counts-followed}

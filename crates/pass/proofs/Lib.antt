@@ -13,5 +13,3 @@ pub mod Receiving
 pub mod Beginning
 pub mod ReceivingAccepted
 pub mod ReceivingRows
-pub mod Prefix
-pub mod Narrowing

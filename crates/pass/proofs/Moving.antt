@@ -12,7 +12,8 @@ use Rattle.rows.specs.declared.Row.{Row}
 use Rattle.slots.specs.Slots.{slotsIn, AllFit}
 use lib.ListN.{length, length-set}
 use Rattle.pass.specs.declared.Pass.{Pass}
-use Rattle.pass.specs.Work.{nextIn, workOf}
+use Rattle.recv.specs.Queue.{nextIn}
+use Rattle.pass.specs.Work.{workOf}
 use Rattle.pass.specs.Own.{droppedOne, filledUp, madeOne, risen}
 use Rattle.pass.specs.Moves.{Moves, byFate}
 use Rattle.pass.proofs.Own.{work-dropped, work-filled, work-made, work-risen}

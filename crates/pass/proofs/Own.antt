@@ -24,10 +24,11 @@ use Rattle.line.specs.Bare.{bump, accept}
 use Rattle.cells.specs.Datagram.{Work, dropOne, fillUp, made, rise, acceptIn}
 use Rattle.rows.specs.declared.Row.{Row}
 use Rattle.recv.specs.declared.Channel.{Channel}
+use Rattle.recv.specs.Queue.{nextIn}
 use Rattle.channel.specs.Advance.{advancedOf}
 use Rattle.channel.proofs.Laws.{advanced-next}
 use Rattle.pass.specs.declared.Pass.{Pass}
-use Rattle.pass.specs.Work.{nextIn, workOf}
+use Rattle.pass.specs.Work.{workOf}
 use Rattle.pass.specs.Own.{droppedOne, filledUp, madeOne, risen, acceptedOne, Counts}
 
 one-more : (n : ℕ) → n + 1 ≡ suc n

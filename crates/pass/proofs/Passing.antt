@@ -39,8 +39,9 @@ use Rattle.slots.specs.Slots.{slotsIn, AllFit}
 use Rattle.slots.proofs.Meaning.{slots-in-length}
 use Rattle.recv.specs.Receive.{frameIn, framesIn, acceptAll}
 use Rattle.recv.specs.declared.Channel.{Channel}
+use Rattle.recv.specs.Queue.{nextIn}
 use Rattle.pass.specs.declared.Pass.{Pass}
-use Rattle.pass.specs.Work.{nextIn, workOf}
+use Rattle.pass.specs.Work.{workOf}
 use Rattle.pass.specs.Own.{Counts}
 use Rattle.pass.specs.Placing.{Stands, Readable, Reaches}
 use Rattle.pass.specs.Moves.{Steps, Sane, reliablesAfter}

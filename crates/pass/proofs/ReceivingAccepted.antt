@@ -26,17 +26,17 @@ use Rattle.rows.proofs.Rows.{rows-length, cells-length}
 use Rattle.row_tests.specs.Uses.{uses}
 use Rattle.slots.specs.Slots.{flushed, AllFit}
 use Rattle.slots.proofs.Stored.{accepted-store, accepted-records}
-use Rattle.acks.specs.Unsent.{withNumber}
+use Rattle.unsent.specs.Unsent.{withNumber}
 use Rattle.recv.specs.declared.Channel.{Channel}
 use Rattle.recv.specs.declared.RecvQueue.{RecvQueue}
-use Rattle.recv.specs.Queue.{unsentOf}
+use Rattle.recv.specs.Queue.{nextIn, unsentOf}
 use Rattle.recv.specs.Receive.{numberOf, framesIn, bytesLeft, acceptAll, stateOf, channelsAfter, queueAfter, acceptedOf, receiveOf}
 use Rattle.recv.proofs.Receives.{store-is}
 use Rattle.corollaries.proofs.Widths.{receive-fits}
 use Rattle.pass.specs.declared.Pass.{Pass}
 use Rattle.pass.specs.declared.Receive.the-variants as Receive
 use Rattle.pass.specs.declared.ReceivedRows.{ReceivedRows}
-use Rattle.pass.specs.Work.{nextIn, workOf}
+use Rattle.pass.specs.Work.{workOf}
 use Rattle.pass.specs.Frames.{Begun, Framed}
 use Rattle.pass.specs.Outcome.{receiveAnswer, unlessAccepted, rowsSaved, outcome}
 use Rattle.pass.specs.Receives.{refusal, joinedQueue, acceptance, Receives, Within, begunRows, begunPass}

@@ -13,8 +13,9 @@ use Rattle.cells.proofs.SoundCascade.{Sound}
 use Rattle.rows.specs.declared.Row.{Row}
 use Rattle.slots.specs.Slots.{slotsIn, AllFit}
 use Rattle.recv.specs.Receive.{framesIn, acceptAll}
+use Rattle.recv.specs.Queue.{nextIn}
 use Rattle.pass.specs.declared.Pass.{Pass}
-use Rattle.pass.specs.Work.{nextIn, workOf}
+use Rattle.pass.specs.Work.{workOf}
 
 -- What holds when a datagram's frames begin: no refusal before 8 applies.
 pub record Begun (x : Pass) (rs : List Row) (d : List ℕ) : Type 0 where

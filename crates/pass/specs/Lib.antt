@@ -3,7 +3,6 @@ pub mod Own
 pub mod Placing
 pub mod Moves
 pub mod Frames
-pub mod Enough
 pub mod Flush
 pub mod Outcome
 pub mod Receives

@@ -6,7 +6,7 @@ use Rattle.base.specs.Limits.{maxOrdChans}
 use Rattle.window.specs.Proper.{Sized}
 use Rattle.window.specs.Window.{accept}
 use Rattle.pass.specs.declared.Pass.{Pass}
-use Rattle.pass.specs.Work.{nextIn}
+use Rattle.recv.specs.Queue.{nextIn}
 
 unfoldable pub droppedOne : Pass → Pass
 droppedOne x = record { reliables = x .reliables; channels = x .channels; turn = x .turn; ready = x .ready; dropped = x .dropped + 1; full = x .full }

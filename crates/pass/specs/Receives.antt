@@ -15,7 +15,7 @@ use Rattle.cells.specs.Cell.{Cell}
 use Rattle.cells.specs.Records.{firstCell, beforeCell}
 use Rattle.rows.specs.declared.Row.{Row}
 use Rattle.rows.specs.Rows.{cellsIn, cellOf, markRow, changeRows}
-use Rattle.acks.specs.Unsent.{withNumber}
+use Rattle.unsent.specs.Unsent.{withNumber}
 use Rattle.recv.specs.declared.RecvQueue.{RecvQueue}
 use Rattle.recv.specs.Receive.{numberOf, isDatagram, framesIn, acceptAll, bytesLeft, soundCall, receiveOf}
 use Rattle.row_tests.specs.Uses.{uses}

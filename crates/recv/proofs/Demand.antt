@@ -28,7 +28,7 @@ use Rattle.cells.specs.Memory as memory
 use Rattle.cells.proofs.Memory.{memory-is-session}
 use Rattle.cells.proofs.Simulation.{counts-are-the-bare-receivers, handed-out-is-the-line}
 use Rattle.recv.specs.declared.Channel.{Channel}
-use Rattle.recv.specs.Queue.{nextOf, newQueue, soundQueue}
+use Rattle.recv.specs.Queue.{nextIn, nextOf, newQueue, soundQueue}
 use Rattle.recv.specs.Receive.{soundCall}
 use Rattle.recv.specs.Calls as recv
 use Rattle.recv.specs.Calls.{Call, Receiver, made, afterAll, handedOut, stillOut, Accepted, acceptedOf, framesRead, bareAnswers}
@@ -51,7 +51,7 @@ same-at (suc n) zero z = refl
 same-at (suc n) (suc c) z = same-at n c z
 
 next-zero : nextOf newQueue ≡ (λ c. 0)
-unfolding nextOf newQueue
+unfolding nextOf nextIn newQueue
 next-zero = λ i c. same-at maxOrdChans c (record { next = 0 }) i .next
 
 new-next : soundNexts (nextOf newQueue) ≡ true

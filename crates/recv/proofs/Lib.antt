@@ -3,6 +3,7 @@ pub mod Accepting
 pub mod FramesIn
 pub mod Nexts
 pub mod Unsent
+pub mod Parts
 pub mod Queues
 pub mod Ways
 pub mod Receives

@@ -29,7 +29,7 @@ use Rattle.cells.proofs.SoundTest.{sound-rest}
 use Rattle.cells.proofs.Store.{Shaped, slots-shaped, cells-slots, store-length, datagram-worked, datagram-shaped}
 use Rattle.recv.specs.declared.RecvQueue.{RecvQueue}
 use Rattle.recv.specs.declared.Channel.{Channel}
-use Rattle.recv.specs.Queue.{nextOf, soundWindow, soundUnsent, soundQueue}
+use Rattle.recv.specs.Queue.{nextIn, nextOf, soundWindow, soundUnsent, soundQueue}
 use Rattle.recv.specs.Receive.{numberOf, framesIn, stateOf, queueAfter, acceptedOf, soundCall}
 use Rattle.recv.specs.Calls.{Receiver}
 use Rattle.recv.proofs.Accepting.{all-accepted, frames-accepted}
@@ -89,7 +89,7 @@ module _ (q : RecvQueue) (rs : List Cell) (st : List ℕ) (s : soundCall q rs st
   slots-fit = slots-shaped rs st bodies-short (let e = store-is in omega arith)
 
 next-past : (q : RecvQueue) → length (q .channels) ≡ maxOrdChans → (c : ℕ) → maxOrdChans ≤ c → nextOf q c ≡ 0
-unfolding nextOf
+unfolding nextOf nextIn
 next-past q e c le = ap (λ (k : Channel). k .next) (List·getD-eq-default (q .channels) (record { next = 0 }) (omega arith))
 
 number-small : (d : List ℕ) → Bytes d → numberOf d < numbers24
@@ -130,7 +130,7 @@ module _ (x : Receiver) (d : List ℕ) (by : Bytes d) (v : Sane x) (a : Accepted
   reliables-proper = all-accepted fs (x .queue .reliables) (a .reliables) (λ f m. read f m .reliable) (v .good .reliables) (a .accepts) .proper
 
   nexts-are : nextOf (acceptedBy x d a .queue) ≡ w .next
-  unfolding acceptedBy acceptedOf queueAfter nextOf w s fs
+  unfolding acceptedBy acceptedOf queueAfter nextOf nextIn w s fs
   nexts-are = next-after (w .next) (x .queue .channels) (λ c le. past c (rw (v .good .channels) at le))
     where
       past : (c : ℕ) → maxOrdChans ≤ c → w .next c ≡ 0
@@ -146,7 +146,7 @@ module _ (x : Receiver) (d : List ℕ) (by : Bytes d) (v : Sane x) (a : Accepted
 
   -- over records and bytes it is what the receiver with cells does
   pub accepted-memory : (h : List Message) → memoryOf (acceptedBy x d a) h ≡ memory.received (memoryOf x h) (framesIn d)
-  unfolding memoryOf acceptedBy acceptedOf queueAfter memory.received memory.stateOf w s fs stateOf nextOf
+  unfolding memoryOf acceptedBy acceptedOf queueAfter memory.received memory.stateOf w s fs stateOf nextOf nextIn
   accepted-memory h = λ i. record { accepted = reliables-are i; next = nexts-are i; cells = cellsOf (end w .slots); store = storeOf (x .store) (w .slots); handed = h }
 
   records-long : length (acceptedBy x d a .records) ≡ length (x .records)

@@ -13,9 +13,12 @@ use Rattle.cells.specs.Sound.{soundNexts}
 use Rattle.recv.specs.declared.Channel.{Channel}
 use Rattle.recv.specs.declared.RecvQueue.{RecvQueue}
 
--- each channel's next order number
+-- each channel's next order number; 0 past the channels
+unfoldable pub nextIn : List Channel → ℕ → ℕ
+nextIn channels c = getD channels c (record { next = 0 }) .next
+
 unfoldable pub nextOf : RecvQueue → ℕ → ℕ
-nextOf q c = getD (q .channels) c (record { next = 0 }) .next
+nextOf q = nextIn (q .channels)
 
 -- the numbers not yet acknowledged
 unfoldable pub unsentOf : RecvQueue → List ℕ

@@ -1,4 +1,4 @@
--- How a walk calls `rows_for`, `load` and `save`. Of each: the contract (`Load`), what its triple binds outside (`to-load`), that what the caller hands over is its pre (`goes-load`),
+-- How a walk calls `last_used`, `load` and `save`. Of each: the contract (`Load`), what its triple binds outside (`to-load`), that what the caller hands over is its pre (`goes-load`),
 -- and the step of a walk that makes the call (`calls-load`): what is handed over stands first, and what is had stands first once it has returned, with the facts that the callee promises.
 -- Assumes `Given`.
 use mathlib.Core.Path.{_≡_, refl, ap, subst}
@@ -34,14 +34,14 @@ use Rattle.cells.proofs.CellRecord as C
 use Rattle.rows.specs.Rows.{rowWords}
 use Rattle.slots.specs.Widths.{FitTo}
 use Rattle.recv_queue.specs.Records.{loaded, saved}
-use Rattle.recv_queue.specs.Call.{rowsFor}
-use Rattle.recv_queue.proofs.rows_for as rows-for
+use Rattle.recv_queue.specs.Call.{lastUsed}
+use Rattle.recv_queue.proofs.last_used as last-used
 use Rattle.recv_queue.proofs.load as load
 use Rattle.recv_queue.proofs.save as save
 
 module _ {M : Type 1} (𝓤 : URA M) (H : Heap 𝓤) (A : Atoms 𝓤) (mem : Memory → SProp 𝓤) (run : Routine → Fun 𝓤) where
-  abbrev pub Rows : Contract 𝓤
-  Rows = tripleOf 𝓤 H A rows-for.signature (rows-for.spec 𝓤 H A mem run)
+  abbrev pub LastUsed : Contract 𝓤
+  LastUsed = tripleOf 𝓤 H A last-used.signature (last-used.spec 𝓤 H A mem run)
 
   abbrev pub Load : Contract 𝓤
   Load = tripleOf 𝓤 H A load.signature (load.spec 𝓤 H A mem run)
@@ -49,27 +49,23 @@ module _ {M : Type 1} (𝓤 : URA M) (H : Heap 𝓤) (A : Atoms 𝓤) (mem : Mem
   abbrev pub Save : Contract 𝓤
   Save = tripleOf 𝓤 H A save.signature (save.spec 𝓤 H A mem run)
 
--- what `rows_for` says of n, at a records and b words
-abbrev pub RowsSay : ℕ → ℕ → ℕ → Type 0
-RowsSay a b n = (n ≡ rowsFor a b) × (n ≤ a) × (rowWords * n ≤ b)
-
 module _ {M : Type 1} (𝓤 : URA M) (H : Heap 𝓤) (A : Atoms 𝓤) (W : Given 𝓤 H A) (mem : Memory → SProp 𝓤) (run : Routine → Fun 𝓤) where
-  -- ---- `rows_for`, at a records and b words
-  module _ (a b : ℕ) where
-    abbrev to-rows : Rows 𝓤 H A mem run .Ghost
-    to-rows = ((tt, tt, tt, (a, (b, tt)), (vint w64 a ∷ [], (vint w64 b ∷ [], tt))), tt)
+  -- ---- `last_used`, of the records x
+  module _ (α : Lft) (q : Share) (x : RefT (List CellRecord)) (vx : Val) where
+    abbrev to-last : LastUsed 𝓤 H A mem run .Ghost
+    to-last = (((α, tt), (q, tt), tt, (x, tt), (vx ∷ [], tt)), tt)
 
-    goes-rows : a < 2 ^ 64 → b < 2 ^ 64 → ent 𝓤 (⋆ 𝓤 H A []) (Rows 𝓤 H A mem run .pre to-rows)
-    goes-rows f g = qed W [] ∵ nothing ! $ nothing ! $ owned ! usize (Is usize) (uint-makes 𝓤 H A W w64) b _ (refl, g) $ fjoin ! $ owned ! usize (Is usize) (uint-makes 𝓤 H A W w64) a _ (refl, f) $ fjoin ! $
-        nothing ! $ move ! (0 ∷ 1 ∷ []) $ join ! $ move ! (0 ∷ 1 ∷ []) $ done !
+    goes-last : ent 𝓤 (⋆ 𝓤 H A (‵ (flft α q) ∷ ‵ (ShrSlice (named 0) α C.the-row .own x (vx ∷ [])) ∷ [])) (LastUsed 𝓤 H A mem run .pre to-last)
+    goes-last = qed W (‵ (flft α q) ∷ ‵ (ShrSlice (named 0) α C.the-row .own x (vx ∷ [])) ∷ []) ∵ nothing ! $ move ! (1 ∷ 0 ∷ []) $ join ! $ nothing ! $ move ! (2 ∷ 0 ∷ []) $ fjoin ! $ move ! (1 ∷ 0 ∷ []) $ join ! $ nothing ! $ move ! (1 ∷ 0 ∷ []) $ done !
 
-    pub calls-rows : {K : Type 0} {Γ : List (Item 𝓤)} {E : Env 𝓤 H} {C′ : Calls 𝓤 H} {Λ : Loops 𝓤 H} {o : Post 𝓤 H} {f : Name} {xs : List Operand} {z : Place} {rest : Body}
-        → K → FmC 𝓤 H (W .laws) C′ → Triple 𝓤 (C′ f) (Rows 𝓤 H A mem run) → a < 2 ^ 64 → b < 2 ^ 64 → Opds K W (raw (Rows 𝓤 H A mem run .pre to-rows) ∷ Γ) E xs (vint w64 a ∷ vint w64 b ∷ [])
-        → ((v : Val) → (v ≡ vint w64 (rowsFor a b)) × (rowsFor a b < 2 ^ 64) × (rowsFor a b ≤ a) × (rowWords * rowsFor a b ≤ b) → Seq K W Γ (lands C′ Λ E z v rest o)) → Seq K W Γ (runs C′ Λ E (seq (call f xs z) rest) o)
-    calls-rows t fm known g h os k = use0 W (raw (Rows 𝓤 H A mem run .pre to-rows)) (goes-rows g h) $ calls-at t fm (Rows 𝓤 H A mem run) known to-rows os (λ v.
-        use1 W (later (some (λ (r : ℕ). (‵ ftrue ⊛ ‵ (usize .own r (v ∷ []))) ⊛ some (λ (zs : Lasts rows-for.ended tt (a, (b, tt))). ‵ (lasts rows-for.ended tt (a, (b, tt)) zs) ⊛ raw (fact 𝓤 (RowsSay a b r)))))) (id⊢ 𝓤 _) $
-        await t tt $ pick t (λ r. split t $ move t (1 ∷ []) $ pick t (λ zs. split t $ move t (1 ∷ []) $ heard t (RowsSay a b r) (λ e. drop t $ split t $ drop t $ fsplit t $ feqL t (λ is. fltL t (λ l.
-        k v (subst (λ (n : ℕ). (v ≡ vint w64 n) × (n < 2 ^ 64) × (n ≤ a) × (rowWords * n ≤ b)) (e .0) (ap only is, l, e .1, e .2))))))))
+    pub calls-last : {K : Type 0} {Γ : List (Item 𝓤)} {E : Env 𝓤 H} {C′ : Calls 𝓤 H} {Λ : Loops 𝓤 H} {o : Post 𝓤 H} {f : Name} {xs : List Operand} {z : Place} {rest : Body}
+        → K → FmC 𝓤 H (W .laws) C′ → Triple 𝓤 (C′ f) (LastUsed 𝓤 H A mem run) → Opds K W (raw (LastUsed 𝓤 H A mem run .pre to-last) ∷ Γ) E xs (vx ∷ [])
+        → ((v : Val) → (v ≡ vint w64 (lastUsed (now x))) × (lastUsed (now x) < 2 ^ 64) → Seq K W (‵ (flft α q) ∷ Γ) (lands C′ Λ E z v rest o))
+        → Seq K W (‵ (flft α q) ∷ ‵ (ShrSlice (named 0) α C.the-row .own x (vx ∷ [])) ∷ Γ) (runs C′ Λ E (seq (call f xs z) rest) o)
+    calls-last t fm known os k = group t 2 $ use1 W (raw (LastUsed 𝓤 H A mem run .pre to-last)) goes-last $ calls-at t fm (LastUsed 𝓤 H A mem run) known to-last os (λ v.
+        use1 W (later (some (λ (r : ℕ). ((‵ (flft α q) ⊛ ‵ ftrue) ⊛ ‵ (usize .own r (v ∷ []))) ⊛ some (λ (zs : Lasts last-used.ended (α, tt) (x, tt)). ‵ (lasts last-used.ended (α, tt) (x, tt) zs) ⊛ raw (fact 𝓤 (r ≡ lastUsed (now x))))))) (id⊢ 𝓤 _) $
+        await t tt $ pick t (λ r. split t $ move t (1 ∷ []) $ pick t (λ zs. split t $ move t (1 ∷ []) $ heard t (r ≡ lastUsed (now x)) (λ e. drop t $ split t $ move t (1 ∷ []) $ fsplit t $ feqL t (λ is. fltL t (λ l. split t $ move t (1 ∷ []) $ drop t $
+        k v (subst (λ (n : ℕ). (v ≡ vint w64 n) × (n < 2 ^ 64)) e (ap only is, l))))))))
 
   -- ---- `load` and `save`, of n records x and the words y
   module _ (α β : Lft) (q r : Share) (x : RefT (List CellRecord)) (y : RefT (List ℕ)) (n : ℕ) (vx vy : Val) where

@@ -1,12 +1,9 @@
-pub mod Order
-pub mod Lent
-pub mod Offset
-pub mod Counting
 pub mod Widths
 pub mod Words
 pub mod Loaded
 pub mod Saved
-pub mod Cleared
+pub mod Used
+pub mod Needs
 pub mod Round
 pub mod Refusals
 pub mod Receives
@@ -14,4 +11,3 @@ pub mod Takes
 pub mod Elements
 pub mod Calls
 pub mod Local
-pub mod Begins

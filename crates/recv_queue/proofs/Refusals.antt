@@ -1,5 +1,5 @@
 -- What the calls over lent records need of the definitions of receive and take: slice lengths outside the limits are refused with 9, and a refusal writes no record.
-use mathlib.Core.Path.{_≡_, refl, sym, subst}
+use mathlib.Core.Path.{_≡_, refl, sym}
 use Prim.Native.Nat.{ℕ, _≤_}
 use native.Mathlib.Omega.{arith}
 use mathlib.Core.Bool.{false}
@@ -11,12 +11,12 @@ use Rattle.cells.specs.Cell.{Cell}
 use Rattle.cells.specs.Sound.{lengths}
 use Rattle.recv.specs.declared.RecvQueue.{RecvQueue}
 use Rattle.recv.specs.Receive.{Report, refusedOf, receiveOf, soundCall}
-use Rattle.recv.specs.Take.{Handed, refuse, takeOf}
+use Rattle.recv.specs.Take.{refuse, takeOf}
 use Rattle.pass.specs.declared.Receive.{Receive}
 use Rattle.pass.specs.Outcome.{receiveAnswer, unlessAccepted, rowsSaved}
 use Rattle.takes.specs.declared.Take.{Take}
 use Rattle.takes.specs.declared.Take.the-variants.{NotSound, NoneReady, ShortBuffer, InStore, Joined}
-use Rattle.takes.specs.Outcome.{takeAnswer, takeSaved}
+use Rattle.takes.specs.Outcome.{takeSaved}
 
 -- ---- "9 slice lengths"
 
@@ -50,21 +50,3 @@ take-within NoneReady n = omega arith
 take-within ShortBuffer n = omega arith
 take-within (InStore kind channel order start len) n = omega arith
 take-within (Joined kind channel order len) n = omega arith
-
--- ---- and none where it refuses
-
-pub refused-saves-none : (a : Receive) (k n : ℕ) → receiveAnswer a ≡ refused k → rowsSaved a n ≡ 0
-unfolding rowsSaved unlessAccepted
-refused-saves-none a k n e = rw e
-
-IsRefused : Answer Handed → Type 0
-IsRefused (refused number) = Unit {0}
-IsRefused (gives handed) = ⊥
-
-pub not-taken-saves-none : (a : Take) (k n : ℕ) → takeAnswer a ≡ refused k → takeSaved a n ≡ 0
-unfolding takeSaved takeAnswer IsRefused
-not-taken-saves-none NotSound k n e = refl
-not-taken-saves-none NoneReady k n e = refl
-not-taken-saves-none ShortBuffer k n e = refl
-not-taken-saves-none (InStore kind channel order start len) k n e = absurd (subst IsRefused (sym e) tt)
-not-taken-saves-none (Joined kind channel order len) k n e = absurd (subst IsRefused (sym e) tt)

@@ -1,4 +1,3 @@
 mod Core
 mod In
 mod Out
-mod Cases

@@ -1,4 +1,3 @@
 pub mod Records
 pub mod Call
 pub mod Answers
-pub mod New

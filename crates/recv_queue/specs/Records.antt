@@ -1,12 +1,11 @@
 -- The cells' records as rows of words, and back: what is loaded into words before a call works on them, and saved afterwards.
 use Prim.Native.Nat.{ℕ, _*_, _%_}
 use mathlib.Core.List.{List, [], _∷_, _++_, map}
-use lib.ListN.{take, drop, replicate}
+use lib.ListN.{take, drop}
 use lib.Seq.{sets}
 use Rattle.cells.specs.Cell.{Cell}
 use Rattle.rows.specs.declared.Row.{Row}
 use Rattle.rows.specs.Rows.{rowWords, rowAt, listed}
-use Rattle.slots.specs.Widths.{blank}
 
 -- a record's row: its body stands in the store
 unfoldable pub rowOf : Cell → Row
@@ -35,7 +34,3 @@ loaded cs n ws = wordsOf (map rowOf (take n cs)) ++ drop (rowWords * n) ws
 -- the records cs of which the first n are read from the words' first rows
 unfoldable pub saved : List Cell → ℕ → List ℕ → List Cell
 saved cs n ws = listed (λ i. cut (rowAt ws i)) n ++ drop n cs
-
--- the records cs of which the first n are cleared
-unfoldable pub cleared : List Cell → ℕ → List Cell
-cleared cs n = replicate n blank ++ drop n cs

@@ -1,4 +1,5 @@
-// "One record stands beside each cell, in a lent slice of structs": make new, receive and take over such a slice, and the few functions that touch it.
+// "One record stands beside each cell, in a lent slice of structs": receive and take over such a slice, and the few functions that touch it; make new and
+// body are offered here too.
 // The cores of receive and take work on rows of words.
 use cells::CellRecord;
 use rows::Row;
@@ -7,22 +8,21 @@ ghost use Prim.Native.Nat.{_<_, _≤_, _+_, _*_, _%_};
 ghost use lib.ListN.{length, set, getD};
 ghost use Rattle.rows.specs.Rows.{rowWords, rowAt};
 ghost use Rattle.slots.specs.Widths.{blank, Fit, FitTo};
-ghost use Rattle.recv_queue.specs.Records.{rowOf, cut, putRow, loaded, saved, cleared};
-ghost use Rattle.recv_queue.specs.Call.{rowsFor};
+ghost use Rattle.recv_queue.specs.Records.{rowOf, cut, putRow, loaded, saved};
+ghost use Rattle.recv_queue.specs.Call.{lastUsed};
 
-pub mod making;
 pub mod receiving;
 pub mod taking;
 
-pub use making::MakeNew;
-pub use making::NewReceiver;
-pub use making::make_new;
 pub use receiving::Received;
 pub use receiving::receive;
-pub use taking::body;
+pub use recv_new::MakeNew;
+pub use recv_new::NewReceiver;
+pub use recv_new::make_new;
+pub use taken::body;
 pub use taking::take;
 
-// A call zeroes its words: up to so many records it makes them for these alone, else for as many records as a receiver may have.
+// A call works on the records that it may need, and zeroes words for them: up to so many records for these alone, else for as many as a receiver may have.
 const SMALL_CELLS: usize = 32;
 
 const SMALL_WORDS: usize = rows::ROW * SMALL_CELLS;
@@ -91,23 +91,6 @@ fn record_of(r: Row) -> CellRecord
     }
 }
 
-fn unused() -> CellRecord
-    ensures { λ r. ⌜ r ≡ blank ⌝ }
-{
-    CellRecord {
-        used: 0,
-        kind: 0,
-        channel: 0,
-        id: 0,
-        index: 0,
-        count: 0,
-        length: 0,
-        sequence: 0,
-        order: 0,
-        turn: 0,
-    }
-}
-
 // ---- one record
 
 fn record_at(records: &[CellRecord], i: usize) -> CellRecord
@@ -145,14 +128,20 @@ fn cell_at(words: &[u32], i: usize) -> CellRecord
 
 // ---- all of them
 
-// How many records are loaded: all, or none where their rows have no room in the words.
-fn rows_for(records: usize, words: usize) -> usize
-    ensures { λ r. ⌜ (r ≡ rowsFor records words) × (r ≤ records) × (rowWords * r ≤ words) ⌝ }
+// How many records there are up to the last used one: those after it are unused.
+fn last_used(records: &[CellRecord]) -> usize
+    ensures { λ r. ⌜ r ≡ lastUsed (now (records .entry)) ⌝ }
 {
-    if words / rows::ROW < records {
-        return 0;
+    let mut k = records.len();
+    while 0 < k {
+        let i = k - 1;
+        let r = record_at(records, i);
+        if 0 < r.used {
+            return k;
+        }
+        k = i;
     }
-    records
+    k
 }
 
 // The first n records are written as rows.
@@ -176,19 +165,6 @@ fn save(records: &mut [CellRecord], words: &[u32], n: usize)
     let mut i: usize = 0;
     while i < n {
         let r = cell_at(words, i);
-        put_record(records, i, r);
-        i = i + 1;
-    }
-}
-
-// The first n records become unused.
-fn clear(records: &mut [CellRecord], n: usize)
-    requires { ⌜ n ≤ length (now records) ⌝ }
-    ensures { λ _. ⌜ now (records .exit) ≡ cleared (now (records .entry)) n ⌝ }
-{
-    let r = unused();
-    let mut i: usize = 0;
-    while i < n {
         put_record(records, i, r);
         i = i + 1;
     }

@@ -1,18 +1,15 @@
-// Take: the records are loaded as rows, the core works on these, and where it gives a message they are saved. The message's bytes stand in the store
-// or in the joining buffer.
+// Take: the records that it may need are loaded as rows, the core works on these, and where it gives a message they are saved.
 use cells::CellRecord;
 use recv::RecvQueue;
 use takes::Take;
 use takes::TakenRows;
 ghost use mathlib.Core.Path.{_≡_};
-ghost use Prim.Native.Nat.{_≤_, _*_, min};
-ghost use lib.ListN.{length, take, drop};
-ghost use Rattle.base.specs.Limits.{maxCells};
+ghost use Prim.Native.Nat.{_≤_, _*_};
+ghost use lib.ListN.{length};
 ghost use Rattle.rows.specs.Rows.{rowWords};
 ghost use Rattle.recv.specs.Take.{takeOf};
 ghost use Rattle.takes.specs.Outcome.{takeResult};
-ghost use Rattle.recv_queue.specs.Call.{smallCells};
-ghost use Rattle.recv_queue.specs.Answers.{bodyOf};
+ghost use Rattle.recv_queue.specs.Call.{lastUsed, takeNeeds, smallCells};
 
 // The core's answer without its count of rows.
 fn answer_of(r: TakenRows) -> Take
@@ -21,84 +18,73 @@ fn answer_of(r: TakenRows) -> Take
     r.answer
 }
 
-// The call where the words are lent too: they have room for all records, or there are more records than a receiver may have.
+// How many records a call works on, where so many of all cells go up to the last used one, and the store has so many bytes.
+fn needed(used: usize, cells: usize, store: usize) -> usize
+    ensures { λ r. ⌜ r ≡ takeNeeds used cells store ⌝ }
+{
+    if sound_call::lengths_fit(cells, store) {
+        if used < 1 {
+            return 1;
+        }
+        return used;
+    }
+    0
+}
+
+// The call on the first k records, where the words are lent too and have room for them.
 fn take_in(
     queue: RecvQueue,
     records: &mut [CellRecord],
     words: &mut [u32],
+    k: usize,
     store: &[u8],
     joined: &mut [u8],
 ) -> Take
-    requires { ⌜ (length (now records) ≤ maxCells → rowWords * length (now records) ≤ length (now words)) ⌝ }
+    requires { ⌜ (k ≡ takeNeeds (lastUsed (now records)) (length (now records)) (length (now store))) × (rowWords * k ≤ length (now words)) ⌝ }
     ensures { λ r. ⌜ takeResult r (now (records .exit)) (now (joined .exit)) ≡ takeOf queue (now (records .entry)) (now (store .entry)) (now (joined .entry)) ⌝ }
 {
-    let n = super::rows_for(records.len(), words.len());
-    super::load(records, words, n);
-    let r = takes::take_rows(queue, words, n, store, joined);
+    super::load(records, words, k);
+    let r = narrow::take_first(queue, words, k, records.len(), store, joined);
     let m = r.rows;
     super::save(records, words, m);
     answer_of(r)
 }
 
-fn take_small(queue: RecvQueue, records: &mut [CellRecord], store: &[u8], joined: &mut [u8]) -> Take
-    requires { ⌜ length (now records) ≤ smallCells ⌝ }
+fn take_small(
+    queue: RecvQueue,
+    records: &mut [CellRecord],
+    k: usize,
+    store: &[u8],
+    joined: &mut [u8],
+) -> Take
+    requires { ⌜ (k ≡ takeNeeds (lastUsed (now records)) (length (now records)) (length (now store))) × (k ≤ smallCells) ⌝ }
     ensures { λ r. ⌜ takeResult r (now (records .exit)) (now (joined .exit)) ≡ takeOf queue (now (records .entry)) (now (store .entry)) (now (joined .entry)) ⌝ }
 {
     let mut words: [u32; super::SMALL_WORDS] = [0; super::SMALL_WORDS];
-    take_in(queue, records, &mut words, store, joined)
+    take_in(queue, records, &mut words, k, store, joined)
 }
 
-fn take_large(queue: RecvQueue, records: &mut [CellRecord], store: &[u8], joined: &mut [u8]) -> Take
+fn take_large(
+    queue: RecvQueue,
+    records: &mut [CellRecord],
+    k: usize,
+    store: &[u8],
+    joined: &mut [u8],
+) -> Take
+    requires { ⌜ k ≡ takeNeeds (lastUsed (now records)) (length (now records)) (length (now store)) ⌝ }
     ensures { λ r. ⌜ takeResult r (now (records .exit)) (now (joined .exit)) ≡ takeOf queue (now (records .entry)) (now (store .entry)) (now (joined .entry)) ⌝ }
 {
     let mut words: [u32; super::MAX_WORDS] = [0; super::MAX_WORDS];
-    take_in(queue, records, &mut words, store, joined)
+    take_in(queue, records, &mut words, k, store, joined)
 }
 
 pub fn take(queue: RecvQueue, records: &mut [CellRecord], store: &[u8], joined: &mut [u8]) -> Take
     ensures { λ r. ⌜ takeResult r (now (records .exit)) (now (joined .exit)) ≡ takeOf queue (now (records .entry)) (now (store .entry)) (now (joined .entry)) ⌝ }
 {
-    if records.len() <= super::SMALL_CELLS {
-        return take_small(queue, records, store, joined);
+    let used = super::last_used(records);
+    let k = needed(used, records.len(), store.len());
+    if k <= super::SMALL_CELLS {
+        return take_small(queue, records, k, store, joined);
     }
-    take_large(queue, records, store, joined)
-}
-
-// ---- the message's bytes
-
-fn smaller(a: usize, b: usize) -> usize
-    ensures { λ r. ⌜ r ≡ min a b ⌝ }
-{
-    if a < b { a } else { b }
-}
-
-// The len bytes from start on, as far as the slice has them.
-fn part(bytes: &[u8], start: usize, len: usize) -> &[u8]
-    ensures { λ r. ⌜ now r ≡ take len (drop start (now (bytes .entry))) ⌝ }
-{
-    let from = smaller(start, bytes.len());
-    let end = from + smaller(len, bytes.len() - from);
-    &bytes[from..end]
-}
-
-// "handed back as part of the store or of the joining buffer, uncopied": the bytes of the message that a take gave; none where it gave none.
-pub fn body<'a>(store: &'a [u8], joined: &'a [u8], taken: Take) -> &'a [u8]
-    ensures { λ r. ⌜ now r ≡ bodyOf (now (store .entry)) (now (joined .entry)) taken ⌝ }
-{
-    match taken {
-        Take::InStore {
-            kind: _,
-            channel: _,
-            order: _,
-            start,
-            len,
-        } => part(store, start, len),
-        Take::Joined {
-            kind: _,
-            channel: _,
-            order: _,
-            len,
-        } => part(joined, 0, len),
-        _ => &store[..0],
-    }
+    take_large(queue, records, k, store, joined)
 }

@@ -21,9 +21,12 @@ renumbered ws =
 
 -- ---- how it is computed
 
--- up to so many rows a short copy of the turns is enough
+-- up to so many rows a short copy of the turns is enough, and up to so many a very short one
 abbrev pub fewCells : ℕ
 fewCells = 256
+
+abbrev pub smallCells : ℕ
+smallCells = 32
 
 -- the turns of the ready messages, each as its first record has it
 unfoldable pub firstTurns : List Cell → List ℕ

@@ -1,6 +1,6 @@
--- A sweep: row after row is read, changed by g and put back. Afterwards g was applied to every row.
+-- A sweep: row after row is changed by g where it is not already as g makes it. Afterwards g was applied to every row.
 -- Assumes nothing.
-use Prim.Native.Nat.{ℕ, suc, _+_, _<_, _≤_}
+use Prim.Native.Nat.{ℕ, zero, suc, _+_, _<_, _≤_}
 use mathlib.Core.Path.{_≡_, refl, sym, ap, _∙_}
 use mathlib.Core.Bool.{Bool, true, false}
 use mathlib.Core.List.{List, [], _∷_, _++_, map, append-nil}
@@ -15,15 +15,30 @@ use Rattle.rows.specs.Whole.{wholeRow, rest}
 use Rattle.rows.proofs.ForBase.{map-append}
 use Rattle.rows.proofs.Rows.{rows-length}
 
--- A row that passes is changed, and one that does not is not; b is what the test gave.
-module _ (p : Cell → Bool) (g : Row → Row) (r : Row) {b : Bool} (t : b ≡ p (cellOf r)) where
-  pub changes : {q : Row} → b ≡ true → q ≡ g r → q ≡ changeRow p g r
-  unfolding changeRow
-  changes y e = rw (← t, y) e
+-- ---- one row
 
-  pub stays : b ≡ false → r ≡ changeRow p g r
-  unfolding changeRow
-  stays y = rw (← t, y)
+set-own : {A : Type 0} (l : List A) (i : ℕ) (d : A) → l ≡ set l i (getD l i d)
+set-own [] i d = refl
+set-own (x ∷ l) zero d = refl
+set-own {A} (x ∷ l) (suc i) d = ap (λ (k : List A). x ∷ k) (set-own l i d)
+
+-- Row i, which is r, is changed by g: what g makes of it is put, or it is left where g leaves it.
+module _ (g : Row → Row) (ws : List ℕ) (i : ℕ) {r : Row} (a : r ≡ wholeRow ws i) where
+  pub row-put : {q : Row} {rs : List Row} {o : List ℕ} → q ≡ g r → (rs ≡ set (rowsOf ws) i q) × (o ≡ rest ws) → (rs ≡ set (rowsOf ws) i (g (wholeRow ws i))) × (o ≡ rest ws)
+  row-put e p = (p .0 ∙ ap (set (rowsOf ws) i) (e ∙ ap g a), p .1)
+
+  pub row-left : r ≡ g r → (rowsOf ws ≡ set (rowsOf ws) i (g (wholeRow ws i))) × (rest ws ≡ rest ws)
+  unfolding wholeRow
+  row-left e = (set-own (rowsOf ws) i blankRow ∙ ap (set (rowsOf ws) i) (sym a ∙ e ∙ ap g a), refl)
+
+-- A row that passes is changed, and one that does not is not; b is what the test gave.
+module _ (p : Cell → Bool) (g : Row → Row) (ws : List ℕ) (i : ℕ) {r : Row} (a : r ≡ wholeRow ws i) {b : Bool} (t : b ≡ p (cellOf r)) where
+  pub changes : {q : Row} {rs : List Row} {o : List ℕ} → b ≡ true → q ≡ g r → (rs ≡ set (rowsOf ws) i q) × (o ≡ rest ws)
+      → (rs ≡ set (rowsOf ws) i (changeRow p g (wholeRow ws i))) × (o ≡ rest ws)
+  changes y e = row-put (changeRow p g) ws i a (e ∙ (unfold changeRow in rw (← t, y)))
+
+  pub stays : b ≡ false → (rowsOf ws ≡ set (rowsOf ws) i (changeRow p g (wholeRow ws i))) × (rest ws ≡ rest ws)
+  stays y = row-left (changeRow p g) ws i a (unfold changeRow in rw (← t, y))
 
 -- g applied to the first i of the rows
 unfoldable pub upTo : (Row → Row) → ℕ → List Row → List Row
@@ -62,27 +77,27 @@ pub record Sweeping (g : Row → Row) (ws₀ ws : List ℕ) (i : ℕ) : Type 0 w
 pub sweep-starts : (g : Row → Row) (ws : List ℕ) → Sweeping g ws ws 0
 sweep-starts g ws = record { within = omega arith; long = refl; rows = sym (up-to-none g (rowsOf ws)); over = refl }
 
--- A turn of the loop: r is row i, and q is put in its place.
-pub sweep-goes : {g : Row → Row} {ws₀ ws : List ℕ} {i : ℕ} {new : List ℕ} {r q : Row} → Sweeping g ws₀ ws i → i < rowCount ws₀ → r ≡ wholeRow ws i → q ≡ g r
-    → length new ≡ length ws → (rowsOf new ≡ set (rowsOf ws) i q) × (rest new ≡ rest ws) → Sweeping g ws₀ new (i + 1)
+-- A turn of the loop: row i is changed by g.
+pub sweep-goes : {g : Row → Row} {ws₀ ws : List ℕ} {i : ℕ} {new : List ℕ} → Sweeping g ws₀ ws i → i < rowCount ws₀
+    → length new ≡ length ws → (rowsOf new ≡ set (rowsOf ws) i (g (wholeRow ws i))) × (rest new ≡ rest ws) → Sweeping g ws₀ new (i + 1)
 unfolding wholeRow
-sweep-goes {g} {ws₀} {ws} {i} {new} {r} {q} s l a b n p =
+sweep-goes {g} {ws₀} {ws} {i} {new} s l n p =
     record {
       within = omega arith;
       long = n ∙ s .long;
-      rows = p .0 ∙ rw (s .rows, b, here) (up-to-more g (rowsOf ws₀) i blankRow inside);
+      rows = p .0 ∙ rw (s .rows, up-to-at g (rowsOf ws₀) i blankRow inside) (up-to-more g (rowsOf ws₀) i blankRow inside);
       over = p .1 ∙ s .over;
     }
   where
     inside : i < length (rowsOf ws₀)
     inside = omega (arith, rows-length ws₀)
 
-    here : r ≡ getD (rowsOf ws₀) i blankRow
-    here = a ∙ rw (s .rows) (up-to-at g (rowsOf ws₀) i blankRow inside)
+pub sweep-all : {g : Row → Row} {ws₀ ws : List ℕ} {i : ℕ} → Sweeping g ws₀ ws i → rowCount ws₀ ≤ i → (rowsOf ws ≡ map g (rowsOf ws₀)) × (rest ws ≡ rest ws₀)
+sweep-all {g} {ws₀} {ws} {i} s l =
+    let e : i ≡ length (rowsOf ws₀) = omega (arith, rows-length ws₀, s .within) in
+    (s .rows ∙ ap (λ (k : ℕ). upTo g k (rowsOf ws₀)) e ∙ up-to-all g (rowsOf ws₀), s .over)
 
 pub sweep-ends : (p : Cell → Bool) (g : Row → Row) {ws₀ ws : List ℕ} {i : ℕ} → Sweeping (changeRow p g) ws₀ ws i → rowCount ws₀ ≤ i
     → (rowsOf ws ≡ changeRows p g (rowsOf ws₀)) × (rest ws ≡ rest ws₀)
 unfolding changeRows
-sweep-ends p g {ws₀} {ws} {i} s l =
-    let e : i ≡ length (rowsOf ws₀) = omega (arith, rows-length ws₀, s .within) in
-    (s .rows ∙ ap (λ (k : ℕ). upTo (changeRow p g) k (rowsOf ws₀)) e ∙ up-to-all (changeRow p g) (rowsOf ws₀), s .over)
+sweep-ends p g s l = sweep-all s l

@@ -3,16 +3,10 @@ use Prim.Native.Nat.{ℕ}
 use mathlib.Core.Bool.{Bool, cond, not, _&&_, _||_}
 use mathlib.Core.List.{List}
 use lib.Dec.{ltb, eqb}
-use lib.ListN.{getD}
 use Rattle.base.specs.Lists.{every, countOf}
 use Rattle.cells.specs.Cell.{Cell, bears, at}
 use Rattle.cells.specs.Sound.{keyOf, limits, agree}
-use Rattle.recv.specs.declared.Channel.{Channel}
 use Rattle.sound.specs.declared.Tally.{Tally}
-
--- each channel's next order number
-unfoldable pub nextIn : List Channel → ℕ → ℕ
-nextIn channels c = getD channels c (record { next = 0 }) .next
 
 -- a cell of c's message
 unfoldable pub mate : Cell → Cell → Bool

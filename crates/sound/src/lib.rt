@@ -8,7 +8,8 @@ ghost use mathlib.Core.Bool.{cond, not, _&&_};
 ghost use Rattle.base.specs.Limits.{maxOrdChans};
 ghost use Rattle.cells.specs.Sound.{limits, agree, soundCells};
 ghost use Rattle.rows.specs.Rows.{cellOf, cellsIn};
-ghost use Rattle.sound.specs.Counted.{nextIn, mate, ahead, countedCell, tallyOf};
+ghost use Rattle.recv.specs.Queue.{nextIn};
+ghost use Rattle.sound.specs.Counted.{mate, ahead, countedCell, tallyOf};
 
 mod entries;
 

@@ -13,9 +13,8 @@ use Rattle.cells.specs.Sound.{soundCells, lengths}
 use Rattle.rows.specs.Rows.{rowCount, cellsIn}
 use Rattle.rows.proofs.Below.{below-all, below-length}
 use Rattle.recv.specs.declared.RecvQueue.{RecvQueue}
-use Rattle.recv.specs.Queue.{nextOf, soundQueue}
+use Rattle.recv.specs.Queue.{nextIn, nextOf, soundQueue}
 use Rattle.recv.specs.Receive.{soundCall}
-use Rattle.sound.specs.Counted.{nextIn}
 
 module _ (cells bytes : ℕ) where
   pub no-cells : cells < 1 → false ≡ lengths cells bytes
@@ -44,5 +43,5 @@ module _ (q : RecvQueue) (ws st : List ℕ) {fit : Bool} (e : fit ≡ lengths (r
   queue-not f g h = rw (cells-length ws, ← e, f, ← g, h)
 
   pub cells-decide : {b s : Bool} → fit ≡ true → b ≡ soundQueue q → b ≡ true → s ≡ soundCells (cellsIn ws) (nextIn (q .channels)) → s ≡ soundCall q (cellsIn ws) st
-  unfolding soundCall nextOf nextIn
+  unfolding soundCall nextOf
   cells-decide f g h k = rw (cells-length ws, ← e, f, ← g, h) k

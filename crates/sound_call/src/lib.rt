@@ -26,7 +26,7 @@ pub fn sound_call(queue: RecvQueue, words: &[u32], store: &[u8]) -> bool
     if lengths_fit(words.len() / ROW, store.len()) {} else {
         return false;
     }
-    if acks::sound_queue(queue) {} else {
+    if sound_queue::sound_queue(queue) {} else {
         return false;
     }
     let channels = queue.channels;

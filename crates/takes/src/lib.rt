@@ -9,7 +9,7 @@ ghost use lib.ListN.{drop};
 ghost use Rattle.base.specs.Limits.{maxFrags};
 ghost use Rattle.base.specs.Put.{put, Run};
 ghost use Rattle.rows.specs.Rows.{cellsIn};
-ghost use Rattle.slots.specs.Widths.{rowsIn, firstCells, FitTo};
+ghost use Rattle.slots.specs.Widths.{firstCells, FitTo};
 ghost use Rattle.recv.specs.Take.{takeOf};
 ghost use Rattle.takes.specs.Outcome.{takeOutcome, takeSaved, takeResult, withRows, KeepsWidths};
 ghost use Rattle.takes.specs.Pieces.{pieceAt, pieceBytes, lengthTo, joinedTo, AllWithin, Takeable, takeTurn};
@@ -53,20 +53,9 @@ pub fn take_rows(
         × (r .rows ≡ takeSaved (r .answer) n)
         × (FitTo n (firstCells n (now (words .entry))) → FitTo (r .rows) (firstCells (r .rows) (now (words .exit)))) ⌝ }
 {
-    let m = rows_in(n, words.len());
+    let m = slots::rows_in(n, words.len());
     let answer = take_all(queue, &mut words[..ROW * m], store, joined);
     with_rows(answer, n)
-}
-
-// How many rows of n stand in the words.
-fn rows_in(n: usize, words: usize) -> usize
-    ensures { λ r. ⌜ r ≡ rowsIn n words ⌝ }
-{
-    let whole = words / ROW;
-    if whole < n {
-        return whole;
-    }
-    n
 }
 
 // All n records are to be written, or none.

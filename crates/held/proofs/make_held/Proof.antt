@@ -43,21 +43,21 @@ use denote.Triple.Walked.{says, Stays, stay-dropped, walkOf, Walks, ends-at, wal
 use Rattle.cells.specs.declared.CellRecord.{CellRecord}
 use Rattle.cells.proofs.CellRecord as C
 use Rattle.cells.proofs.CellRecord.Laws as C′
-use Rattle.recv_queue.specs.declared.making.NewReceiver.{NewReceiver}
+use Rattle.recv_new.specs.declared.NewReceiver.{NewReceiver}
 use Rattle.held.specs.declared.HeldNew.{HeldNew}
 use Rattle.held.specs.Held.{heldCells, unusedCells, newWith}
 use Rattle.held.proofs.Said.{MakeSays, made-held}
-use Rattle.recv_queue.proofs.Order.{var, gone1}
+use Rattle.recv_new.proofs.Order.{var, gone1}
 use Rattle.held.proofs.Prefix.{lending-first, returned-first}
 use Rattle.held.proofs.Calls.{InUse, Unused, calls-use, calls-unused}
 use Rattle.held.proofs.Makes.{Call, calls-make}
-use Rattle.recv_queue.proofs.making.NewReceiver as R
-use Rattle.recv_queue.proofs.making.NewReceiver.Laws as R′
+use Rattle.recv_new.proofs.NewReceiver as R
+use Rattle.recv_new.proofs.NewReceiver.Laws as R′
 use Rattle.held.proofs.HeldNew as Z
 use Rattle.held.proofs.HeldNew.Laws as Z′
-use Rattle.recv_queue.proofs.making.make_new.Symbol as make-def
-use Rattle.recv_queue.proofs.making.make_new.Symbol.{name as #recv-queue·making·make-new}
-use Rattle.recv_queue.proofs.making.make_new.Met as make-thm
+use Rattle.recv_new.proofs.make_new.Symbol as make-def
+use Rattle.recv_new.proofs.make_new.Symbol.{name as #recv-new·make-new}
+use Rattle.recv_new.proofs.make_new.Met as make-thm
 use Rattle.held.proofs.in_use.Symbol as in-use-def
 use Rattle.held.proofs.in_use.Symbol.{name as #held·in-use}
 use Rattle.held.proofs.in_use.Met as in-use-thm
@@ -142,7 +142,7 @@ module _ {M : Type 1} (𝓤 : URA M) (H : Heap 𝓤) (A : Atoms 𝓤) (W : Given
         use1 W (later (some (λ (r : HeldNew). (‵ ftrue ⊛ ‵ (Z.the-row .own r (w ∷ []))) ⊛ some (λ (zs : Lasts with.ended tt (a, (l, tt))). ‵ (lasts with.ended tt (a, (l, tt)) zs) ⊛ raw (fact 𝓤 (r ≡ newWith a l)))))) (id⊢ 𝓤 _) $
         await ! tt $ pick ! (λ r. split ! $ move ! (1 ∷ []) $ pick ! (λ zs. split ! $ move ! (1 ∷ []) $ heard ! (r ≡ newWith a l) (λ e. drop ! $ split ! $ rewrite ! 1 (λ (z : HeldNew). ‵ (Z.the-row .own z (w ∷ []))) e refl $ at-once ! $ keep ! (1 ∷ []) $ done !)))
 
-  module _ (C″ : Calls 𝓤 H) (Λ : Loops 𝓤 H) (fm : FmC 𝓤 H (W .laws) C″) (known-unused : Triple 𝓤 (C″ #held·unused) (Unused 𝓤 H A mem run)) (known-use : Triple 𝓤 (C″ #held·in-use) (InUse 𝓤 H A mem run)) (known : Triple 𝓤 (C″ #recv-queue·making·make-new) (Call 𝓤 H A mem run)) (known-with : Triple 𝓤 (C″ #held·new-with) (With 𝓤 H A mem run)) where
+  module _ (C″ : Calls 𝓤 H) (Λ : Loops 𝓤 H) (fm : FmC 𝓤 H (W .laws) C″) (known-unused : Triple 𝓤 (C″ #held·unused) (Unused 𝓤 H A mem run)) (known-use : Triple 𝓤 (C″ #held·in-use) (InUse 𝓤 H A mem run)) (known : Triple 𝓤 (C″ #recv-new·make-new) (Call 𝓤 H A mem run)) (known-with : Triple 𝓤 (C″ #held·new-with) (With 𝓤 H A mem run)) where
     walk : ent 𝓤 (onEntry 𝓤 H A here.signature (κ, tt) (q, tt) (n, (s, tt)) (vint w64 n ∷ [], (vs ∷ [], tt))) (WpFn 𝓤 H C″ Λ code.function (vint w64 n ∷ vs ∷ []) Post)
     walk =
         qed W ((‵ (flft κ q) ⊛ ‵ ftrue) ∷ ‵ (owns (usize ∷ ShrSlice (named 0) κ u8 ∷ []) (n, (s, tt)) (vint w64 n ∷ [], (vs ∷ [], tt))) ∷ []) ∵ enter ! C″ Λ code.function (vint w64 n ∷ vs ∷ []) _ $
@@ -178,7 +178,7 @@ module _ {M : Type 1} (𝓤 : URA M) (H : Heap 𝓤) (A : Atoms 𝓤) (W : Given
         move ! (2 ∷ 7 ∷ []) $ gone1 ! $ move ! (2 ∷ 6 ∷ []) $ gone1 ! $ move ! (2 ∷ 5 ∷ []) $ gone1 ! $ move ! (2 ∷ 4 ∷ []) $ gone1 ! $ move ! (2 ∷ 3 ∷ []) $ gone1 ! $ free0 ! $
         by ! (exits y a l (is₀ .1 .0 .1) (e .0) (e .1)))))))))))))))))))))
 
-module _ {M : Type 1} (𝓤 : URA M) (H : Heap 𝓤) (A : Atoms 𝓤) (W : Given 𝓤 H A) (mem : Memory → SProp 𝓤) (run : Routine → Fun 𝓤) (𝓣 : Tables 𝓤 H) (known-unused : Triple 𝓤 (𝓣 .C #held·unused) (Unused 𝓤 H A mem run)) (known-use : Triple 𝓤 (𝓣 .C #held·in-use) (InUse 𝓤 H A mem run)) (known : Triple 𝓤 (𝓣 .C #recv-queue·making·make-new) (Call 𝓤 H A mem run)) (known-with : Triple 𝓤 (𝓣 .C #held·new-with) (With 𝓤 H A mem run)) where
+module _ {M : Type 1} (𝓤 : URA M) (H : Heap 𝓤) (A : Atoms 𝓤) (W : Given 𝓤 H A) (mem : Memory → SProp 𝓤) (run : Routine → Fun 𝓤) (𝓣 : Tables 𝓤 H) (known-unused : Triple 𝓤 (𝓣 .C #held·unused) (Unused 𝓤 H A mem run)) (known-use : Triple 𝓤 (𝓣 .C #held·in-use) (InUse 𝓤 H A mem run)) (known : Triple 𝓤 (𝓣 .C #recv-new·make-new) (Call 𝓤 H A mem run)) (known-with : Triple 𝓤 (𝓣 .C #held·new-with) (With 𝓤 H A mem run)) where
   here-walks : Walks 𝓤 H A here.ended stayed (WpFn 𝓤 H (𝓣 .C) (𝓣 .Λ) code.function) (here.clauses 𝓤 H A mem run)
   here-walks = walked 𝓤 H A here.ended stayed (here.clauses 𝓤 H A mem run) (WpFn 𝓤 H (𝓣 .C) (𝓣 .Λ) code.function) (λ κs. (uint-vals w64, (slice-vals, tt))) (λ κs. (uint-tells w64, (shr-slice-tells (named 0) (κs .0) u8, tt)))
       (λ κs qs bounds a g are. via 𝓤 _ (fst∗ 𝓤 _ (emp 𝓤))
@@ -196,5 +196,5 @@ make-held-spec 𝓤 H 𝓜 𝓖 𝓡 =
     (here-meets 𝓤 H (𝓖 .A) (givenOf 𝓤 H 𝓜 𝓖) (𝓜 .mem) (𝓡 .run) (tablesOf 𝓤 H 𝓜 (tables 𝓤 H 𝓜 𝓡 code.env))
     (cited 𝓤 H (Unused 𝓤 H (𝓖 .A) (𝓜 .mem) (𝓡 .run)) 𝓜 𝓡 code.env #held·unused unused-def.routine code.calls-held·unused (unused-thm.met 𝓤 H 𝓜 𝓖 𝓡))
     (cited 𝓤 H (InUse 𝓤 H (𝓖 .A) (𝓜 .mem) (𝓡 .run)) 𝓜 𝓡 code.env #held·in-use in-use-def.routine code.calls-held·in-use (in-use-thm.met 𝓤 H 𝓜 𝓖 𝓡))
-    (cited 𝓤 H (Call 𝓤 H (𝓖 .A) (𝓜 .mem) (𝓡 .run)) 𝓜 𝓡 code.env #recv-queue·making·make-new make-def.routine code.calls-recv-queue·making·make-new (make-thm.met 𝓤 H 𝓜 𝓖 𝓡))
+    (cited 𝓤 H (Call 𝓤 H (𝓖 .A) (𝓜 .mem) (𝓡 .run)) 𝓜 𝓡 code.env #recv-new·make-new make-def.routine code.calls-recv-new·make-new (make-thm.met 𝓤 H 𝓜 𝓖 𝓡))
     (cited 𝓤 H (With 𝓤 H (𝓖 .A) (𝓜 .mem) (𝓡 .run)) 𝓜 𝓡 code.env #held·new-with with-def.routine code.calls-held·new-with (with-thm.met 𝓤 H 𝓜 𝓖 𝓡)))

@@ -50,7 +50,7 @@ use Rattle.recv_queue.specs.declared.receiving.Received.{Received}
 use Rattle.held.specs.declared.HeldReceived.{HeldReceived}
 use Rattle.held.specs.Held.{heldCells, receivedWith}
 use Rattle.held.proofs.Said.{ReceiveSays, received-held}
-use Rattle.recv_queue.proofs.Order.{var, gone1}
+use Rattle.recv_new.proofs.Order.{var, gone1}
 use Rattle.held.proofs.Prefix.{lending-first, returned-first}
 use Rattle.held.proofs.Calls.{InUse, calls-use}
 use Rattle.held.proofs.Receives.{Call, calls-receive}

@@ -51,7 +51,7 @@ use Rattle.takes.specs.declared.Take.{Take}
 use Rattle.held.specs.declared.HeldTake.{HeldTake}
 use Rattle.held.specs.Held.{heldCells, takenWith}
 use Rattle.held.proofs.Said.{TakeSays, taken-held}
-use Rattle.recv_queue.proofs.Order.{var, gone1}
+use Rattle.recv_new.proofs.Order.{var, gone1}
 use Rattle.held.proofs.Prefix.{lending-first, returned-first}
 use Rattle.held.proofs.Calls.{InUse, calls-use}
 use Rattle.held.proofs.Takes.{Call, calls-take}

@@ -1,5 +1,5 @@
 use mathlib.Core.Path.{refl}
-use Rattle.pass.specs.Work.{nextIn}
+use Rattle.recv.specs.Queue.{nextIn}
 use borrow.Author.Needs.{needs}
 use Rattle.pass.proofs.next_of.Statement.{statement}
 use Rattle.pass.proofs.next_of.Tie as tie

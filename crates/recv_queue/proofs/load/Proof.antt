@@ -47,9 +47,9 @@ use Rattle.rows.specs.Rows.{rowWords}
 use Rattle.slots.specs.Widths.{blank, FitTo}
 use Rattle.recv_queue.specs.Records.{rowOf, putRow, loaded}
 use Rattle.recv_queue.proofs.Loaded.{loaded-none, loaded-length, loaded-more, fit-more}
-use Rattle.recv_queue.proofs.Order.{entry, var, gone1}
-use Rattle.recv_queue.proofs.Lent.{lending, returned}
-use Rattle.recv_queue.proofs.Counting.{Turn, counts, holds, fails}
+use Rattle.recv_new.proofs.Order.{entry, var, gone1}
+use Rattle.recv_new.proofs.Lent.{lending, returned}
+use Rattle.recv_new.proofs.Counting.{Turn, counts, holds, fails}
 use Rattle.recv_queue.proofs.Elements.{RecordAt, PutCell, calls-record-at, calls-put-cell}
 use Rattle.recv_queue.proofs.record_at.Symbol as record-at-def
 use Rattle.recv_queue.proofs.record_at.Symbol.{name as #recv-queue·record-at}

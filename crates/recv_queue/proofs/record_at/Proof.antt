@@ -39,7 +39,7 @@ use Rattle.cells.specs.declared.CellRecord.{CellRecord}
 use Rattle.slots.specs.Widths.{blank}
 use Rattle.cells.proofs.CellRecord as C
 use Rattle.cells.proofs.CellRecord.Laws as C′
-use Rattle.recv_queue.proofs.Offset.{recordBytes, offset-fits}
+use Rattle.recv_new.proofs.Offset.{recordBytes, offset-fits}
 use Rattle.recv_queue.proofs.record_at.Key.{name as #recv-queue·record-at}
 use Rattle.recv_queue.proofs.record_at as record-at
 use Rattle.recv_queue.proofs.record_at.Statement as stated

@@ -46,10 +46,11 @@ use Rattle.cells.proofs.CellRecord.Laws as C′
 use Rattle.rows.specs.Rows.{rowWords, rowAt}
 use Rattle.recv_queue.specs.Records.{cut, saved}
 use Rattle.recv_queue.proofs.Saved.{saved-none, saved-length, saved-more}
-use Rattle.recv_queue.proofs.Order.{entry, var, gone1}
-use Rattle.recv_queue.proofs.Lent.{lending, returned}
-use Rattle.recv_queue.proofs.Counting.{Turn, counts, holds, fails}
-use Rattle.recv_queue.proofs.Elements.{CellAt, PutRecord, calls-cell-at, calls-put-record}
+use Rattle.recv_new.proofs.Order.{entry, var, gone1}
+use Rattle.recv_new.proofs.Lent.{lending, returned}
+use Rattle.recv_new.proofs.Counting.{Turn, counts, holds, fails}
+use Rattle.recv_new.proofs.Elements.{PutRecord, calls-put-record}
+use Rattle.recv_queue.proofs.Elements.{CellAt, calls-cell-at}
 use Rattle.recv_queue.proofs.cell_at.Symbol as cell-at-def
 use Rattle.recv_queue.proofs.cell_at.Symbol.{name as #recv-queue·cell-at}
 use Rattle.recv_queue.proofs.cell_at.Met as cell-at-thm

@@ -18,13 +18,11 @@ free-ready-spec = tie.close (tie.spec
     μ-loop
     (λ c. sweep-starts _ _)
     (λ c κs. tt)
-    (λ c κs. tt)
-    (λ c κs. tt)
     (λ c. omega arith)
     (λ c. omega arith)
     (λ c.
-    let put = c .before .before in
-    let test = put .before .before .before .before .before in
-    sweep-goes (test .before .loop .inv) (test .loop-test .taken) (put .before .before .before .whole-row .ensures) (put .before .freed-row .ensures) (put .put-row .kept .0) (put .put-row .ensures))
+    let step = c .before .before in
+    let test = step .before .before in
+    sweep-goes (test .before .loop .inv) (test .loop-test .taken) (step .free-row .kept .0) (step .free-row .ensures))
     (λ c. c .before .loop .inv .long)
     (λ c. sweep-ends _ _ (c .before .loop .inv) (c .loop-test .left)))

@@ -5,7 +5,8 @@ use native.Mathlib.Omega.{arith}
 use Rattle.base.specs.Lists.{every}
 use Rattle.rows.specs.Rows.{cellsIn}
 use Rattle.rows.proofs.Below.{cellsBelow}
-use Rattle.sound.specs.Counted.{nextIn, countedCell}
+use Rattle.recv.specs.Queue.{nextIn}
+use Rattle.sound.specs.Counted.{countedCell}
 use Rattle.sound.proofs.Scans.{every-none, every-pass, every-fail, sound-end, sound-fail}
 use Rattle.sound.proofs.by_pairs.Statement.{statement}
 use Rattle.sound.proofs.by_pairs.Tie as tie

@@ -1,6 +1,6 @@
 use mathlib.Core.Path.{refl}
 use borrow.Author.Needs.{needs}
-use Rattle.sound.specs.Counted.{nextIn}
+use Rattle.recv.specs.Queue.{nextIn}
 use Rattle.sound.proofs.next_in.Statement.{statement}
 use Rattle.sound.proofs.next_in.Tie as tie
 

@@ -23,7 +23,7 @@ ghost use Rattle.base.specs.Limits.{maxCells};
 ghost use Rattle.base.specs.Lists.{below};
 ghost use Rattle.cells.specs.Sound.{soundCells};
 ghost use Rattle.rows.specs.Rows.{rowCount, cellOf, cellsIn};
-ghost use Rattle.sound.specs.Counted.{nextIn};
+ghost use Rattle.recv.specs.Queue.{nextIn};
 ghost use Rattle.sound.specs.Sorted.{isOwn, isLed, isPlaced, counted, tallied, isDue};
 
 // Up to so many rows the test by pairs is the quicker one, as measured.

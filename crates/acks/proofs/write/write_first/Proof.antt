@@ -1,4 +1,4 @@
-use Rattle.acks.proofs.ForBase.{part-count}
+use Rattle.recv.proofs.Parts.{part-count}
 use borrow.Author.Needs.{needs}
 use Rattle.acks.proofs.write.write_first.Statement.{statement}
 use Rattle.acks.proofs.write.write_first.Tie as tie

@@ -1,4 +1,4 @@
-use Rattle.acks.proofs.ForBase.{part-count}
+use Rattle.recv.proofs.Parts.{part-count}
 use Rattle.acks.proofs.WriteCases.{first-sendable, first-answer, first-written, sorted-first, sorted-room}
 use borrow.Author.Needs.{needs}
 use Rattle.acks.proofs.write.write_sorted.Statement.{statement}

@@ -11,11 +11,11 @@ ghost use mathlib.Core.Path.{_≡_};
 ghost use mathlib.Core.Bool.{true};
 ghost use mathlib.Core.List.{_++_, map};
 ghost use Prim.Native.Nat.{_<_, _≤_};
-ghost use lib.ListN.{drop};
+ghost use lib.ListN.{drop, set};
 ghost use Rattle.base.specs.Limits.{maxCells, numbers24};
 ghost use Rattle.rows.specs.Rows.{rowCount, rowsOf, cellsIn};
-ghost use Rattle.rows.specs.Whole.{rest};
-ghost use Rattle.slots.specs.Widths.{rowsIn, firstCells, FitTo};
+ghost use Rattle.rows.specs.Whole.{wholeRow, rest};
+ghost use Rattle.slots.specs.Widths.{firstCells, FitTo};
 ghost use Rattle.recv.specs.Receive.{isDatagram, numberOf, soundCall, receiveOf};
 ghost use Rattle.pass.specs.Outcome.{outcome, rowsSaved};
 ghost use Rattle.pass.specs.Receives.{refusal, acceptance, Receives, Headed, Numbered, Within, stored, begunRows, begunPass};
@@ -30,19 +30,8 @@ pub fn receive_rows(
 ) -> ReceivedRows
     ensures { λ r. ⌜ (outcome r (firstCells (r .rows) (now (words .exit)) ++ drop (r .rows) (firstCells n (now (words .entry)))) (now (store .exit)) ≡ receiveOf queue (firstCells n (now (words .entry))) (now (store .entry)) (now (datagram .entry))) × (r .rows ≡ rowsSaved (r .answer) n) × (FitTo n (firstCells n (now (words .entry))) → FitTo (r .rows) (firstCells (r .rows) (now (words .exit)))) ⌝ }
 {
-    let m = rows_in(n, words.len());
+    let m = slots::rows_in(n, words.len());
     receive_all(queue, &mut words[..ROW * m], n, store, datagram)
-}
-
-// How many rows of n stand whole in so many words.
-fn rows_in(n: usize, words: usize) -> usize
-    ensures { λ r. ⌜ r ≡ rowsIn n words ⌝ }
-{
-    let m = words / ROW;
-    if m < n {
-        return m;
-    }
-    n
 }
 
 fn refuse(queue: RecvQueue, answer: Receive) -> ReceivedRows
@@ -169,8 +158,7 @@ fn receive_frames(
     ensures { λ r. ⌜ Receives queue (now (words .entry)) n (now (store .entry)) (now (datagram .entry)) r (now (words .exit)) (now (store .exit)) ⌝ }
 {
     let begun = begin(queue, words);
-    let k = super::rows_needed(words, datagram);
-    let pass = super::frames_in(words, k, begun, datagram);
+    let pass = super::frames(words, begun, datagram);
     if pass.full == 1 {
         return refuse(queue, Receive::NoRoom);
     }
@@ -206,7 +194,17 @@ fn stored_row(r: Row) -> Row
     Row { place: 0, ..r }
 }
 
-// Every body stands in the store.
+fn clear_place(words: &mut [u32], i: usize)
+    ensures is { λ _. ⌜ rowsOf (now (words .exit)) ≡ set (rowsOf (now (words .entry))) i (stored (wholeRow (now (words .entry)) i)) ⌝ }
+    ensures rest { λ _. ⌜ rest (now (words .exit)) ≡ rest (now (words .entry)) ⌝ }
+{
+    let r = rows::whole_row(words, i);
+    if 0 < r.place {
+        rows::put_row(words, i, stored_row(r));
+    }
+}
+
+// Every body stands in the store. Rows that were read from records have place 0 already, and are not written.
 fn clear_places(words: &mut [u32])
     ensures is { λ _. ⌜ rowsOf (now (words .exit)) ≡ map stored (rowsOf (now (words .entry))) ⌝ }
     ensures rest { λ _. ⌜ rest (now (words .exit)) ≡ rest (now (words .entry)) ⌝ }
@@ -214,8 +212,7 @@ fn clear_places(words: &mut [u32])
     let n = words.len() / ROW;
     let mut i = 0;
     while i < n {
-        let r = rows::whole_row(words, i);
-        rows::put_row(words, i, stored_row(r));
+        clear_place(words, i);
         i += 1;
     }
 }
@@ -242,7 +239,7 @@ fn accept(
         unsent: unsent,
         pending: queue.pending,
     };
-    let after = acks::with_number(joined, number);
+    let after = unsent::with_number(joined, number);
     ReceivedRows {
         answer: Receive::Accepted {
             ready: pass.ready,

@@ -3,7 +3,7 @@ use mathlib.Core.Bool.{true}
 use Prim.Native.Nat.{_≤_, _-_}
 use native.Mathlib.Omega.{arith}
 use Rattle.base.specs.Lists.{below}
-use Rattle.sound.specs.Counted.{nextIn}
+use Rattle.recv.specs.Queue.{nextIn}
 use Rattle.sound.specs.Sorted.{isPlaced}
 use Rattle.sound.proofs.Numbered.{all-none, all-pass, all-fail, all-end}
 use Rattle.sound.proofs.entries.sorted.all_placed.Statement.{statement}

@@ -9,16 +9,12 @@ use Rattle.pass.proofs.steps.datagram.receive.receive_frames.Tie as tie
 begin-requires : tie.Need-begin-requires
 begin-requires c κs = few-rows _ _ _ _ _ (c .before .before .before .before .pre)
 
-rows-needed-requires : tie.Need-rows-needed-requires
-rows-needed-requires c κs = search needs
-
-frames-in-requires : tie.Need-frames-in-requires
-frames-in-requires c κs =
-    let needed = c .before in
-    let begun = needed .before .before .before .before in
+frames-requires : tie.Need-frames-requires
+frames-requires c κs =
+    let begun = c .before .before .before in
     let start = begun .before .before .before .before .before in
     let own = start .good .0 .1 .1 .1 in
-    (may-begin _ _ _ _ _ (start .pre) (length-told (λ (b : ℕ). b) (start .args .queue .reliables .bits) (own .0 .1 .1 .1 .0 .1 .0 .1)) (length-told (channel.the-type .to) (start .args .queue .channels) (own .1 .0 .1 .0 .1)) (begun .begin .ensures .0) (begun .begin .ensures .1), needed .rows-needed .ensures)
+    (may-begin _ _ _ _ _ (start .pre) (length-told (λ (b : ℕ). b) (start .args .queue .reliables .bits) (own .0 .1 .1 .1 .0 .1 .0 .1)) (length-told (channel.the-type .to) (start .args .queue .channels) (own .1 .0 .1 .0 .1)) (begun .begin .ensures .0) (begun .begin .ensures .1))
 
 refuse-requires : tie.Need-refuse-requires
 refuse-requires c κs = search needs
@@ -29,16 +25,16 @@ same-length c = search needs
 returns : tie.Need-returns
 returns c =
     let framed = c .before .before .before .before .before in
-    let begun = framed .before .before .before .before .before .before in
+    let begun = framed .before .before .before .before in
     let start = begun .before .before .before .before .before in
-    ran-out _ _ _ _ _ (start .pre) _ (begun .begin .ensures .0) (begun .begin .ensures .1) (framed .frames-in .ensures) _ (c .before .if1 .taken) (c .refuse .ensures)
+    ran-out _ _ _ _ _ (start .pre) _ (begun .begin .ensures .0) (begun .begin .ensures .1) (framed .frames .ensures) _ (c .before .if1 .taken) (c .refuse .ensures)
 
 flush-requires : tie.Need-flush-requires
 flush-requires c κs =
     let framed = c .before .before .before .before .before .before in
-    let begun = framed .before .before .before .before .before .before in
+    let begun = framed .before .before .before .before in
     let start = begun .before .before .before .before .before in
-    let may = may-flush _ _ _ _ _ (start .pre) _ (begun .begin .ensures .0) (begun .begin .ensures .1) (framed .frames-in .ensures) (framed .frames-in .kept .0 ∙ begun .begin .kept .1 .0) in
+    let may = may-flush _ _ _ _ _ (start .pre) _ (begun .begin .ensures .0) (begun .begin .ensures .1) (framed .frames .ensures) (framed .frames .kept .0 ∙ begun .begin .kept .1 .0) in
     (may .0, (may .1, may .2))
 
 sweep-requires : tie.Need-sweep-requires
@@ -51,8 +47,8 @@ same-length-2 : tie.Need-same-length-2
 same-length-2 c =
     let swept = c .before .before .before in
     let framed = swept .before .before .before .before .before .before .before .before .before .before .before in
-    let begun = framed .before .before .before .before .before .before in
-    swept .sweep .kept .0 ∙ (framed .frames-in .kept .0 ∙ begun .begin .kept .1 .0)
+    let begun = framed .before .before .before .before in
+    swept .sweep .kept .0 ∙ (framed .frames .kept .0 ∙ begun .begin .kept .1 .0)
 
 same-length-3 : tie.Need-same-length-3
 same-length-3 c = search needs
@@ -63,11 +59,11 @@ returns-2 c =
     let flushed = swept .before .before .before .before in
     let chosen = flushed .before .before .before in
     let framed = chosen .before .before .before .before in
-    let begun = framed .before .before .before .before .before .before in
+    let begun = framed .before .before .before .before in
     let start = begun .before .before .before .before .before in
     let own = start .good .0 .1 .1 .1 in
-    let made = framed .frames-in .ok .1 .1 .1 in
-    is-accepted _ _ _ _ _ (start .pre) _ (begun .begin .ensures .0) (begun .begin .ensures .1) (framed .frames-in .ensures) _ (framed .frames-in .kept .0 ∙ begun .begin .kept .1 .0) (length-told (channel.the-type .to) (start .args .queue .channels) (own .1 .0 .1 .0 .1)) (length-told (channel.the-type .to) (framed .frames-in .result .channels) (made .0 .1 .0 .1))
+    let made = framed .frames .ok .1 .1 .1 in
+    is-accepted _ _ _ _ _ (start .pre) _ (begun .begin .ensures .0) (begun .begin .ensures .1) (framed .frames .ensures) _ (framed .frames .kept .0 ∙ begun .begin .kept .1 .0) (length-told (channel.the-type .to) (start .args .queue .channels) (own .1 .0 .1 .0 .1)) (length-told (channel.the-type .to) (framed .frames .result .channels) (made .0 .1 .0 .1))
     (swept .sweep .ensures .0) _ (chosen .if1 .left) (flushed .flush .ensures) (c .accept .ensures)
 
 pub receive-frames-spec : {M : Type 1} → statement M
@@ -75,8 +71,7 @@ receive-frames-spec =
     tie.close
     (tie.spec
     begin-requires
-    rows-needed-requires
-    frames-in-requires
+    frames-requires
     refuse-requires
     same-length
     returns

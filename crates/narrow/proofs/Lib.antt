@@ -1,0 +1,9 @@
+pub mod Unused
+pub mod Sound
+pub mod Beside
+pub mod Prefix
+pub mod Datagrams
+pub mod ReceiveFirst
+pub mod ReceiveParts
+pub mod TakeFirst
+pub mod TakeParts

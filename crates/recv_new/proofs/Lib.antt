@@ -1,0 +1,10 @@
+pub mod Order
+pub mod Lent
+pub mod Offset
+pub mod Counting
+pub mod Puts
+pub mod Cleared
+pub mod Elements
+pub mod Calls
+pub mod Cases
+pub mod Begins

@@ -1,0 +1,108 @@
+// Make new: a receiver over lent records and a lent store.
+use cells::CellRecord;
+use recv::Channel;
+use recv::RecvQueue;
+use window::ReliableWindow;
+ghost use mathlib.Core.Path.{_≡_};
+ghost use Prim.Native.Nat.{_<_, _≤_};
+ghost use lib.ListN.{length, set};
+ghost use Rattle.slots.specs.Widths.{blank};
+ghost use Rattle.recv.specs.Queue.{newQueue};
+ghost use Rattle.recv_new.specs.New.{cellsMade, madeOf, madeNew, makeNewOf, cleared};
+
+// BadLengths is document 01's 9.
+pub enum MakeNew {
+    BadLengths,
+    Made,
+}
+
+// An enum can't hold the receiver, so it stands beside the answer.
+pub struct NewReceiver {
+    pub answer: MakeNew,
+    pub queue: RecvQueue,
+}
+
+// "old records aren't looked at, all become unused"
+pub fn make_new(records: &mut [CellRecord], store: &[u8]) -> NewReceiver
+    ensures { λ r. ⌜ madeNew r (now (records .exit)) ≡ makeNewOf (now (records .entry)) (now (store .entry)) ⌝ }
+{
+    let n = cells_made(records.len(), store.len());
+    clear(records, n);
+    made_of(n)
+}
+
+// How many cells the new receiver has: one for each record, or none where the lengths do not fit.
+fn cells_made(records: usize, store: usize) -> usize
+    ensures { λ r. ⌜ (r ≡ cellsMade records store) × (r ≤ records) ⌝ }
+{
+    if sound_call::lengths_fit(records, store) {
+        return records;
+    }
+    0
+}
+
+// The answer where the new receiver has so many cells.
+fn made_of(cells: usize) -> NewReceiver
+    ensures { λ r. ⌜ r ≡ madeOf cells ⌝ }
+{
+    if cells == 0 {
+        return NewReceiver {
+            answer: MakeNew::BadLengths,
+            queue: new_queue(),
+        };
+    }
+    NewReceiver {
+        answer: MakeNew::Made,
+        queue: new_queue(),
+    }
+}
+
+// "At first each next is 0 and all else is empty."
+fn new_queue() -> RecvQueue
+    ensures { λ r. ⌜ r ≡ newQueue ⌝ }
+{
+    RecvQueue {
+        datagrams: ReliableWindow::new(),
+        reliables: ReliableWindow::new(),
+        channels: [Channel { next: 0 }; 32],
+        unsent: [0u32; 1024],
+        pending: 0,
+    }
+}
+
+// The first n records become unused.
+fn clear(records: &mut [CellRecord], n: usize)
+    requires { ⌜ n ≤ length (now records) ⌝ }
+    ensures { λ _. ⌜ now (records .exit) ≡ cleared (now (records .entry)) n ⌝ }
+{
+    let r = unused();
+    let mut i: usize = 0;
+    while i < n {
+        put_record(records, i, r);
+        i = i + 1;
+    }
+}
+
+fn unused() -> CellRecord
+    ensures { λ r. ⌜ r ≡ blank ⌝ }
+{
+    CellRecord {
+        used: 0,
+        kind: 0,
+        channel: 0,
+        id: 0,
+        index: 0,
+        count: 0,
+        length: 0,
+        sequence: 0,
+        order: 0,
+        turn: 0,
+    }
+}
+
+fn put_record(records: &mut [CellRecord], i: usize, r: CellRecord)
+    requires { ⌜ i < length (now records) ⌝ }
+    ensures { λ _. ⌜ now (records .exit) ≡ set (now (records .entry)) i r ⌝ }
+{
+    records[i] = r;
+}

@@ -1,0 +1,27 @@
+use borrow.Author.Needs.{needs}
+use Rattle.base.proofs.Ifs.{ifs, by-ifs}
+use Rattle.frame.specs.Frames.{readFramesOf}
+use Rattle.recv_queue.specs.Call.{receiveNeeds}
+use Rattle.recv_queue.proofs.Needs.{room-read}
+use Rattle.recv_queue.proofs.receiving.needed.Statement.{statement}
+use Rattle.recv_queue.proofs.receiving.needed.Tie as tie
+
+lengths-fit-requires : tie.Need-lengths-fit-requires
+lengths-fit-requires c κs = search needs
+
+read-frames-requires : tie.Need-read-frames-requires
+read-frames-requires c κs = search needs
+
+with-room-requires : tie.Need-with-room-requires
+with-room-requires c κs = search needs
+
+returns : tie.Need-returns
+unfolding receiveNeeds
+returns c = search (needs, ifs, by-ifs, room-read)
+
+returns-2 : tie.Need-returns-2
+unfolding receiveNeeds
+returns-2 c = search (needs, ifs, by-ifs)
+
+pub needed-spec : {M : Type 1} → statement M
+needed-spec = tie.close (tie.spec lengths-fit-requires read-frames-requires with-room-requires returns returns-2)
