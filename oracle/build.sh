@@ -6,8 +6,8 @@
 # Every original that is used is copied as it is and compared afterwards; a line with its sha256 is printed for each. The crate that the
 # originals lean on, binary_util, is not at hand: shim/ has its names, and every body there panics.
 #
-# Then our static library (rt staticlib exports), where `rt` is on PATH and target/staticlib/libexports.a isn't there yet, and the driver, which
-# links both: BUILD/compare.
+# Then our two static libraries (`rt staticlib exports`, `rt staticlib exports_queue`), where they are missing or older than the code, and the
+# driver, which links all: BUILD/compare.
 # RUSTC_FLAGS="-C overflow-checks=on" builds an oracle that stops at any overflow.
 set -eu
 HERE=$(cd "$(dirname "$0")" && pwd)
@@ -51,7 +51,9 @@ $RC -A warnings --crate-type rlib --crate-name rak_rs "$B/lib/lib.rs" --out-dir 
 echo "built $B/librak_rs.rlib"
 
 OURS="$ROOT/target/staticlib"
-[ -f "$OURS/libexports.a" ] || (cd "$ROOT" && rt staticlib exports)
+for c in exports exports_queue; do
+  [ -f "$OURS/lib$c.a" ] && [ -z "$(find "$ROOT/crates" -name '*.rt' -newer "$OURS/lib$c.a" | head -n 1)" ] || (cd "$ROOT" && rt staticlib $c)
+done
 $RC --crate-name compare "$HERE/driver/main.rs" -o "$B/compare" -L "$B" --extern rak_rs="$B/librak_rs.rlib" \
-    -L "native=$OURS" -l static=exports
+    -L "native=$OURS" -l static=exports -l static=exports_queue
 echo "built $B/compare"

@@ -5,7 +5,7 @@ use rak_rs::oracle::{FragmentQueue, ReliableWindow};
 
 const LOW: u8 = 2;
 
-fn item(out: &mut Vec<u8>, tag: u8, payload: &[u8]) {
+pub fn item(out: &mut Vec<u8>, tag: u8, payload: &[u8]) {
     out.push(tag);
     out.extend_from_slice(&(payload.len() as u16).to_be_bytes());
     out.extend_from_slice(payload);

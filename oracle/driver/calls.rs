@@ -1,90 +1,68 @@
-//! Our receiver, as program `calls`: a list of calls goes in, and a line comes out for each.
-use std::io::{Read, Write};
-use std::process::{Command, Stdio};
+//! Our receiver's answers to a list of calls, and what the original lets expect of them.
+use crate::ours::{Receiver, Report};
+
+/// A message of 1,024 pieces has room in it.
+pub const JOINING_ROOM: usize = 1024 * 1500;
 
 #[derive(Clone, Debug)]
 pub enum Call {
     Receive(Vec<u8>),
-    Take(u16),
-    Unsent(u16),
-    Missing(u16),
+    Take,
+    Unsent,
+    Missing,
 }
 
-/// What a line must say. `calls` tells more than the original does: those words are free.
+#[derive(Debug)]
+pub enum Answer {
+    Report(Report),
+    Bytes(Vec<u8>),
+    Refused(u32),
+}
+
+/// What an answer must be. Ours tells more than the original does: that is free.
 #[derive(Clone, Debug, PartialEq)]
 pub enum Expected {
     /// messages made ready; no byte is left
     Received { ready: usize },
     /// messages made ready, and frames dropped
     Counted { ready: usize, dropped: usize },
-    Taken { body: Vec<u8> },
-    Written { letter: char, bytes: Vec<u8> },
-    Refused { letter: char, number: u32 },
-}
-
-impl Call {
-    fn write(&self, out: &mut Vec<u8>) {
-        let (tag, n, bytes): (u8, u16, &[u8]) = match self {
-            Call::Receive(bytes) => (0, bytes.len() as u16, bytes),
-            Call::Take(n) => (1, *n, &[]),
-            Call::Unsent(n) => (2, *n, &[]),
-            Call::Missing(n) => (3, *n, &[]),
-        };
-        out.push(tag);
-        out.extend_from_slice(&n.to_be_bytes());
-        out.extend_from_slice(bytes);
-    }
-}
-
-/// The sum that `calls` prints of bytes that it hands out.
-fn sum(bytes: &[u8]) -> u32 {
-    bytes.iter().fold(1, |h, &b| (31 * h + b as u32) % 65521)
+    /// the bytes taken or written
+    Bytes(Vec<u8>),
+    Refused(u32),
 }
 
 impl Expected {
-    pub fn holds(&self, line: &str) -> bool {
-        let words: Vec<&str> = line.split(' ').collect();
-        let is = |i: usize, n: usize| words.get(i).and_then(|w| w.parse().ok()) == Some(n);
-        let accepted = |letter: &str| words[0] == letter && is(1, 0);
-        match self {
-            Expected::Received { ready } => accepted("r") && is(2, *ready) && is(4, 0),
-            Expected::Counted { ready, dropped } => accepted("r") && is(2, *ready) && is(3, *dropped) && is(4, 0),
-            Expected::Taken { body } => accepted("t") && is(2, body.len()) && is(3, sum(body) as usize),
-            Expected::Written { letter, bytes } => accepted(&letter.to_string()) && is(2, bytes.len()) && is(3, sum(bytes) as usize),
-            Expected::Refused { letter, number } => words == [letter.to_string(), number.to_string()],
+    fn holds(&self, answer: &Answer) -> bool {
+        match (self, answer) {
+            (Expected::Received { ready }, Answer::Report(r)) => (*ready as u32, 0) == (r.ready, r.left),
+            (Expected::Counted { ready, dropped }, Answer::Report(r)) => (*ready as u32, *dropped as u32, 0) == (r.ready, r.dropped, r.left),
+            (Expected::Bytes(bytes), Answer::Bytes(found)) => bytes == found,
+            (Expected::Refused(number), Answer::Refused(found)) => number == found,
+            _ => false,
         }
     }
 }
 
-/// The lines that the program prints for the calls on a new receiver.
-pub fn run(program: &str, cells: u16, calls: &[Call]) -> Result<Vec<String>, String> {
-    let mut input = cells.to_be_bytes().to_vec();
-    for call in calls {
-        call.write(&mut input);
+impl Call {
+    pub fn answer(&self, receiver: &mut Receiver) -> Answer {
+        let bytes = match self {
+            Call::Receive(datagram) => return receiver.receive(datagram).map_or_else(Answer::Refused, Answer::Report),
+            Call::Take => receiver.take().map(|b| b.to_vec()),
+            Call::Unsent => receiver.write_unsent().map(|b| b.to_vec()),
+            Call::Missing => receiver.write_missing().map(|b| b.to_vec()),
+        };
+        bytes.map_or_else(Answer::Refused, Answer::Bytes)
     }
-    let mut child = Command::new(program)
-        .stdin(Stdio::piped())
-        .stdout(Stdio::piped())
-        .spawn()
-        .map_err(|e| format!("{program}: {e} (rt check calls makes it)"))?;
-    let mut stdin = child.stdin.take().unwrap();
-    let writer = std::thread::spawn(move || stdin.write_all(&input));
-    let mut text = String::new();
-    child.stdout.take().unwrap().read_to_string(&mut text).map_err(|e| e.to_string())?;
-    let _ = writer.join();
-    child.wait().map_err(|e| e.to_string())?;
-    Ok(text.lines().map(|l| l.to_string()).collect())
 }
 
-/// The first call whose line isn't as expected: its place, the call and the line.
-pub fn first_difference(program: &str, cells: u16, calls: &[(Call, Expected)]) -> Result<Option<(usize, String)>, String> {
-    let list: Vec<Call> = calls.iter().map(|c| c.0.clone()).collect();
-    let lines = run(program, cells, &list)?;
-    for (i, (_, expected)) in calls.iter().enumerate() {
-        let line = lines.get(i).map_or("nothing", |l| l);
-        if !expected.holds(line) {
-            return Ok(Some((i, line.to_string())));
+/// The first call on a new receiver whose answer isn't as expected: its place and the answer.
+pub fn first_difference(cells: usize, calls: &[(Call, Expected)]) -> Option<(usize, Answer)> {
+    let mut receiver = Receiver::new(cells, JOINING_ROOM);
+    for (i, (call, expected)) in calls.iter().enumerate() {
+        let answer = call.answer(&mut receiver);
+        if !expected.holds(&answer) {
+            return Some((i, answer));
         }
     }
-    Ok(None)
+    None
 }

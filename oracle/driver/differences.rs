@@ -1,5 +1,4 @@
 //! The intended differences, each on its smallest input: what the original does, run here, and what ours does.
-use crate::calls::{run, Call};
 use crate::datagrams::{Datagram, Fields};
 use crate::lists;
 use crate::ours;
@@ -65,32 +64,34 @@ fn piece(kind: u8, reliable: u32, count: u32, index: u32) -> Fields {
 }
 
 /// What both do with the datagrams, taking all ready after each.
-fn receiver(program: &str, what: &str, datagrams: &[Datagram]) -> Result<(), String> {
+fn receiver(what: &str, datagrams: &[Datagram]) {
     let mut original = RecvQueue::new();
-    let mut told = Vec::new();
-    let mut calls = Vec::new();
+    let mut receiver = ours::Receiver::new(32, 65535);
+    let (mut told, mut answered) = (Vec::new(), Vec::new());
     for d in datagrams {
         let accepted = original.insert(d.original()).is_ok();
         let bodies: Vec<String> = original.flush().iter().map(|b| hex(b)).collect();
         told.push(format!("{}[{}]", if accepted { "" } else { "refused " }, bodies.join(", ")));
-        calls.push(Call::Receive(d.bytes()));
-        calls.extend([Call::Take(65535), Call::Take(65535)]);
+        let report = receiver.receive(&d.bytes());
+        let mut bodies = Vec::new();
+        while let Ok(body) = receiver.take() {
+            bodies.push(hex(body));
+        }
+        answered.push(match report {
+            Ok(r) => format!("[{}], dropped {}", bodies.join(", "), r.dropped),
+            Err(number) => number.to_string(),
+        });
     }
-    calls.push(Call::Missing(65535));
     let mut acks = original.ack_flush();
     acks.sort_unstable();
     let mut nacks = original.nack_queue();
     nacks.sort_unstable();
-    if told.len() > 8 {
-        told = vec![format!("{} datagrams, the last {}", told.len(), told[told.len() - 1])];
-    }
-    let lines = run(program, 32, &calls)?;
-    let last = lines.len().saturating_sub(24);
-    say(what, format!("{}; acknowledged {}, missing {nacks:?}", told.join(" "), acks.len()), lines[last..].join(" | "));
-    Ok(())
+    let last = told.len().saturating_sub(3);
+    let ours = format!("{}; missing {}", answered[last..].join("; "), hex(receiver.write_missing().unwrap_or(&[])));
+    say(what, format!("{}; acknowledged {}, missing {nacks:?}", told[last..].join("; "), acks.len()), ours);
 }
 
-fn receivers(program: &str) -> Result<(), String> {
+fn receivers() {
     let d = |number: u32, frames: Vec<Fields>| Datagram { number, frames };
     let on = |channel: u8, f: Fields| Fields { channel, ..f };
     let cases: Vec<(&str, Vec<Datagram>)> = vec![
@@ -110,12 +111,11 @@ fn receivers(program: &str) -> Result<(), String> {
         ("datagram of 1,501 bytes", vec![d(0, vec![Fields { body: vec![1; 1494], ..Fields::default() }])]),
     ];
     for (what, datagrams) in &cases {
-        receiver(program, what, datagrams)?;
+        receiver(what, datagrams);
     }
-    Ok(())
 }
 
-pub fn all(program: &str) -> Result<(), String> {
+pub fn all() {
     windows();
     list(&[0]);
     list(&[0, 1]);
@@ -127,5 +127,5 @@ pub fn all(program: &str) -> Result<(), String> {
         split(len, mtu);
     }
     let _ = std::panic::take_hook();
-    receivers(program)
+    receivers();
 }

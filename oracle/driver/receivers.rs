@@ -3,7 +3,7 @@
 use crate::calls::{first_difference, Call, Expected};
 use crate::datagrams::{set_bytes, Datagram};
 use crate::random::Random;
-use crate::references::{within, REACH};
+use crate::references::{within, MAX_DATAGRAM, REACH};
 use crate::report::Report;
 use crate::senders::Sender;
 use crate::shrink::smallest;
@@ -40,22 +40,22 @@ impl Original {
             self.accepted.insert(number);
             calls.push((receive, Expected::Received { ready: ready.len() }));
         } else {
-            calls.push((receive, Expected::Refused { letter: 'r', number: refusal }));
+            calls.push((receive, Expected::Refused(refusal)));
         }
-        calls.extend(ready.into_iter().map(|body| (Call::Take(65535), Expected::Taken { body })));
-        calls.push((Call::Take(65535), Expected::Refused { letter: 't', number: 20 }));
+        calls.extend(ready.into_iter().map(|body| (Call::Take, Expected::Bytes(body))));
+        calls.push((Call::Take, Expected::Refused(20)));
         if step.unsent {
             let mut numbers = self.queue.ack_flush();
             numbers.sort_unstable();
             let bytes = set_bytes(0xc0, &numbers);
-            calls.push((Call::Unsent(65535), Expected::Written { letter: 'u', bytes }));
+            calls.push((Call::Unsent, Expected::Bytes(bytes)));
         }
         if step.missing {
             let mut numbers = self.queue.nack_queue();
             numbers.retain(|n| !self.accepted.contains(n));
             numbers.sort_unstable();
             let bytes = set_bytes(0xa0, &numbers);
-            calls.push((Call::Missing(65535), Expected::Written { letter: 'm', bytes }));
+            calls.push((Call::Missing, Expected::Bytes(bytes)));
         }
     }
 }
@@ -94,8 +94,8 @@ fn lesser(step: &Step) -> Vec<Step> {
 }
 
 /// The smallest list within 'References' that still differs.
-fn fails(program: &str, cells: u16, steps: &[Step]) -> String {
-    let differs = |l: &[Step]| within(cells as usize, l) && matches!(first_difference(program, cells, &expected(l)), Ok(Some(_)));
+fn fails(cells: usize, steps: &[Step]) -> String {
+    let differs = |l: &[Step]| within(cells, l) && first_difference(cells, &expected(l)).is_some();
     let mut least = smallest(steps, &differs);
     let mut i = 0;
     while i < least.len() {
@@ -110,37 +110,35 @@ fn fails(program: &str, cells: u16, steps: &[Step]) -> String {
         }
     }
     let calls = expected(&least);
-    match first_difference(program, cells, &calls) {
-        Ok(Some((i, line))) => format!("{cells} cells, {least:?}: {:?} by the original, ours '{line}'", calls[i].1),
-        _ => "receivers: a difference that does not come back".to_string(),
-    }
+    let (i, answer) = first_difference(cells, &calls).unwrap();
+    format!("{cells} cells, {least:?}: {:?} by the original, ours {answer:?}", calls[i].1)
 }
 
-/// How many lines of each sort were compared.
+/// How many answers of each sort were compared.
 fn tally(calls: &[(Call, Expected)], counts: &mut [u64; 5]) {
     for (call, expected) in calls {
         match (call, expected) {
-            (Call::Receive(_), Expected::Refused { .. }) => counts[1] += 1,
+            (Call::Receive(_), Expected::Refused(_)) => counts[1] += 1,
             (Call::Receive(_), _) => counts[0] += 1,
-            (_, Expected::Taken { .. }) => counts[2] += 1,
-            (Call::Unsent(_), _) => counts[3] += 1,
-            (Call::Missing(_), _) => counts[4] += 1,
+            (Call::Take, Expected::Bytes(_)) => counts[2] += 1,
+            (Call::Unsent, _) => counts[3] += 1,
+            (Call::Missing, _) => counts[4] += 1,
             _ => {}
         }
     }
 }
 
-pub fn random(report: &mut Report, r: &mut Random, program: &str, datagrams: u64) -> Result<(), String> {
+pub fn random(report: &mut Report, r: &mut Random, datagrams: u64) -> Result<(), String> {
     let mut counts = [0; 5];
     let mut receivers = 0;
     while counts[0] + counts[1] < datagrams {
-        let cells = *r.pick(&[1, 2, 8, 32, 32, 256]);
-        let mut sender = Sender::new(cells as usize);
+        let cells = *r.pick(&[1, 2, 8, 32, 32, 32, 32, 33, 256, 4096]);
+        let mut sender = Sender::new(cells, MAX_DATAGRAM);
         let steps: Vec<Step> = (0..r.between(1, 3000)).map(|_| sender.step(r)).collect();
-        assert!(within(cells as usize, &steps));
+        assert!(within(cells, &steps));
         let calls = expected(&steps);
-        if first_difference(program, cells, &calls)?.is_some() {
-            return Err(fails(program, cells, &steps));
+        if first_difference(cells, &calls).is_some() {
+            return Err(fails(cells, &steps));
         }
         tally(&calls, &mut counts);
         receivers += 1;

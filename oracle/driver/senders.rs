@@ -2,10 +2,7 @@
 use crate::datagrams::{has_order, has_reliable, Datagram, Fields};
 use crate::random::Random;
 use crate::receivers::Step;
-use crate::references::{Numbers, Session, MAX_DATAGRAM, REACH};
-
-/// Sixty pieces of so many bytes fit the joining buffer that `calls` can lend.
-const MAX_PIECE: usize = 1000;
+use crate::references::{Numbers, Session, REACH};
 
 fn fresh_number(numbers: &Numbers, r: &mut Random) -> u32 {
     let ahead = match r.below(40) {
@@ -41,12 +38,14 @@ fn anything(r: &mut Random) -> Fields {
 
 pub struct Sender {
     session: Session,
+    longest: usize,
     since: usize,
 }
 
 impl Sender {
-    pub fn new(cells: usize) -> Sender {
-        Sender { session: Session::new(cells), since: 0 }
+    /// For a receiver of so many cells, datagrams of up to so many bytes.
+    pub fn new(cells: usize, longest: usize) -> Sender {
+        Sender { session: Session::new(cells), longest, since: 0 }
     }
 
     pub fn step(&mut self, r: &mut Random) -> Step {
@@ -73,7 +72,7 @@ impl Sender {
         let number = fresh_number(&self.session.datagrams, r);
         self.session.takes(&Step { datagram: Datagram { number, frames: Vec::new() }, unsent: true, missing: false });
         let mut left = self.session.cells - self.session.used();
-        let mut room = MAX_DATAGRAM - 4;
+        let mut room = self.longest - 4;
         let mut frames = Vec::new();
         for _ in 0..*r.pick(&[0, 1, 1, 1, 2, 3, 8]) {
             let frame = if r.one_in(10) { self.repeated(r) } else { self.fresh(r, room) };
@@ -101,7 +100,7 @@ impl Sender {
         let piece = if r.one_in(3) { self.piece(r) } else { None };
         let mut f = piece.unwrap_or_else(|| self.whole(r));
         f.reliable = if has_reliable(f.kind) { fresh_number(&self.session.reliables, r) } else { 0 };
-        let most = room.saturating_sub(f.size()).min(if f.piece.is_some() { MAX_PIECE } else { MAX_DATAGRAM });
+        let most = room.saturating_sub(f.size());
         let len = if r.one_in(12) { most } else { r.below(most.min(40) as u32 + 1) as usize };
         f.body = r.bytes(len);
         f
@@ -133,7 +132,7 @@ impl Sender {
         let id = r.below(40) as u16;
         if room > 0 && !open.contains_key(&id) && (ids.is_empty() || r.one_in(4)) {
             let kind = *r.pick(&[0, 1, 2, 4, 5, 6]);
-            let most = room.min(*r.pick(&[3, 10, 60]));
+            let most = room.min(*r.pick(&[3, 3, 10, 60, 1024]));
             let count = r.between(1, most);
             let (order, channel) = if has_order(kind) { (r.below(1 << 24), r.below(32) as u8) } else { (0, 0) };
             let piece = Some((count, id, r.below(count)));

@@ -2,10 +2,9 @@
 use recv::RecvQueue;
 
 mod sort;
-mod write;
 
-pub use write::write_missing;
-pub use write::write_unsent;
+pub use sort::write::write_missing;
+pub use sort::write::write_unsent;
 
 // Refusals: 9, 12.
 pub enum WriteQueue {

@@ -4,15 +4,28 @@
 ghost use mathlib.Core.Path.{_≡_};
 ghost use lib.ListN.{length};
 ghost use Rattle.base.specs.Put.{Run};
+ghost use Rattle.frame.specs.Frames.{readFramesOf};
 ghost use Rattle.window.specs.Window.{newWindow, insertOf, insertAnswer};
 ghost use Rattle.window.specs.Missing as Missing;
 ghost use Rattle.ack.specs.Write.{writeListOf, writtenOf, writeAnswer};
 ghost use Rattle.queue.specs.Split.{pieceOf, pieceAnswer};
-ghost use Rattle.exports.specs.Numbers.{numbered, insertionOf, writtenAnswer, fragmentAnswer};
+ghost use Rattle.recv.specs.Write.{writeUnsentOf, writeMissingOf};
+ghost use Rattle.acks.specs.Wrote.{queueAnswer};
+ghost use Rattle.exports.specs.Numbers.{numbered, framesRead, insertionOf, writtenAnswer, fragmentAnswer, writtenBy};
 use ack::WriteAck;
+use acks::WriteQueue;
+use acks::WroteQueue;
 use queue::Piece;
+use recv::RecvQueue;
 use window::Insert;
 use window::ReliableWindow;
+
+// How many frames were read, and the bytes left.
+#[repr(C)]
+pub struct FramesFound {
+    pub count: usize,
+    pub left: usize,
+}
 
 #[repr(C)]
 pub struct WindowInsert {
@@ -35,6 +48,26 @@ pub struct SplitPiece {
     pub len: usize,
     pub count: u32,
     pub index: u32,
+}
+
+// How many bytes were written, and the receiver afterwards.
+#[repr(C)]
+pub struct QueueWritten {
+    pub number: u32,
+    pub len: usize,
+    pub queue: RecvQueue,
+}
+
+// The frames from place `at` on.
+#[no_mangle]
+pub extern "C" fn poghduka_read_frames(s: &[u8], at: usize) -> FramesFound
+    ensures { λ r. ⌜ framesRead r ≡ readFramesOf (now (s .entry)) at ⌝ }
+{
+    let r = frame::read_frames(s, at);
+    FramesFound {
+        count: r.count,
+        left: r.left,
+    }
 }
 
 #[no_mangle]
@@ -79,6 +112,20 @@ pub extern "C" fn poghduka_split_piece(buffer: &[u8], mtu: u16, k: u32) -> Split
     ensures { λ r. ⌜ fragmentAnswer r ≡ pieceOf (length (now (buffer .entry))) mtu k ⌝ }
 {
     piece_numbers(queue::split_piece(buffer, mtu, k))
+}
+
+#[no_mangle]
+pub extern "C" fn poghduka_write_unsent(queue: RecvQueue, out: &mut [u8]) -> QueueWritten
+    ensures { λ r. ⌜ writtenBy r (now (out .exit)) ≡ writeUnsentOf queue (now (out .entry)) ⌝ }
+{
+    written_told(acks::write_unsent(queue, out))
+}
+
+#[no_mangle]
+pub extern "C" fn poghduka_write_missing(queue: RecvQueue, out: &mut [u8]) -> QueueWritten
+    ensures { λ r. ⌜ writtenBy r (now (out .exit)) ≡ writeMissingOf queue (now (out .entry)) ⌝ }
+{
+    written_told(acks::write_missing(queue, out))
 }
 
 fn insert_number(answer: Insert) -> u32
@@ -138,5 +185,29 @@ fn piece_numbers(piece: Piece) -> SplitPiece
         Piece::FitsOneChunk => no_piece(17),
         Piece::TooManyPieces => no_piece(18),
         Piece::BeyondLast => no_piece(19),
+    }
+}
+
+fn written_told(r: WroteQueue) -> QueueWritten
+    ensures { λ w. ⌜ (numbered (w .number) (w .len) ≡ queueAnswer (r .answer)) × (w .queue ≡ r .queue) ⌝ }
+{
+    let answer = r.answer;
+    let queue = r.queue;
+    match answer {
+        WriteQueue::Written { len: bytes } => QueueWritten {
+            number: 0,
+            len: bytes,
+            queue: queue,
+        },
+        WriteQueue::Unsound => QueueWritten {
+            number: 9,
+            len: 0,
+            queue: queue,
+        },
+        WriteQueue::NoRoom => QueueWritten {
+            number: 12,
+            len: 0,
+            queue: queue,
+        },
     }
 }

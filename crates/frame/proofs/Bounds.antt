@@ -8,7 +8,7 @@ use native.Mathlib.Decide.{ℕ-discrete}
 use native.Mathlib.Omega.{arith}
 use lib.ListN.{getD}
 use Rattle.base.specs.Answer.{gives}
-use Rattle.base.specs.Bytes.{le24, Bytes}
+use Rattle.base.specs.Bytes.{be16, be32, le24, Bytes}
 use Rattle.base.specs.If.{ifTrue, ifEq}
 use Rattle.base.specs.Limits.{numbers24, maxBody}
 use Rattle.base.proofs.Ifs.{eq-yes, eq-no}
@@ -16,12 +16,27 @@ use Rattle.reliability.specs.Kinds.{fieldsOf}
 use Rattle.frame.specs.declared.FragmentMeta.{FragmentMeta}
 use Rattle.frame.specs.declared.Frame.{Frame}
 use Rattle.frame.specs.declared.Placed.{Placed}
-use Rattle.frame.specs.Read.{kindOf, isPiece, numberAt, metaAt, frameAt, placedAt, readFrameOf}
+use Rattle.frame.specs.Read.{maxKind, kindOf, isPiece, numberAt, metaAt, frameAt, placedAt, readFrameOf}
 use Rattle.frame.specs.Frames.{framesOf}
-use Rattle.frame.specs.Valid.{maxKind}
 use Rattle.frame.proofs.FramesOf.{frames-read}
 use Rattle.frame.proofs.Reading.{read-whole}
-use Rattle.frame.proofs.Stands.{le24-small, be16-small, be32-small}
+
+-- ---- a number that was read
+
+module _ (s : List ℕ) (by : Bytes s) (p : ℕ) where
+  pub be16-small : be16 s p < 65536
+  unfolding be16
+  be16-small = omega (arith, by p, by (p + 1))
+
+  pub le24-small : le24 s p < numbers24
+  unfolding le24
+  le24-small = omega (arith, by p, by (p + 1), by (p + 2))
+
+pub be32-small : (s : List ℕ) → Bytes s → (p : ℕ) → be32 s p < 4294967296
+unfolding be32
+be32-small s by p = omega (arith, be16-small s by p, be16-small s by (p + 2))
+
+-- ---- a frame that was read
 
 pub record MetaSmall (m : FragmentMeta) : Type 0 where
   pub count : m .count < 2 ^ 32

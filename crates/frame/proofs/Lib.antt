@@ -1,12 +1,5 @@
-pub mod Stands
-pub mod Rows
 pub mod Reading
 pub mod ReadCases
-pub mod Limits
-pub mod WriteCases
-pub mod WriteThenRead
-pub mod ReadThenWrite
 pub mod FramesOf
 pub mod FramesCases
 pub mod Bounds
-pub mod HeadCases

@@ -16,6 +16,10 @@ use Rattle.frame.specs.declared.Placed.{Placed}
 use Rattle.frame.specs.declared.ReadFrame.{ReadFrame}
 use Rattle.frame.specs.declared.ReadFrame.the-variants.{Whole, Cut}
 
+-- "Kinds 0 to 7"
+abbrev pub maxKind : ℕ
+maxKind = 7
+
 -- "kind in the top three bits"
 abbrev pub kindOf : ℕ → ℕ
 kindOf flags = flags / 32

@@ -1,22 +1,16 @@
-// Frames, as document 01's "Bytes" has them: read from a slice, and written into one; and a datagram's head.
+// Frames, as document 01's "Bytes" has them, read from a slice; `frame_write` writes them.
 ghost use mathlib.Core.Path.{_≡_};
 ghost use Prim.Native.Nat.{_<_};
 ghost use Rattle.frame.specs.Read.{headerSize};
 
 mod frames;
-mod head;
 mod read;
-mod write;
 
 pub use frames::read_frames;
-pub use head::write_head;
 pub use read::read_frame;
-pub use write::write_frame;
 
-// The last kind, and the bytes of a piece's count, id and index.
-const MAX_KIND: u8 = 7;
-
-const META_SIZE: usize = 10;
+// The bytes of a piece's count, id and index.
+pub const META_SIZE: usize = 10;
 
 // Where a piece stands in its message. The Rust's field `size` is document 01's count.
 pub struct FragmentMeta {
@@ -53,20 +47,6 @@ pub enum ReadFrame {
 pub struct FramesRead {
     pub count: usize,
     pub left: usize,
-}
-
-// `OverLimit` is 15, `NoRoom` 12.
-pub enum WriteFrame {
-    Written { next: usize },
-    OverLimit,
-    NoRoom,
-}
-
-// `TooLarge` is 13, `NoRoom` 12.
-pub enum WriteHead {
-    Written,
-    TooLarge,
-    NoRoom,
 }
 
 // The header's bytes: those of the kind's row, and a piece's ten. (Bounds such as these two say only that no sum wraps.)

@@ -19,7 +19,7 @@ use Rattle.recv.specs.Receive.{Received, refusedOf, receiveOf}
 use Rattle.pass.specs.declared.Receive.the-variants.{NotSound}
 use Rattle.pass.specs.declared.ReceivedRows.{ReceivedRows}
 use Rattle.pass.specs.Outcome.{receiveAnswer, unlessAccepted, rowsSaved, outcome}
-use Rattle.pass.specs.Receives.{refusal}
+use Rattle.pass.specs.Receives.{asBefore}
 use Rattle.narrow.specs.Receiving.{withRest, receiveFirst}
 
 -- The part of m records stands in the store of n cells.
@@ -42,15 +42,15 @@ says-rest r k ws ws′ us bytes x (e, n, f) = (rested ∙ ap (withRest bytes) e,
     rested = unfold withRest outcome in refl
 
 -- A refusal 9 leaves all as it was.
-refusal-says : (q : RecvQueue) (k : ℕ) (ws st : List ℕ) → Says (refusal q NotSound) k ws ws st (refusedOf q (firstCells k ws) st 9)
+refusal-says : (q : RecvQueue) (k : ℕ) (ws st : List ℕ) → Says (asBefore q NotSound 0) k ws ws st (refusedOf q (firstCells k ws) st 9)
 unfolding outcome receiveAnswer rowsSaved unlessAccepted refusedOf
 refusal-says q k ws st = (rw (first-none ws), refl, λ f i lt. absurd (omega arith))
 
 says-same : (r : ReceivedRows) (k : ℕ) (ws ws′ st′ : List ℕ) (x y : Received) → Says r k ws ws′ st′ x → x ≡ y → Says r k ws ws′ st′ y
 says-same r k ws ws′ st′ x y (e, n, f) h = (e ∙ h, n, f)
 
-refused-says : (q : RecvQueue) (k : ℕ) (ws st : List ℕ) (y : Received) (r : ReceivedRows) → r ≡ refusal q NotSound → refusedOf q (firstCells k ws) st 9 ≡ y → Says r k ws ws st y
-refused-says q k ws st y r u h = rw u (says-same (refusal q NotSound) k ws ws st (refusedOf q (firstCells k ws) st 9) y (refusal-says q k ws st) h)
+refused-says : (q : RecvQueue) (k : ℕ) (ws st : List ℕ) (y : Received) (r : ReceivedRows) → r ≡ asBefore q NotSound 0 → refusedOf q (firstCells k ws) st 9 ≡ y → Says r k ws ws st y
+refused-says q k ws st y r u h = rw u (says-same (asBefore q NotSound 0) k ws ws st (refusedOf q (firstCells k ws) st 9) y (refusal-says q k ws st) h)
 
 -- The three ways through: b says whether the lengths of all n cells fit, and m is how many records are at hand.
 module _ (q : RecvQueue) (k n : ℕ) (ws st d : List ℕ) {b : Bool} (l : b ≡ lengths n (length st)) where
@@ -59,7 +59,7 @@ module _ (q : RecvQueue) (k n : ℕ) (ws st d : List ℕ) {b : Bool} (l : b ≡ 
   unfit-is e = true-no _ _ _ _ (sym l ∙ e) refl
 
   -- the lengths do not fit
-  pub unfit-says : (r : ReceivedRows) → b ≡ false → r ≡ refusal q NotSound → Says r k ws ws st (receiveFirst q n (firstCells k ws) st d)
+  pub unfit-says : (r : ReceivedRows) → b ≡ false → r ≡ asBefore q NotSound 0 → Says r k ws ws st (receiveFirst q n (firstCells k ws) st d)
   unfit-says r e u = refused-says q k ws st _ r u (unfit-is e)
 
   module _ {m : ℕ} (e : b ≡ true) (are : m ≡ rowsIn k (length ws)) where
@@ -71,7 +71,7 @@ module _ (q : RecvQueue) (k n : ℕ) (ws st d : List ℕ) {b : Bool} (l : b ≡ 
     over-is lt = true-yes _ _ _ _ (sym l ∙ e) (le-no _ _ _ _ _ (rw many lt) refl)
 
     -- there are fewer cells than records at hand
-    pub over-says : (r : ReceivedRows) → n < m → r ≡ refusal q NotSound → Says r k ws ws st (receiveFirst q n (firstCells k ws) st d)
+    pub over-says : (r : ReceivedRows) → n < m → r ≡ asBefore q NotSound 0 → Says r k ws ws st (receiveFirst q n (firstCells k ws) st d)
     over-says r lt u = refused-says q k ws st _ r u (over-is lt)
 
     part-is : m ≤ n → withRest (drop (cellBytes * m) st) (receiveOf q (firstCells k ws) (take (cellBytes * m) st) d) ≡ receiveFirst q n (firstCells k ws) st d

@@ -10,7 +10,7 @@ ghost use Rattle.base.specs.Limits.{cellBytes};
 ghost use Rattle.slots.specs.Widths.{firstCells, FitTo};
 ghost use Rattle.recv.specs.Receive.{receiveOf};
 ghost use Rattle.pass.specs.Outcome.{outcome, rowsSaved};
-ghost use Rattle.pass.specs.Receives.{refusal};
+ghost use Rattle.pass.specs.Receives.{asBefore};
 ghost use Rattle.pass.specs.declared.Receive.the-variants.{NotSound};
 ghost use Rattle.narrow.specs.Receiving.{withRest, receiveFirst};
 
@@ -37,7 +37,7 @@ pub fn receive_first(
 
 // 9.
 fn refuse(queue: RecvQueue) -> ReceivedRows
-    ensures { λ r. ⌜ r ≡ refusal queue NotSound ⌝ }
+    ensures { λ r. ⌜ r ≡ asBefore queue NotSound 0 ⌝ }
 {
     ReceivedRows {
         answer: Receive::NotSound,

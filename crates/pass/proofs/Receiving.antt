@@ -2,7 +2,7 @@
 -- Assumes nothing.
 use Prim.Native.Nat.{ℕ, _≤_, _<_}
 use mathlib.Core.Path.{_≡_, refl, sym, _∙_, ap, subst}
-use mathlib.Core.Bool.{Bool, true, false}
+use mathlib.Core.Bool.{Bool, true, false, false≢true}
 use mathlib.Core.Option.{none}
 use mathlib.Core.List.{List}
 use native.Mathlib.Omega.{arith}
@@ -32,9 +32,9 @@ use Rattle.recv.specs.declared.RecvQueue.{RecvQueue}
 use Rattle.recv.specs.Receive.{isDatagram, numberOf, framesIn, acceptAll, stateOf, acceptedOf, refusedOf, soundCall, receiveOf}
 use Rattle.pass.specs.declared.Receive.{Receive}
 use Rattle.pass.specs.declared.Receive.the-variants as Receive
-use Rattle.pass.specs.declared.ReceivedRows.{ReceivedRows}
+use Rattle.pass.specs.declared.Passed.{Passed}
 use Rattle.pass.specs.Outcome.{receiveAnswer, unlessAccepted, rowsSaved, outcome}
-use Rattle.pass.specs.Receives.{refusal, Receives, Headed, Numbered, Within}
+use Rattle.pass.specs.Receives.{refusal, concluded, Receives, Headed, Numbered, Within}
 
 -- ---- the definition's ways
 
@@ -103,23 +103,23 @@ is-sound q ws st e f = sym e ∙ f
 
 module _ (q : RecvQueue) (ws : List ℕ) (n : ℕ) (st d : List ℕ) where
   refuses : (a : Receive) (number : ℕ) → receiveAnswer a ≡ refused number → receiveOf q (cellsIn ws) st d ≡ refusedOf q (cellsIn ws) st number
-      → {r : ReceivedRows} → r ≡ refusal q a → (ws′ : List ℕ) → Receives q ws n st d r ws′ st
-  unfolding outcome refusedOf rowsSaved unlessAccepted
-  refuses a number t e x ws′ = subst (λ (z : ReceivedRows). Receives q ws n st d z ws′ st) (sym x) (record { is = rw (t, e); rows = rw t; fits = λ v. rw e v })
+      → {r : Passed} → r ≡ refusal q a → (ws′ : List ℕ) → Receives q ws n st d r ws′ st
+  unfolding outcome concluded refusedOf rowsSaved unlessAccepted
+  refuses a number t e x ws′ = subst (λ (z : Passed). Receives q ws n st d z ws′ st) (sym x) (record { is = rw (t, e); rows = rw t; fits = λ v. rw e v; room = λ f. absurd (false≢true f) })
 
   module _ {b : Bool} (e : b ≡ soundCall q (cellsIn ws) st) where
-    pub not-sound : {r : ReceivedRows} → b ≡ false → r ≡ refusal q Receive.NotSound → Receives q ws n st d r ws st
+    pub not-sound : {r : Passed} → b ≡ false → r ≡ refusal q Receive.NotSound → Receives q ws n st d r ws st
     not-sound f x = refuses Receive.NotSound 9 (unfold receiveAnswer in refl) (refused-9 q (cellsIn ws) st d (sym e ∙ f)) x ws
 
   module _ (s : soundCall q (cellsIn ws) st ≡ true) where
-    pub too-short : {r : ReceivedRows} → length d < minDatagram → r ≡ refusal q Receive.TooShort → Receives q ws n st d r ws st
+    pub too-short : {r : Passed} → length d < minDatagram → r ≡ refusal q Receive.TooShort → Receives q ws n st d r ws st
     too-short l x = refuses Receive.TooShort 1 (unfold receiveAnswer in refl) (refused-1 q (cellsIn ws) st d s l) x ws
 
-    pub too-long : {r : ReceivedRows} → minDatagram ≤ length d → maxDatagram < length d → r ≡ refusal q Receive.TooLong → Receives q ws n st d r ws st
+    pub too-long : {r : Passed} → minDatagram ≤ length d → maxDatagram < length d → r ≡ refusal q Receive.TooLong → Receives q ws n st d r ws st
     too-long l m x = refuses Receive.TooLong 2 (unfold receiveAnswer in refl) (refused-2 q (cellsIn ws) st d s l m) x ws
 
     module _ {first : ℕ} {b : Bool} (l : minDatagram ≤ length d) (m : length d ≤ maxDatagram) (i : first ≡ getD d 0 0) (e : b ≡ isDatagram first) where
-      pub not-datagram : {r : ReceivedRows} → b ≡ false → r ≡ refusal q Receive.NotDatagram → Receives q ws n st d r ws st
+      pub not-datagram : {r : Passed} → b ≡ false → r ≡ refusal q Receive.NotDatagram → Receives q ws n st d r ws st
       not-datagram f x = refuses Receive.NotDatagram 3 (unfold receiveAnswer in refl) (refused-3 q (cellsIn ws) st d s l m (sym (ap (λ (k : ℕ). isDatagram k) i) ∙ (sym e ∙ f))) x ws
 
       pub is-headed : b ≡ true → Headed q (cellsIn ws) st d
@@ -132,15 +132,15 @@ module _ (q : RecvQueue) (ws : List ℕ) (n : ℕ) (st d : List ℕ) where
     small : numberOf d < numbers24
     small = rw en at lt
 
-    pub is-old : {r : ReceivedRows} → i .answer ≡ Insert.Old → r ≡ refusal q Receive.Old → Receives q ws n st d r ws st
+    pub is-old : {r : Passed} → i .answer ≡ Insert.Old → r ≡ refusal q Receive.Old → Receives q ws n st d r ws st
     is-old t x = refuses Receive.Old 4 (unfold receiveAnswer in refl) (refused-4 q (cellsIn ws) st d h (answer-4 (q .datagrams) (numberOf d) .0 (answered Insert.Old t) .1)) x ws
 
-    pub is-beyond : {r : ReceivedRows} → i .answer ≡ Insert.Beyond → r ≡ refusal q Receive.Beyond → Receives q ws n st d r ws st
+    pub is-beyond : {r : Passed} → i .answer ≡ Insert.Beyond → r ≡ refusal q Receive.Beyond → Receives q ws n st d r ws st
     is-beyond t x =
         let far = answer-5 (q .datagrams) (numberOf d) .0 (answered Insert.Beyond t) .1 in
         refuses Receive.Beyond 5 (unfold receiveAnswer in refl) (refused-5 q (cellsIn ws) st d h (accepted-above (q .datagrams) (numberOf d) far) (omega arith)) x ws
 
-    pub never-large : {r : ReceivedRows} → i .answer ≡ Insert.TooLarge → Receives q ws n st d r ws st
+    pub never-large : {r : Passed} → i .answer ≡ Insert.TooLarge → Receives q ws n st d r ws st
     never-large t = let large = answer-13 (q .datagrams) (numberOf d) .0 (answered Insert.TooLarge t) in let l = small in absurd (omega arith)
 
     pub is-new : i .answer ≡ Insert.Accepted → Numbered q (cellsIn ws) st d (i .window)
@@ -150,11 +150,11 @@ module _ (q : RecvQueue) (ws : List ℕ) (n : ℕ) (st d : List ℕ) where
         record { head = h; fresh = new .1; near = omega arith; after = ap (λ (z : Insertion). z .window) e ∙ rw en (ap (λ (z : Insertion). z .window) (insert-new (q .datagrams) (numberOf d) small (new .1) le)) }
 
   module _ (w : ReliableWindow) (h : Numbered q (cellsIn ws) st d w) where
-    pub is-full : {r : ReceivedRows} → maxUnsent ≤ q .pending → r ≡ refusal q Receive.UnsentFull → Receives q ws n st d r ws st
+    pub is-full : {r : Passed} → maxUnsent ≤ q .pending → r ≡ refusal q Receive.UnsentFull → Receives q ws n st d r ws st
     is-full u x = refuses Receive.UnsentFull 6 (unfold receiveAnswer in refl) (refused-6 q (cellsIn ws) st d w h u) x ws
 
     module _ (x : Reached) (u : q .pending < maxUnsent) (e : reachedBy x ≡ acceptAll (q .reliables) (framesIn d)) where
-      pub out-of-reach : {r : ReceivedRows} → x .within ≡ 0 → r ≡ refusal q Receive.ReliableBeyond → Receives q ws n st d r ws st
+      pub out-of-reach : {r : Passed} → x .within ≡ 0 → r ≡ refusal q Receive.ReliableBeyond → Receives q ws n st d r ws st
       unfolding reachedBy
       out-of-reach z y = refuses Receive.ReliableBeyond 7 (unfold receiveAnswer in refl) (refused-7 q (cellsIn ws) st d w h u (sym e ∙ (let t = eq-eqb (x .within) 0 z in rw t))) y ws
 
@@ -163,5 +163,5 @@ module _ (q : RecvQueue) (ws : List ℕ) (n : ℕ) (st d : List ℕ) where
       in-reach z by = record { number = h; room = u; reliables = x .window; reaches = sym e ∙ (let t = ne-eqb (x .within) 0 z in rw t); bytes = by }
 
   -- A body found no cell.
-  pub no-room : {r : ReceivedRows} (w : ReliableWindow) → Within q (cellsIn ws) st d w → datagram (stateOf q (cellsIn ws) st) (framesIn d) .full ≡ true → r ≡ refusal q Receive.NoRoom → (ws′ : List ℕ) → Receives q ws n st d r ws′ st
+  pub no-room : {r : Passed} (w : ReliableWindow) → Within q (cellsIn ws) st d w → datagram (stateOf q (cellsIn ws) st) (framesIn d) .full ≡ true → r ≡ refusal q Receive.NoRoom → (ws′ : List ℕ) → Receives q ws n st d r ws′ st
   no-room w h f x ws′ = refuses Receive.NoRoom 8 (unfold receiveAnswer in refl) (refused-8 q (cellsIn ws) st d w h f) x ws′

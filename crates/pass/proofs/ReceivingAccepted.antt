@@ -2,22 +2,23 @@
 -- Assumes nothing.
 use Prim.Native.Nat.{ℕ, suc, _+_, _*_, _≤_, _<_}
 use mathlib.Core.Path.{_≡_, refl, sym, _∙_, ap}
+use mathlib.Core.Bool.{true, false}
 use mathlib.Core.Option.{some}
 use mathlib.Core.List.{List, [], _∷_, map}
 use native.Mathlib.Omega.{arith}
 use native.Mathlib.Nat.{add-zero, zero-add}
+use mir.Syntax.{w32}
+use mir.Val.{Fits}
 use lib.Dec.{eqb}
 use lib.ListN.{length, length-map}
 use borrow.Author.Tests.{eq-eqb, ne-eqb}
 use Rattle.base.specs.Answer.{gives}
 use Rattle.base.specs.Bytes.{le24}
-use Rattle.base.specs.Limits.{maxCells, maxOrdChans, maxUnsent, minDatagram}
+use Rattle.base.specs.Limits.{maxCells, maxOrdChans, maxUnsent}
 use Rattle.base.proofs.Ifs.{le-no}
 use Rattle.window.specs.declared.ReliableWindow.{ReliableWindow}
 use Rattle.window.specs.Window.{accept}
 use Rattle.window.specs.Proper.{Sized}
-use Rattle.frame.specs.declared.FramesRead.{FramesRead}
-use Rattle.frame.specs.Frames.{readFramesOf}
 use Rattle.cells.specs.Datagram.{Work, frames, datagram, end}
 use Rattle.cells.specs.Store.{cellSize, cellsOf, storeOf}
 use Rattle.rows.specs.declared.Row.{Row}
@@ -26,7 +27,8 @@ use Rattle.rows.proofs.Rows.{rows-length, cells-length}
 use Rattle.row_tests.specs.Uses.{uses}
 use Rattle.slots.specs.Slots.{flushed, AllFit}
 use Rattle.slots.proofs.Stored.{accepted-store, accepted-records}
-use Rattle.unsent.specs.Unsent.{withNumber}
+use Rattle.unsent.specs.Unsent.{withNumber, joinedIn}
+use Rattle.unsent.proofs.WithNumber.{joins-number}
 use Rattle.recv.specs.declared.Channel.{Channel}
 use Rattle.recv.specs.declared.RecvQueue.{RecvQueue}
 use Rattle.recv.specs.Queue.{nextIn, unsentOf}
@@ -34,12 +36,13 @@ use Rattle.recv.specs.Receive.{numberOf, framesIn, bytesLeft, acceptAll, stateO
 use Rattle.recv.proofs.Receives.{store-is}
 use Rattle.corollaries.proofs.Widths.{receive-fits}
 use Rattle.pass.specs.declared.Pass.{Pass}
+use Rattle.pass.specs.declared.Passed.{Passed}
 use Rattle.pass.specs.declared.Receive.the-variants as Receive
 use Rattle.pass.specs.declared.ReceivedRows.{ReceivedRows}
 use Rattle.pass.specs.Work.{workOf}
 use Rattle.pass.specs.Frames.{Begun, Framed}
 use Rattle.pass.specs.Outcome.{receiveAnswer, unlessAccepted, rowsSaved, outcome}
-use Rattle.pass.specs.Receives.{refusal, joinedQueue, acceptance, Receives, Within, begunRows, begunPass}
+use Rattle.pass.specs.Receives.{refusal, joinedQueue, acceptance, asBefore, concluded, Receives, Within, begunRows, begunPass}
 use Rattle.pass.proofs.Receiving.{accepted-is, no-room}
 use Rattle.pass.proofs.Beginning.{begun-work, begun, few-cells}
 
@@ -60,17 +63,27 @@ channels-are next k (x ∷ l) (y ∷ m) e h =
     let b = channels-are next (1 + k) l m (omega arith) (λ i. let s : 1 + k + i ≡ k + suc i = omega arith in ap next s ∙ h (suc i)) in
     λ i. record { next = a i } ∷ b i
 
-joined-queue : (q : RecvQueue) (w : ReliableWindow) (x : Pass) (n : ℕ) → q .pending < maxUnsent → length (q .channels) ≡ length (x .channels) → w ≡ accept (q .datagrams) n
-    → joinedQueue q w x n ≡ queueAfter q n (x .reliables) (nextIn (x .channels))
-unfolding joinedQueue withNumber queueAfter unsentOf
-joined-queue q w x n room l e = sym (le-no _ _ _ _ _ room (rw (e, channels-are (nextIn (x .channels)) 0 (q .channels) (x .channels) l (λ i. ap (nextIn (x .channels)) (zero-add i)))))
+joined-queue : (q : RecvQueue) (w : ReliableWindow) (x : Pass) (m left n : ℕ) → q .pending < maxUnsent → length (q .channels) ≡ length (x .channels) → w ≡ accept (q .datagrams) n
+    → joinedQueue q (acceptance w x m left) n ≡ queueAfter q n (x .reliables) (nextIn (x .channels))
+unfolding acceptance joinedQueue withNumber queueAfter unsentOf
+joined-queue q w x m left n room l e = sym (le-no _ _ _ _ _ room (rw (e, channels-are (nextIn (x .channels)) 0 (q .channels) (x .channels) l (λ i. ap (nextIn (x .channels)) (zero-add i)))))
 
--- What `accept` returns.
-pub accepts-as : (q : RecvQueue) (w : ReliableWindow) (x : Pass) (n : ℕ) (d : List ℕ) {number : ℕ} {read : FramesRead} {after : RecvQueue} → number ≡ le24 d 1 → read ≡ readFramesOf d minDatagram
-    → after ≡ withNumber (record { datagrams = w; reliables = x .reliables; channels = x .channels; unsent = q .unsent; pending = q .pending }) number
-    → _≡_ {A = ReceivedRows} (record { answer = Receive.Accepted (x .ready) (x .dropped) (read .left); queue = after; rows = n }) (acceptance q w x n d)
-unfolding acceptance joinedQueue bytesLeft readFramesOf
-accepts-as q w x n d a b e = rw (e, b, a)
+-- ---- what the call returns
+
+pub pending-fits : {pending : ℕ} → pending < maxUnsent → Fits w32 (pending + 1)
+pending-fits room = record { fits = omega arith }
+
+module _ (q : RecvQueue) (p : Passed) (d : List ℕ) where
+  pub concludes-refused : {r : ReceivedRows} → p .accepted ≡ false → r ≡ asBefore q (p .answer) (p .rows) → r ≡ concluded q d p
+  unfolding concluded
+  concludes-refused f e = rw (e, f)
+
+  pub concludes-accepted : p .accepted ≡ true → q .pending < maxUnsent → {number : ℕ} {l : List ℕ} → number ≡ le24 d 1 → l ≡ joinedIn (q .unsent) (q .pending) number
+      → _≡_ {A = ReceivedRows} (record { answer = p .answer; queue = record { datagrams = p .datagrams; reliables = p .reliables; channels = p .channels; unsent = l; pending = q .pending + 1 }; rows = p .rows }) (concluded q d p)
+  unfolding concluded joinedQueue
+  concludes-accepted t room en el = rw (t, el, en)
+      (ap (λ (z : RecvQueue). record { answer = p .answer; queue = z; rows = p .rows })
+      (joins-number (record { datagrams = p .datagrams; reliables = p .reliables; channels = p .channels; unsent = q .unsent; pending = q .pending }) (le24 d 1) room))
 
 -- ---- the whole
 
@@ -99,7 +112,7 @@ module _ (q : RecvQueue) (ws st d : List ℕ) (w : ReliableWindow) (h : Within q
     unfolding workOf
     full-is = ap (λ (z : Work). z .full) done
 
-    pub ran-out : (n : ℕ) {r : ReceivedRows} → y .full ≡ 1 → r ≡ refusal q Receive.NoRoom → Receives q ws n st d r ws₂ st
+    pub ran-out : (n : ℕ) {r : Passed} → y .full ≡ 1 → r ≡ refusal q Receive.NoRoom → Receives q ws n st d r ws₂ st
     unfolding work
     ran-out n e t = no-room q ws n st d w h (sym full-is ∙ eq-eqb (y .full) 1 e) t ws₂
 
@@ -124,15 +137,15 @@ module _ (q : RecvQueue) (ws st d : List ℕ) (w : ReliableWindow) (h : Within q
       store-is-flushed : flushed (rowsOf ws₂) st d ≡ storeOf st (workOf y (rowsOf ws₂) st d .slots)
       store-is-flushed = sym (accepted-store (rowsOf ws₂) st d (workOf y (rowsOf ws₂) st d) (unfold workOf in refl) (f .fits) (rw (rows-length ws₂, long) store-long))
 
-      queue-is : joinedQueue q w y (numberOf d) ≡ queueAfter q (numberOf d) (y .reliables) (workOf y (rowsOf ws₂) st d .next)
+      queue-is : (m : ℕ) → joinedQueue q (acceptance w y m (bytesLeft d)) (numberOf d) ≡ queueAfter q (numberOf d) (y .reliables) (workOf y (rowsOf ws₂) st d .next)
       unfolding workOf
-      queue-is = joined-queue q w y (numberOf d) (h .room) (zq ∙ sym zy) (h .number .after)
+      queue-is m = joined-queue q w y m (bytesLeft d) (numberOf d) (h .room) (zq ∙ sym zy) (h .number .after)
 
-      left-is : outcome (acceptance q w y 0 d) (cellsIn ws₃) (flushed (rowsOf ws₂) st d) ≡ acceptedOf q st d (y .reliables) (workOf y (rowsOf ws₂) st d)
-      unfolding outcome acceptance receiveAnswer acceptedOf workOf
-      left-is = λ i. record {
+      left-is : (m : ℕ) → outcome (concluded q d (acceptance w y m (bytesLeft d))) (cellsIn ws₃) (flushed (rowsOf ws₂) st d) ≡ acceptedOf q st d (y .reliables) (workOf y (rowsOf ws₂) st d)
+      unfolding outcome concluded acceptance receiveAnswer acceptedOf workOf
+      left-is m = λ i. record {
         answer = gives (record { ready = y .ready; dropped = y .dropped; left = bytesLeft d });
-        queue = queue-is i;
+        queue = queue-is m i;
         records = records-are i;
         store = store-is-flushed i;
       }
@@ -141,6 +154,6 @@ module _ (q : RecvQueue) (ws st d : List ℕ) (w : ReliableWindow) (h : Within q
       unfolding work
       defined ne = accepted-is q (cellsIn ws) st d w h (sym full-is ∙ ne-eqb (y .full) 1 ne) ∙ rw (same-reliables, done)
 
-      pub is-accepted : (n : ℕ) {r : ReceivedRows} {st′ : List ℕ} → (y .full ≡ 1 → ⊥) → st′ ≡ flushed (rowsOf ws₂) st d → r ≡ acceptance q w y n d → Receives q ws n st d r ws₃ st′
+      pub is-accepted : (n : ℕ) {r : Passed} {st′ : List ℕ} {left : ℕ} → (y .full ≡ 1 → ⊥) → st′ ≡ flushed (rowsOf ws₂) st d → left ≡ bytesLeft d → r ≡ acceptance w y n left → Receives q ws n st d r ws₃ st′
       unfolding outcome acceptance receiveAnswer unlessAccepted rowsSaved
-      is-accepted n ne es t = rw (t, es) (record { is = left-is ∙ sym (defined ne); rows = refl; fits = receive-fits q (cellsIn ws) st d (h .bytes) })
+      is-accepted n ne es el t = rw (t, es, el) (record { is = left-is n ∙ sym (defined ne); rows = refl; fits = receive-fits q (cellsIn ws) st d (h .bytes); room = λ _. h .room })

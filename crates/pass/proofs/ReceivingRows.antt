@@ -16,9 +16,10 @@ use Rattle.recv.specs.declared.RecvQueue.{RecvQueue}
 use Rattle.recv.specs.Receive.{Report, Received, receiveOf}
 use Rattle.corollaries.specs.Widths.{AllFit}
 use Rattle.corollaries.proofs.Widths.{all-fit, fit-to}
+use Rattle.pass.specs.declared.Passed.{Passed}
 use Rattle.pass.specs.declared.ReceivedRows.{ReceivedRows}
 use Rattle.pass.specs.Outcome.{receiveAnswer, unlessAccepted, rowsSaved, outcome}
-use Rattle.pass.specs.Receives.{Receives}
+use Rattle.pass.specs.Receives.{concluded, Receives}
 
 -- The words of the rows are as many as fit the words.
 pub rows-room : (n k : ℕ) {m : ℕ} → m ≡ rowsIn n k → rowWords * m ≤ k
@@ -65,17 +66,18 @@ module _ (n : ℕ) (ws us : List ℕ) (m : ℕ) (em : m ≡ rowsIn n (length ws)
   fits-before : FitTo n (firstCells n ws) → AllFit (cellsIn (take (rowWords * m) ws))
   fits-before f = rw (← rows-before) (all-fit (firstCells n ws) (λ i lt. f i (let a = first-length n ws in let b = rows-in-within n (length ws) in omega arith)))
 
-  pub receives-rows : (q : RecvQueue) (st d : List ℕ) (r : ReceivedRows) (st′ : List ℕ) → Receives q (take (rowWords * m) ws) n st d r us st′
+  pub receives-rows : (q : RecvQueue) (st d : List ℕ) (p : Passed) (st′ : List ℕ) (r : ReceivedRows) → Receives q (take (rowWords * m) ws) n st d p us st′ → r ≡ concluded q d p
       → (outcome r (firstCells (r .rows) after ++ drop (r .rows) (firstCells n ws)) st′ ≡ receiveOf q (firstCells n ws) st d)
       × (r .rows ≡ rowsSaved (r .answer) n)
       × (FitTo n (firstCells n ws) → FitTo (r .rows) (firstCells (r .rows) after))
-  receives-rows q st d r st′ v = (is, v .rows, λ f. fits-after (receiveAnswer (r .answer)) (r .rows) saved (subst AllFit (sym left) (v .fits (fits-before f))))
+  unfolding concluded
+  receives-rows q st d p st′ r v e = rw e (is, v .rows, λ f. fits-after (receiveAnswer (p .answer)) (p .rows) saved (subst AllFit (sym left) (v .fits (fits-before f))))
     where
-      saved : r .rows ≡ unlessAccepted (receiveAnswer (r .answer)) 0 n
+      saved : p .rows ≡ unlessAccepted (receiveAnswer (p .answer)) 0 n
       saved = v .rows ∙ (unfold rowsSaved in refl)
 
-      is : outcome r (firstCells (r .rows) after ++ drop (r .rows) (firstCells n ws)) st′ ≡ receiveOf q (firstCells n ws) st d
-      is = rw (records-are (receiveAnswer (r .answer)) (r .rows) saved, rows-before) (v .is)
+      is : outcome (concluded q d p) (firstCells (p .rows) after ++ drop (p .rows) (firstCells n ws)) st′ ≡ receiveOf q (firstCells n ws) st d
+      is = rw (records-are (receiveAnswer (p .answer)) (p .rows) saved, rows-before) (v .is)
 
-      left : unlessAccepted (receiveAnswer (r .answer)) (cellsIn (take (rowWords * m) ws)) (cellsIn us) ≡ receiveOf q (cellsIn (take (rowWords * m) ws)) st d .records
+      left : unlessAccepted (receiveAnswer (p .answer)) (cellsIn (take (rowWords * m) ws)) (cellsIn us) ≡ receiveOf q (cellsIn (take (rowWords * m) ws)) st d .records
       left = unfold outcome in ap (λ (z : Received). z .records) (v .is)

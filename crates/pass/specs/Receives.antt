@@ -1,7 +1,7 @@
 -- A receive on rows, from one refusal to the next: what is known when the later ones are asked, and what is returned.
 use Prim.Native.Nat.{ℕ, _<_, _≤_}
 use mathlib.Core.Path.{_≡_}
-use mathlib.Core.Bool.{true, false}
+use mathlib.Core.Bool.{true, false, cond}
 use mathlib.Core.Option.{some}
 use mathlib.Core.List.{List, map}
 use lib.ListN.{length, getD}
@@ -17,31 +17,41 @@ use Rattle.rows.specs.declared.Row.{Row}
 use Rattle.rows.specs.Rows.{cellsIn, cellOf, markRow, changeRows}
 use Rattle.unsent.specs.Unsent.{withNumber}
 use Rattle.recv.specs.declared.RecvQueue.{RecvQueue}
-use Rattle.recv.specs.Receive.{numberOf, isDatagram, framesIn, acceptAll, bytesLeft, soundCall, receiveOf}
+use Rattle.recv.specs.Receive.{numberOf, isDatagram, framesIn, acceptAll, soundCall, receiveOf}
 use Rattle.row_tests.specs.Uses.{uses}
 use Rattle.corollaries.specs.Widths.{AllFit}
 use Rattle.pass.specs.declared.Pass.{Pass}
+use Rattle.pass.specs.declared.Passed.{Passed}
 use Rattle.pass.specs.declared.Receive.{Receive}
 use Rattle.pass.specs.declared.Receive.the-variants.{Accepted}
 use Rattle.pass.specs.declared.ReceivedRows.{ReceivedRows}
 use Rattle.pass.specs.Outcome.{receiveAnswer, unlessAccepted, rowsSaved, outcome}
 
--- what a call returns that refuses, and one that accepts
-abbrev pub refusal : RecvQueue → Receive → ReceivedRows
-refusal q a = record { answer = a; queue = q; rows = 0 }
+-- what a datagram comes to that is refused, and one that is accepted
+abbrev pub refusal : RecvQueue → Receive → Passed
+refusal q a = record { answer = a; accepted = false; datagrams = q .datagrams; reliables = q .reliables; channels = q .channels; rows = 0 }
 
-unfoldable pub joinedQueue : RecvQueue → ReliableWindow → Pass → ℕ → RecvQueue
-joinedQueue q datagrams x number = withNumber (record { datagrams = datagrams; reliables = x .reliables; channels = x .channels; unsent = q .unsent; pending = q .pending }) number
+unfoldable pub acceptance : ReliableWindow → Pass → ℕ → ℕ → Passed
+acceptance datagrams x n left = record { answer = Accepted (x .ready) (x .dropped) left; accepted = true; datagrams = datagrams; reliables = x .reliables; channels = x .channels; rows = n }
 
-unfoldable pub acceptance : RecvQueue → ReliableWindow → Pass → ℕ → List ℕ → ReceivedRows
-acceptance q datagrams x n d = record { answer = Accepted (x .ready) (x .dropped) (bytesLeft d); queue = joinedQueue q datagrams x (numberOf d); rows = n }
+-- the receiver with what an accepted datagram leaves of it, and the datagram's number among the unsent
+unfoldable pub joinedQueue : RecvQueue → Passed → ℕ → RecvQueue
+joinedQueue q p number = withNumber (record { datagrams = p .datagrams; reliables = p .reliables; channels = p .channels; unsent = q .unsent; pending = q .pending }) number
 
--- r, and the words and the store afterwards, are what the definition says of all rows of the words: where it refuses, the records are those before.
+-- what the call returns: the receiver as it was, or with what an accepted datagram leaves
+abbrev pub asBefore : RecvQueue → Receive → ℕ → ReceivedRows
+asBefore q a n = record { answer = a; queue = q; rows = n }
+
+unfoldable pub concluded : RecvQueue → List ℕ → Passed → ReceivedRows
+concluded q d p = record { answer = p .answer; queue = cond (p .accepted) (joinedQueue q p (numberOf d)) q; rows = p .rows }
+
+-- p, and the words and the store afterwards, are what the definition says of all rows of the words: where it refuses, the records are those before.
 -- Records within their widths stay so.
-pub record Receives (q : RecvQueue) (ws : List ℕ) (n : ℕ) (st d : List ℕ) (r : ReceivedRows) (ws′ st′ : List ℕ) : Type 0 where
-  pub is : outcome r (unlessAccepted (receiveAnswer (r .answer)) (cellsIn ws) (cellsIn ws′)) st′ ≡ receiveOf q (cellsIn ws) st d
-  pub rows : r .rows ≡ rowsSaved (r .answer) n
+pub record Receives (q : RecvQueue) (ws : List ℕ) (n : ℕ) (st d : List ℕ) (p : Passed) (ws′ st′ : List ℕ) : Type 0 where
+  pub is : outcome (concluded q d p) (unlessAccepted (receiveAnswer (p .answer)) (cellsIn ws) (cellsIn ws′)) st′ ≡ receiveOf q (cellsIn ws) st d
+  pub rows : p .rows ≡ rowsSaved (p .answer) n
   pub fits : AllFit (cellsIn ws) → AllFit (receiveOf q (cellsIn ws) st d .records)
+  pub room : p .accepted ≡ true → q .pending < maxUnsent
 
 -- refusals 9, 1, 2 and 3 do not apply
 pub record Headed (q : RecvQueue) (cs : List Cell) (st d : List ℕ) : Type 0 where

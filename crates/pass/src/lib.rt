@@ -64,6 +64,16 @@ pub struct ReceivedRows {
     pub rows: usize,
 }
 
+// What a datagram comes to: the answer, what it leaves of the receiver where it is accepted, and how many records are to be written.
+struct Passed {
+    answer: Receive,
+    accepted: bool,
+    datagrams: ReliableWindow,
+    reliables: ReliableWindow,
+    channels: [Channel; 32],
+    rows: usize,
+}
+
 // What step 4 does with a message: drop it, hold it, make it ready with the held ones that follow, or make it ready.
 enum Course {
     Late,

@@ -24,13 +24,13 @@ use Rattle.frame.specs.declared.Placed.{Placed}
 use Rattle.frame.specs.declared.ReadFrame.{ReadFrame}
 use Rattle.frame.specs.declared.ReadFrame.the-variants.{Whole, Cut}
 use Rattle.frame.specs.Read.{readFrameOf, readAnswer}
-use Rattle.frame.specs.Frames.{framesOf}
+use Rattle.frame.specs.Frames.{framesOf, endOf}
 use Rattle.frame.proofs.Bounds.{read-small}
 use Rattle.frame.proofs.Reading.{read-whole}
 use Rattle.frame.proofs.ReadCases.{told-cut, told-whole}
-use Rattle.frame.proofs.FramesOf.{frames-more, frames-cut}
+use Rattle.frame.proofs.FramesOf.{frames-more, end-more, frames-cut, end-cut}
 use Rattle.line.specs.Frame.{Frame, carriesReliable}
-use Rattle.recv.specs.Receive.{frameIn, framesIn, acceptAll}
+use Rattle.recv.specs.Receive.{frameIn, framesIn, acceptAll, bytesLeft}
 use Rattle.reach.specs.declared.Reached.{Reached}
 use Rattle.reach.specs.Reach.{withinReach, reachedBy, numberAfter}
 
@@ -42,7 +42,7 @@ windowOr (gives u) w = some w
 windowOr (refused n) w = cond (eqb n 5) none (some w)
 
 module _ (w : ReliableWindow) (p : Placed) (b : Bool) (e : b ≡ carriesReliable (p .frame .kind)) where
-  pub number-none : b ≡ false → reachedBy (record { within = 1; window = w }) ≡ numberAfter w p
+  pub number-none : b ≡ false → reachedBy (record { within = 1; window = w; left = 0 }) ≡ numberAfter w p
   unfolding reachedBy numberAfter
   number-none t = rw (sym e ∙ t)
 
@@ -55,7 +55,7 @@ module _ (w : ReliableWindow) (p : Placed) (b : Bool) (e : b ≡ carriesReliable
       (λ small a near. rw (sym e ∙ t, a, le-ltb windowPlaces (distance (w .low) (p .frame .reliable)) (omega arith)))
 
   pub number-taken : b ≡ true → p .frame .reliable < numbers24 → (i : Inserted) → insertion i ≡ insertOf w (p .frame .reliable) → (n : ℕ) → n ≡ withinReach (i .answer)
-      → reachedBy (record { within = n; window = i .window }) ≡ numberAfter w p
+      → reachedBy (record { within = n; window = i .window; left = 0 }) ≡ numberAfter w p
   unfolding reachedBy
   number-taken t lt i ei n en = rw en (told (i .answer) ∙ (ap (λ (r : Insertion). windowOr (r .answer) (r .window)) ei ∙ by-insert t lt))
     where
@@ -70,10 +70,11 @@ module _ (w : ReliableWindow) (p : Placed) (b : Bool) (e : b ≡ carriesReliable
 -- What the frames left give is what all of them give.
 pub record Reaching (w₀ : ReliableWindow) (d : List ℕ) (w : ReliableWindow) (at : ℕ) : Type 0 where
   pub is : acceptAll w (map (frameIn d) (framesOf d at)) ≡ acceptAll w₀ (framesIn d)
+  pub end : endOf d minDatagram ≡ endOf d at
 
 pub reaching-begins : (w : ReliableWindow) (d : List ℕ) → Reaching w d w minDatagram
 unfolding framesIn
-reaching-begins w d = record { is = refl }
+reaching-begins w d = record { is = refl; end = refl }
 
 -- A frame's own number, then those of the frames after it.
 all-more : (w : ReliableWindow) (d : List ℕ) (p : Placed) (fs : List Frame) → acceptAll w (frameIn d p ∷ fs) ≡ option (numberAfter w p) none (λ v. acceptAll v fs)
@@ -108,8 +109,12 @@ module _ (w₀ : ReliableWindow) (d : List ℕ) (w : ReliableWindow) (at : ℕ) 
 
       pub reaching-goes : (n .within ≡ 0 → ⊥) → Reaching w₀ d (n .window) next
       unfolding reachedBy
-      reaching-goes z = let e = ne-eqb (n .within) 0 z in record { is = rw e at whole }
+      reaching-goes z = let e = ne-eqb (n .within) 0 z in record { is = rw e at whole; end = g .end ∙ end-more d at p next (told-whole d at r er p next q) }
 
-  pub reaching-ends : r ≡ Cut → reachedBy (record { within = 1; window = w }) ≡ acceptAll w₀ (framesIn d)
+  pub reaching-ends : (left : ℕ) → r ≡ Cut → reachedBy (record { within = 1; window = w; left = left }) ≡ acceptAll w₀ (framesIn d)
   unfolding reachedBy acceptAll
-  reaching-ends q = ap (acceptAll w) (sym (ap (map (frameIn d)) (frames-cut d at 1 (told-cut d at r er q)))) ∙ g .is
+  reaching-ends left q = ap (acceptAll w) (sym (ap (map (frameIn d)) (frames-cut d at 1 (told-cut d at r er q)))) ∙ g .is
+
+  pub reaching-leaves : {left : ℕ} → r ≡ Cut → left ≡ length d - at → left ≡ bytesLeft d
+  unfolding bytesLeft
+  reaching-leaves q e = e ∙ rw (g .end, end-cut d at 1 (told-cut d at r er q))

@@ -30,3 +30,6 @@ takeNeeds used cells store = ifTrue (lengths cells store) (ifLt used 1 1 used) 0
 -- up to so many records a call makes its words for these alone
 abbrev pub smallCells : ℕ
 smallCells = 32
+
+abbrev pub middleCells : ℕ
+middleCells = 256

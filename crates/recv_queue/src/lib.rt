@@ -22,10 +22,14 @@ pub use recv_new::make_new;
 pub use taken::body;
 pub use taking::take;
 
-// A call works on the records that it may need, and zeroes words for them: up to so many records for these alone, else for as many as a receiver may have.
+// A call works on the records that it may need, and zeroes words for them: of three sizes, the last for as many records as a receiver may have.
 const SMALL_CELLS: usize = 32;
 
+const MIDDLE_CELLS: usize = 256;
+
 const SMALL_WORDS: usize = rows::ROW * SMALL_CELLS;
+
+const MIDDLE_WORDS: usize = rows::ROW * MIDDLE_CELLS;
 
 const MAX_WORDS: usize = rows::ROW * base::MAX_CELLS;
 

@@ -8,7 +8,7 @@ ghost use Prim.Native.Nat.{_≤_, _+_, _*_, min};
 ghost use lib.ListN.{length};
 ghost use Rattle.rows.specs.Rows.{rowWords};
 ghost use Rattle.recv.specs.Receive.{receiveOf};
-ghost use Rattle.recv_queue.specs.Call.{lastUsed, receiveNeeds, smallCells};
+ghost use Rattle.recv_queue.specs.Call.{lastUsed, receiveNeeds, smallCells, middleCells};
 ghost use Rattle.recv_queue.specs.Answers.{received, answerOf};
 
 // An enum can't hold the receiver, so it stands beside the answer.
@@ -83,6 +83,20 @@ fn receive_small(
     receive_in(queue, records, &mut words, k, store, datagram)
 }
 
+fn receive_middle(
+    queue: RecvQueue,
+    records: &mut [CellRecord],
+    k: usize,
+    store: &mut [u8],
+    datagram: &[u8],
+) -> Received
+    requires { ⌜ (k ≡ receiveNeeds (lastUsed (now records)) (length (now records)) (length (now store)) (now datagram)) × (k ≤ middleCells) ⌝ }
+    ensures { λ r. ⌜ received r (now (records .exit)) (now (store .exit)) ≡ receiveOf queue (now (records .entry)) (now (store .entry)) (now (datagram .entry)) ⌝ }
+{
+    let mut words: [u32; super::MIDDLE_WORDS] = [0; super::MIDDLE_WORDS];
+    receive_in(queue, records, &mut words, k, store, datagram)
+}
+
 fn receive_large(
     queue: RecvQueue,
     records: &mut [CellRecord],
@@ -109,6 +123,9 @@ pub fn receive(
     let k = needed(used, records.len(), store.len(), datagram);
     if k <= super::SMALL_CELLS {
         return receive_small(queue, records, k, store, datagram);
+    }
+    if k <= super::MIDDLE_CELLS {
+        return receive_middle(queue, records, k, store, datagram);
     }
     receive_large(queue, records, k, store, datagram)
 }

@@ -9,7 +9,7 @@ ghost use lib.ListN.{length};
 ghost use Rattle.rows.specs.Rows.{rowWords};
 ghost use Rattle.recv.specs.Take.{takeOf};
 ghost use Rattle.takes.specs.Outcome.{takeResult};
-ghost use Rattle.recv_queue.specs.Call.{lastUsed, takeNeeds, smallCells};
+ghost use Rattle.recv_queue.specs.Call.{lastUsed, takeNeeds, smallCells, middleCells};
 
 // The core's answer without its count of rows.
 fn answer_of(r: TakenRows) -> Take
@@ -64,6 +64,20 @@ fn take_small(
     take_in(queue, records, &mut words, k, store, joined)
 }
 
+fn take_middle(
+    queue: RecvQueue,
+    records: &mut [CellRecord],
+    k: usize,
+    store: &[u8],
+    joined: &mut [u8],
+) -> Take
+    requires { ⌜ (k ≡ takeNeeds (lastUsed (now records)) (length (now records)) (length (now store))) × (k ≤ middleCells) ⌝ }
+    ensures { λ r. ⌜ takeResult r (now (records .exit)) (now (joined .exit)) ≡ takeOf queue (now (records .entry)) (now (store .entry)) (now (joined .entry)) ⌝ }
+{
+    let mut words: [u32; super::MIDDLE_WORDS] = [0; super::MIDDLE_WORDS];
+    take_in(queue, records, &mut words, k, store, joined)
+}
+
 fn take_large(
     queue: RecvQueue,
     records: &mut [CellRecord],
@@ -85,6 +99,9 @@ pub fn take(queue: RecvQueue, records: &mut [CellRecord], store: &[u8], joined: 
     let k = needed(used, records.len(), store.len());
     if k <= super::SMALL_CELLS {
         return take_small(queue, records, k, store, joined);
+    }
+    if k <= super::MIDDLE_CELLS {
+        return take_middle(queue, records, k, store, joined);
     }
     take_large(queue, records, k, store, joined)
 }

@@ -44,11 +44,15 @@ channel-within r e f =
     let e₂ = and-right (leb (r .kind) 7) _ e₁ in
     ltb-true _ _ (and-left (ltb (r .channel) maxOrdChans) _ e₂)
 
--- What is asked of a cell alone, in the code's two ways.
+-- What is asked of a cell alone, in the code's three ways.
 module _ (next : ℕ → ℕ) (r : Row) {b : Bool} (e : b ≡ limits (cellOf r)) where
-  pub within-ahead : {n : ℕ} → b ≡ true → n ≡ next (r .channel) → (not (eqb (r .used) 2) || ltb n (r .order)) ≡ (limits (cellOf r) && ahead next (cellOf r))
+  pub held-ahead : {n : ℕ} → b ≡ true → r .used ≡ 2 → n ≡ next (r .channel) → ltb n (r .order) ≡ (limits (cellOf r) && ahead next (cellOf r))
   unfolding ahead cellOf
-  within-ahead y f = rw (← e, y, f)
+  held-ahead y u f = rw (← e, y, eq-eqb (r .used) 2 u, f)
+
+  pub within-limits : b ≡ true → (r .used ≡ 2 → ⊥) → true ≡ (limits (cellOf r) && ahead next (cellOf r))
+  unfolding ahead cellOf
+  within-limits y u = rw (← e, y, ne-eqb (r .used) 2 u)
 
   pub beyond-limits : b ≡ false → false ≡ (limits (cellOf r) && ahead next (cellOf r))
   beyond-limits y = rw (← e, y)

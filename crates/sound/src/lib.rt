@@ -112,8 +112,11 @@ fn is_within(channels: [Channel; 32], r: Row) -> bool
     ensures { λ b. ⌜ b ≡ (limits (cellOf r) && ahead (nextIn channels) (cellOf r)) ⌝ }
 {
     if in_limits(r) {
-        let next = next_in(channels, r.channel as usize);
-        return (r.used != 2) | (next < r.order);
+        if r.used == 2 {
+            let next = next_in(channels, r.channel as usize);
+            return next < r.order;
+        }
+        return true;
     }
     false
 }

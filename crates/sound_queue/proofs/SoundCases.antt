@@ -2,13 +2,15 @@
 -- Assumes nothing.
 use mathlib.Core.Path.{_≡_, _∙_, sym, ap, refl}
 use mathlib.Core.Bool.{Bool, true, false, not, _&&_, _||_, and-true, and-false}
-use mathlib.Core.List.{List}
+use mathlib.Core.List.{List, [], _∷_, _++_, map}
 use Prim.Native.Nat.{ℕ, zero, suc, _+_, _-_, _<_, _≤_}
 use native.Mathlib.Nat.{not-suc-le-zero}
-use native.Mathlib.Numerals.{sub-one}
+use native.Mathlib.Numerals.{add-one, sub-one}
 use native.Mathlib.Omega.{arith}
 use lib.Dec.{ltb, eqb}
-use lib.ListN.{length, getD, take, drop, drop-of-length-le}
+use lib.ListN.{length, getD, take, drop, set, drop-of-length-le}
+use lib.Seq.{take-suc, take-take, take-all}
+use borrow.Author.Needs.{length-unmapped}
 use borrow.Author.Tests.{lt-ltb, le-ltb, le-leb, lt-leb, eq-eqb, ne-eqb}
 use Rattle.base.specs.Limits.{numbers24, windowPlaces, maxUnsent}
 use Rattle.base.specs.Lists.{any, every, below}
@@ -21,8 +23,8 @@ use Rattle.cells.specs.Sound.{soundNexts}
 use Rattle.recv.specs.declared.Channel.{Channel}
 use Rattle.recv.specs.declared.RecvQueue.{RecvQueue}
 use Rattle.recv.specs.Queue.{nextIn, nextOf, unsentOf, placesWithin, soundWindow, differ, soundUnsent, soundQueue}
-use Rattle.sound_queue.specs.Sound.{nextsWithin, soundNumber, soundNumbers}
-use Rattle.recv.proofs.Parts.{from-here, part-from}
+use Rattle.sound_queue.specs.Sound.{few, nextsWithin, soundNumber, soundNumbers}
+use Rattle.recv.proofs.Parts.{from-here, part-from, first-stored}
 use Rattle.sound_queue.proofs.Ascending.{ascending-differ}
 
 -- ---- one place of a window
@@ -135,6 +137,16 @@ module _ (l : List ℕ) (i : ℕ) (t : Bool) (e : differ (drop i l) ≡ t) where
 pub differ-ascending : (l : List ℕ) (a : Bool) → a ≡ ascending l → a ≡ true → true ≡ differ l
 differ-ascending l a e f = sym (ascending-differ l (sym e ∙ f))
 
+-- ---- the first few of the numbers l, copied to k: one more, all of them
+module _ (l k : List ℕ) (i : ℕ) (n : length k ≡ few) (e : take i k ≡ take i l) where
+  pub few-further : i < few → length (map (λ (x : ℕ). x) l) ≡ maxUnsent → take (i + 1) (set k i (getD l i 0)) ≡ take (i + 1) l
+  few-further h m =
+      let w : i < length l = let f : length l ≡ maxUnsent = length-unmapped ℕ l maxUnsent m in omega arith in
+      first-stored k i (getD l i 0) (omega arith) ∙ ap (λ (x : List ℕ). x ++ (getD l i 0 ∷ [])) e ∙ sym (rw add-one (take-suc l i 0 w))
+
+  pub few-all : i ≤ few → few ≤ i → k ≡ take few l
+  few-all h j = let z : i ≡ few = omega arith in sym (take-all few k (omega arith)) ∙ (rw z at e)
+
 -- ---- the unsent
 module _ (w : ReliableWindow) (l : List ℕ) (a : Bool) (e : a ≡ every (soundNumber w) l) where
   pub numbers-differ : a ≡ true → (b : Bool) → b ≡ differ l → b ≡ soundNumbers w l
@@ -153,6 +165,11 @@ module _ (q : RecvQueue) where
   pub unsent-by-numbers : q .pending ≤ maxUnsent → (b : Bool) → b ≡ soundNumbers (q .datagrams) (take (q .pending) (q .unsent)) → b ≡ soundUnsent q
   unfolding soundUnsent soundNumbers soundNumber unsentOf
   unsent-by-numbers h b e = rw (le-leb (q .pending) maxUnsent h) e
+
+  pub unsent-by-few : q .pending ≤ few → (k : List ℕ) → k ≡ take few (q .unsent) → (b : Bool) → b ≡ soundNumbers (q .datagrams) (take (q .pending) k) → b ≡ soundUnsent q
+  unsent-by-few h k f b e =
+      let t : take (q .pending) k ≡ take (q .pending) (q .unsent) = rw f (take-take (q .pending) few (q .unsent) h) in
+      unsent-by-numbers (omega arith) b (rw t at e)
 
 -- ---- all of them, one after the other
 module _ (q : RecvQueue) (a : Bool) (e : a ≡ soundWindow (q .datagrams)) where

@@ -10,6 +10,10 @@ use Rattle.window.specs.Window.{accepted}
 use Rattle.recv.specs.declared.Channel.{Channel}
 use Rattle.recv.specs.Queue.{nextIn, differ}
 
+-- up to so many unsent numbers are tested in a copy of these alone, and not of all 1,024
+abbrev pub few : ℕ
+few = 64
+
 -- "each channel's next is at most 2^24", of the first k channels
 unfoldable pub nextsWithin : List Channel → ℕ → Bool
 nextsWithin channels k = below k (λ c. leb (nextIn channels c) numbers24)

@@ -14,7 +14,10 @@ ghost use Rattle.cells.specs.Sound.{soundNexts};
 ghost use Rattle.ack.specs.Write.{ascending};
 ghost use Rattle.recv.specs.Queue.{nextIn, placesWithin, soundWindow, soundUnsent, soundQueue};
 ghost use Rattle.recv.specs.Queue as Queue;
-ghost use Rattle.sound_queue.specs.Sound.{soundNumber, soundNumbers};
+ghost use Rattle.sound_queue.specs.Sound.{few, soundNumber, soundNumbers};
+
+// Up to so many unsent numbers are tested in a copy of these alone, and not of all 1,024.
+const FEW: usize = 64;
 
 pub fn sound_queue(queue: RecvQueue) -> bool
     ensures { λ r. ⌜ r ≡ soundQueue queue ⌝ }
@@ -98,8 +101,26 @@ fn sound_unsent(queue: RecvQueue) -> bool
         return false;
     }
     let w = queue.datagrams;
+    let m = pending as usize;
+    if m <= FEW {
+        let few = first_few(queue);
+        return first_sound(w, &few, m);
+    }
     let unsent = queue.unsent;
-    first_sound(w, &unsent, pending as usize)
+    first_sound(w, &unsent, m)
+}
+
+fn first_few(queue: RecvQueue) -> [u32; FEW]
+    ensures { λ r. ⌜ r ≡ take few (queue .unsent) ⌝ }
+{
+    let mut numbers = [0u32; FEW];
+    let mut i = 0;
+    while i < FEW {
+        let n = queue.unsent[i];
+        numbers[i] = n;
+        i += 1;
+    }
+    numbers
 }
 
 // sound_numbers of the first m.

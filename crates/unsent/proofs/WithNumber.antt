@@ -13,7 +13,7 @@ use Rattle.recv.specs.declared.RecvQueue.{RecvQueue}
 use Rattle.recv.specs.Queue.{unsentOf, insertUnsent}
 use Rattle.recv.specs.Receive.{channelsAfter, queueAfter}
 use Rattle.recv.proofs.Unsent.{taken-after}
-use Rattle.unsent.specs.Unsent.{withNumber}
+use Rattle.unsent.specs.Unsent.{withNumber, joined, joinedIn}
 
 module _ (q : RecvQueue) (n : ℕ) (room : q .pending < maxUnsent) where
   with-number-is : withNumber q n ≡ record {
@@ -25,6 +25,11 @@ module _ (q : RecvQueue) (n : ℕ) (room : q .pending < maxUnsent) where
   }
   unfolding withNumber
   with-number-is = sym (le-no _ _ _ _ _ room refl)
+
+  -- what the code makes of the unsent numbers and their count
+  pub joins-number : record { datagrams = q .datagrams; reliables = q .reliables; channels = q .channels; unsent = joinedIn (q .unsent) (q .pending) n; pending = q .pending + 1 } ≡ withNumber q n
+  unfolding joinedIn joined unsentOf
+  joins-number = rw (with-number-is, ← le-no _ _ _ _ _ room refl)
 
   -- the receiver after an accepted datagram has the unsent numbers that with_number gives
   pub after-with-number : (reliables : ReliableWindow) (next : ℕ → ℕ) → queueAfter q n reliables next ≡ record {

@@ -10,8 +10,8 @@
 use frame::FragmentMeta;
 use frame::Frame;
 use frame::ReadFrame;
-use frame::WriteFrame;
-use frame::WriteHead;
+use frame_write::WriteFrame;
+use frame_write::WriteHead;
 use libc::STDIN_FILENO;
 use libc::STDOUT_FILENO;
 use queue::Piece;
@@ -168,7 +168,7 @@ fn show_written(written: WriteFrame) {
 fn write(p: &[u8], body: &mut [u8], out: &mut [u8]) {
     fill(body, base::be16_at(p, 31));
     let at = base::be16_at(p, 2) as usize;
-    show_written(frame::write_frame(out, at, frame_of(p), body));
+    show_written(frame_write::write_frame(out, at, frame_of(p), body));
     bytes(out);
     text(b"\n");
 }
@@ -182,7 +182,7 @@ fn write_item(p: &[u8]) {
 }
 
 fn write_head(number: u32, out: &mut [u8]) {
-    match frame::write_head(out, number) {
+    match frame_write::write_head(out, number) {
         WriteHead::Written => answer(b"head", 0),
         WriteHead::TooLarge => answer(b"head", 13),
         WriteHead::NoRoom => answer(b"head", 12),

@@ -1,7 +1,7 @@
 use Prim.Native.Nat.{_-_}
 use lib.ListN.{length}
 use borrow.Author.Needs.{needs}
-use Rattle.reach.proofs.Reaching.{Reaching, reaching-begins, reaching-small, reaching-less, reaching-stops, reaching-goes, reaching-ends}
+use Rattle.reach.proofs.Reaching.{Reaching, reaching-begins, reaching-small, reaching-less, reaching-stops, reaching-goes, reaching-ends, reaching-leaves}
 use Rattle.reach.proofs.reliables_after.Statement.{statement}
 use Rattle.reach.proofs.reliables_after.Tie as tie
 
@@ -23,8 +23,11 @@ read-frame-requires c κs = search needs
 enum-told : tie.Need-enum-told Inv-loop μ-loop
 enum-told c = search needs
 
+left-from-requires : tie.Need-left-from-requires Inv-loop μ-loop
+left-from-requires c κs = search needs
+
 returns : tie.Need-returns Inv-loop μ-loop
-returns c = search (needs, reaching-ends)
+returns c = (search (needs, reaching-ends), (search needs, λ _. search (needs, reaching-leaves)))
 
 enum-known-placed : tie.Need-enum-known-placed Inv-loop μ-loop
 enum-known-placed c = search needs
@@ -33,7 +36,7 @@ number-after-requires : tie.Need-number-after-requires Inv-loop μ-loop
 number-after-requires c κs = search (needs, reaching-small)
 
 returns-2 : tie.Need-returns-2 Inv-loop μ-loop
-returns-2 c = search (needs, reaching-stops)
+returns-2 c = (search (needs, reaching-stops), (search needs, λ ne. absurd (ne (c .if1 .taken))))
 
 loop-less : tie.Need-loop-less Inv-loop μ-loop
 loop-less c = search (needs, reaching-less)
@@ -51,6 +54,7 @@ reliables-after-spec =
     loop-holds
     read-frame-requires
     enum-told
+    left-from-requires
     returns
     enum-known-placed
     number-after-requires

@@ -5,7 +5,7 @@ use super::super::by_pairs;
 use super::super::is_due;
 use super::super::is_mate;
 use super::super::is_within;
-use super::all_rise;
+use super::Prepared;
 use super::key_at;
 use super::key_part;
 use super::prepare;
@@ -24,12 +24,14 @@ ghost use Rattle.base.specs.Lists.{below};
 ghost use Rattle.cells.specs.Sound.{soundCells};
 ghost use Rattle.rows.specs.Rows.{rowCount, cellOf, cellsIn};
 ghost use Rattle.recv.specs.Queue.{nextIn};
-ghost use Rattle.sound.specs.Sorted.{isOwn, isLed, isPlaced, counted, tallied, isDue};
+ghost use Rattle.sound.specs.Sorted.{isOwn, isLed, isPlaced, counted, tallied, isDue, allRise};
 
-// Up to so many rows the test by pairs is the quicker one, as measured.
-const PAIRS: usize = 8;
+// Up to so many rows the test by pairs is the quicker one, as measured with all rows in use.
+const PAIRS: usize = 4;
 
-// Up to so many rows short lists are enough.
+// Up to so many rows very short lists are enough, and up to so many short ones: they are zeroed in each call.
+const SMALL: usize = 32;
+
 const FEW: usize = 256;
 
 fn wide(x: u32) -> usize
@@ -97,28 +99,6 @@ fn is_placed(
     false
 }
 
-fn all_placed(
-    words: &[u32],
-    channels: [Channel; 32],
-    entries: &[u64],
-    ranks: &[u32],
-    leads: &[u32],
-    k: usize,
-) -> bool
-    ensures { λ b. ⌜ b ≡ below (rowCount (now (words .entry))) (isPlaced (now (words .entry)) (nextIn channels) (now (entries .entry)) (now (ranks .entry)) (now (leads .entry)) k) ⌝ }
-{
-    let n = words.len() / ROW;
-    let mut i = 0;
-    while i < n {
-        if is_placed(words, channels, entries, ranks, leads, k, i) {
-            i += 1;
-        } else {
-            return false;
-        }
-    }
-    true
-}
-
 fn count_row(counts: &mut [u32], r: Row, q: usize)
     requires { ⌜ getD (now counts) q 0 ≤ maxCells ⌝ }
     ensures { λ _. ⌜ now (counts .exit) ≡ counted (now (counts .entry)) (cellOf r) q ⌝ }
@@ -132,18 +112,32 @@ fn count_row(counts: &mut [u32], r: Row, q: usize)
     }
 }
 
-// How many used rows are led from each place.
-fn count_led(words: &[u32], leads: &[u32], counts: &mut [u32])
+// Are all rows placed? Where they are, the used ones led from each place are counted.
+fn all_placed(
+    words: &[u32],
+    channels: [Channel; 32],
+    entries: &[u64],
+    ranks: &[u32],
+    leads: &[u32],
+    k: usize,
+    counts: &mut [u32],
+) -> bool
     requires { ⌜ (rowCount (now words) ≤ maxCells) × ((g : ℕ) → getD (now counts) g 0 ≡ 0) ⌝ }
-    ensures { λ _. ⌜ now (counts .exit) ≡ tallied (now (words .entry)) (now (leads .entry)) (now (counts .entry)) (rowCount (now (words .entry))) ⌝ }
+    ensures is { λ b. ⌜ b ≡ below (rowCount (now (words .entry))) (isPlaced (now (words .entry)) (nextIn channels) (now (entries .entry)) (now (ranks .entry)) (now (leads .entry)) k) ⌝ }
+    ensures led { λ b. ⌜ (b ≡ true → now (counts .exit) ≡ tallied (now (words .entry)) (now (leads .entry)) (now (counts .entry)) (rowCount (now (words .entry)))) ⌝ }
 {
     let n = words.len() / ROW;
     let mut i = 0;
     while i < n {
-        let r = rows::whole_row(words, i);
-        count_row(counts, r, place_at(leads, i));
-        i += 1;
+        if is_placed(words, channels, entries, ranks, leads, k, i) {
+            let r = rows::whole_row(words, i);
+            count_row(counts, r, place_at(leads, i));
+            i += 1;
+        } else {
+            return false;
+        }
     }
+    true
 }
 
 fn is_due_at(words: &[u32], leads: &[u32], counts: &[u32], i: usize) -> bool
@@ -179,20 +173,21 @@ fn certified(
     entries: &[u64],
     ranks: &[u32],
     leads: &[u32],
-    k: usize,
+    p: Prepared,
     counts: &mut [u32],
 ) -> bool
-    requires { ⌜ (rowCount (now words) ≤ maxCells) × ((g : ℕ) → getD (now counts) g 0 ≡ 0) ⌝ }
+    requires { ⌜ (p .rise ≡ allRise (now entries) (p .count)) × (rowCount (now words) ≤ maxCells) × ((g : ℕ) → getD (now counts) g 0 ≡ 0) ⌝ }
     ensures { λ b. ⌜ (b ≡ true → soundCells (cellsIn (now (words .entry))) (nextIn channels) ≡ true) ⌝ }
 {
+    let k = p.count;
     if counts.len() < k {
         return false;
     }
-    if all_rise(entries, k) {
-        if all_placed(words, channels, entries, ranks, leads, k) {
-            count_led(words, leads, counts);
-            return all_due(words, leads, counts);
-        }
+    if p.rise {} else {
+        return false;
+    }
+    if all_placed(words, channels, entries, ranks, leads, k, counts) {
+        return all_due(words, leads, counts);
     }
     false
 }
@@ -208,11 +203,29 @@ fn by_sorted(
     requires { ⌜ (1 ≤ length (now entries)) × (rowCount (now words) ≤ maxCells) × ((g : ℕ) → getD (now counts) g 0 ≡ 0) ⌝ }
     ensures { λ b. ⌜ b ≡ soundCells (cellsIn (now (words .entry))) (nextIn channels) ⌝ }
 {
-    let k = prepare(words, entries, ranks, leads);
-    if certified(words, channels, entries, ranks, leads, k, counts) {
+    let p = prepare(words, entries, ranks, leads);
+    if certified(words, channels, entries, ranks, leads, p, counts) {
         return true;
     }
     by_pairs(words, channels)
+}
+
+fn by_small(words: &[u32], channels: [Channel; 32]) -> bool
+    requires { ⌜ rowCount (now words) ≤ maxCells ⌝ }
+    ensures { λ b. ⌜ b ≡ soundCells (cellsIn (now (words .entry))) (nextIn channels) ⌝ }
+{
+    let mut entries = [0u64; SMALL + 1];
+    let mut ranks = [0u32; SMALL];
+    let mut leads = [0u32; SMALL];
+    let mut counts = [0u32; SMALL];
+    by_sorted(
+        words,
+        channels,
+        &mut entries,
+        &mut ranks,
+        &mut leads,
+        &mut counts,
+    )
 }
 
 fn by_few(words: &[u32], channels: [Channel; 32]) -> bool
@@ -256,6 +269,9 @@ fn by_entries(words: &[u32], channels: [Channel; 32]) -> bool
     ensures { λ b. ⌜ b ≡ soundCells (cellsIn (now (words .entry))) (nextIn channels) ⌝ }
 {
     let n = words.len() / ROW;
+    if n <= SMALL {
+        return by_small(words, channels);
+    }
     if n <= FEW {
         return by_few(words, channels);
     }

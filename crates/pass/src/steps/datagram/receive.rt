@@ -1,5 +1,6 @@
 // Document 01's Receive on rows of words: its refusals in their order, then the frames, and what an accepted datagram leaves.
 use super::super::super::Pass;
+use super::super::super::Passed;
 use super::super::super::Receive;
 use super::super::super::ReceivedRows;
 use recv::RecvQueue;
@@ -12,13 +13,13 @@ ghost use mathlib.Core.Bool.{true};
 ghost use mathlib.Core.List.{_++_, map};
 ghost use Prim.Native.Nat.{_<_, _≤_};
 ghost use lib.ListN.{drop, set};
-ghost use Rattle.base.specs.Limits.{maxCells, numbers24};
+ghost use Rattle.base.specs.Limits.{maxCells, maxUnsent, numbers24};
 ghost use Rattle.rows.specs.Rows.{rowCount, rowsOf, cellsIn};
 ghost use Rattle.rows.specs.Whole.{wholeRow, rest};
 ghost use Rattle.slots.specs.Widths.{firstCells, FitTo};
-ghost use Rattle.recv.specs.Receive.{isDatagram, numberOf, soundCall, receiveOf};
+ghost use Rattle.recv.specs.Receive.{isDatagram, numberOf, bytesLeft, soundCall, receiveOf};
 ghost use Rattle.pass.specs.Outcome.{outcome, rowsSaved};
-ghost use Rattle.pass.specs.Receives.{refusal, acceptance, Receives, Headed, Numbered, Within, stored, begunRows, begunPass};
+ghost use Rattle.pass.specs.Receives.{refusal, acceptance, asBefore, concluded, Receives, Headed, Numbered, Within, stored, begunRows, begunPass};
 
 // Receive on the first n rows of the words.
 pub fn receive_rows(
@@ -31,15 +32,59 @@ pub fn receive_rows(
     ensures { λ r. ⌜ (outcome r (firstCells (r .rows) (now (words .exit)) ++ drop (r .rows) (firstCells n (now (words .entry)))) (now (store .exit)) ≡ receiveOf queue (firstCells n (now (words .entry))) (now (store .entry)) (now (datagram .entry))) × (r .rows ≡ rowsSaved (r .answer) n) × (FitTo n (firstCells n (now (words .entry))) → FitTo (r .rows) (firstCells (r .rows) (now (words .exit)))) ⌝ }
 {
     let m = slots::rows_in(n, words.len());
-    receive_all(queue, &mut words[..ROW * m], n, store, datagram)
+    let passed = receive_all(queue, &mut words[..ROW * m], n, store, datagram);
+    conclude(queue, passed, datagram)
 }
 
-fn refuse(queue: RecvQueue, answer: Receive) -> ReceivedRows
-    ensures { λ r. ⌜ r ≡ refusal queue answer ⌝ }
+fn unchanged(queue: RecvQueue, answer: Receive, rows: usize) -> ReceivedRows
+    ensures { λ r. ⌜ r ≡ asBefore queue answer rows ⌝ }
 {
     ReceivedRows {
         answer: answer,
         queue: queue,
+        rows: rows,
+    }
+}
+
+// The answer, and the receiver afterwards: where the datagram is accepted, its number joins the unsent.
+fn conclude(queue: RecvQueue, passed: Passed, datagram: &[u8]) -> ReceivedRows
+    requires { ⌜ (passed .accepted ≡ true → queue .pending < maxUnsent) ⌝ }
+    ensures { λ r. ⌜ r ≡ concluded queue (now (datagram .entry)) passed ⌝ }
+{
+    let answer = passed.answer;
+    if passed.accepted {
+        let number = base::le24_at(datagram, 1);
+        let datagrams = passed.datagrams;
+        let reliables = passed.reliables;
+        let channels = passed.channels;
+        let mut joined = queue;
+        joined.datagrams = datagrams;
+        joined.reliables = reliables;
+        joined.channels = channels;
+        let pending = joined.pending;
+        unsent::join_number(&mut joined.unsent, pending, number);
+        joined.pending = pending + 1;
+        return ReceivedRows {
+            answer: answer,
+            queue: joined,
+            rows: passed.rows,
+        };
+    }
+    unchanged(queue, answer, passed.rows)
+}
+
+fn refuse(queue: RecvQueue, answer: Receive) -> Passed
+    ensures { λ r. ⌜ r ≡ refusal queue answer ⌝ }
+{
+    let datagrams = queue.datagrams;
+    let reliables = queue.reliables;
+    let channels = queue.channels;
+    Passed {
+        answer: answer,
+        accepted: false,
+        datagrams: datagrams,
+        reliables: reliables,
+        channels: channels,
         rows: 0,
     }
 }
@@ -51,7 +96,7 @@ fn receive_all(
     n: usize,
     store: &mut [u8],
     datagram: &[u8],
-) -> ReceivedRows
+) -> Passed
     ensures { λ r. ⌜ Receives queue (now (words .entry)) n (now (store .entry)) (now (datagram .entry)) r (now (words .exit)) (now (store .exit)) ⌝ }
 {
     if sound_call::sound_call(queue, words, store) {
@@ -74,7 +119,7 @@ fn receive_sound(
     n: usize,
     store: &mut [u8],
     datagram: &[u8],
-) -> ReceivedRows
+) -> Passed
     requires { ⌜ soundCall queue (cellsIn (now words)) (now store) ≡ true ⌝ }
     ensures { λ r. ⌜ Receives queue (now (words .entry)) n (now (store .entry)) (now (datagram .entry)) r (now (words .exit)) (now (store .exit)) ⌝ }
 {
@@ -108,7 +153,7 @@ fn receive_number(
     n: usize,
     store: &mut [u8],
     datagram: &[u8],
-) -> ReceivedRows
+) -> Passed
     requires { ⌜ Headed queue (cellsIn (now words)) (now store) (now datagram) ⌝ }
     ensures { λ r. ⌜ Receives queue (now (words .entry)) n (now (store .entry)) (now (datagram .entry)) r (now (words .exit)) (now (store .exit)) ⌝ }
 {
@@ -131,7 +176,7 @@ fn receive_new(
     n: usize,
     store: &mut [u8],
     datagram: &[u8],
-) -> ReceivedRows
+) -> Passed
     requires { ⌜ Numbered queue (cellsIn (now words)) (now store) (now datagram) datagrams ⌝ }
     ensures { λ r. ⌜ Receives queue (now (words .entry)) n (now (store .entry)) (now (datagram .entry)) r (now (words .exit)) (now (store .exit)) ⌝ }
 {
@@ -142,19 +187,21 @@ fn receive_new(
     if reached.within == 0 {
         return refuse(queue, Receive::ReliableBeyond);
     }
-    receive_frames(queue, datagrams, words, n, store, datagram)
+    receive_frames(queue, datagrams, reached.left, words, n, store, datagram)
 }
 
 // 8, and what an accepted datagram leaves.
 fn receive_frames(
     queue: RecvQueue,
     datagrams: ReliableWindow,
+    left: usize,
     words: &mut [u32],
     n: usize,
     store: &mut [u8],
     datagram: &[u8],
-) -> ReceivedRows
+) -> Passed
     requires { ⌜ Within queue (cellsIn (now words)) (now store) (now datagram) datagrams ⌝ }
+    requires { ⌜ left ≡ bytesLeft (now datagram) ⌝ }
     ensures { λ r. ⌜ Receives queue (now (words .entry)) n (now (store .entry)) (now (datagram .entry)) r (now (words .exit)) (now (store .exit)) ⌝ }
 {
     let begun = begin(queue, words);
@@ -164,7 +211,7 @@ fn receive_frames(
     }
     super::flush(store, words, datagram);
     row_sweeps::sweep(words);
-    accept(queue, datagrams, pass, n, datagram)
+    accept(datagrams, pass, n, left)
 }
 
 // What the frames begin with: all bodies stand in the store, and the ready messages' turns are 0, 1, 2, ..
@@ -217,36 +264,22 @@ fn clear_places(words: &mut [u32])
     }
 }
 
-// The answer and the receiver after an accepted datagram: its number joins the unsent.
-fn accept(
-    queue: RecvQueue,
-    datagrams: ReliableWindow,
-    pass: Pass,
-    n: usize,
-    datagram: &[u8],
-) -> ReceivedRows
-    ensures { λ r. ⌜ r ≡ acceptance queue datagrams pass n (now (datagram .entry)) ⌝ }
+// What an accepted datagram leaves.
+fn accept(datagrams: ReliableWindow, pass: Pass, n: usize, left: usize) -> Passed
+    ensures { λ r. ⌜ r ≡ acceptance datagrams pass n left ⌝ }
 {
-    let number = base::le24_at(datagram, 1);
-    let read = frame::read_frames(datagram, base::MIN_DATAGRAM);
     let reliables = pass.reliables;
     let channels = pass.channels;
-    let unsent = queue.unsent;
-    let joined = RecvQueue {
-        datagrams: datagrams,
-        reliables: reliables,
-        channels: channels,
-        unsent: unsent,
-        pending: queue.pending,
-    };
-    let after = unsent::with_number(joined, number);
-    ReceivedRows {
+    Passed {
         answer: Receive::Accepted {
             ready: pass.ready,
             dropped: pass.dropped,
-            left: read.left,
+            left: left,
         },
-        queue: after,
+        accepted: true,
+        datagrams: datagrams,
+        reliables: reliables,
+        channels: channels,
         rows: n,
     }
 }

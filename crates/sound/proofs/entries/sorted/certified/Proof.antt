@@ -6,16 +6,15 @@ use Rattle.sound.proofs.entries.sorted.certified.Tie as tie
 pub certified-spec : {M : Type 1} → statement M
 certified-spec = tie.close (tie.spec
     (λ c. (λ e. nothing-told e))
-    (λ c κs. tt)
-    (λ c κs. tt)
+    (λ c. (λ e. nothing-told e))
     (λ c κs. search needs)
     (λ c κs. tt)
     (λ c. search needs)
     (λ c.
-    let led = c .before .before .before .before in
-    let placed = led .before .before .before in
+    let tested = c .before .before in
+    let placed = tested .before .before .before in
     let rise = placed .before .before in
     let pre = rise .before .before .before .before .before .before .before .pre in
-    λ e. all-tests _ _ _ _ _ _ _ (pre .1) (rise .before .if1 .left) (rise .all-rise .ensures) (placed .before .if2 .taken) (placed .all-placed .ensures) (led .before .before .if3 .taken) (led .count-led .ensures) (c .all-due .ensures) e)
-    (λ c. (λ e. nothing-told e))
+    λ e. all-tests _ _ _ _ _ _ _ (pre .2) (rise .before .if1 .left) (pre .0) (rise .if2 .taken) (placed .all-placed .ensures .0) (tested .if3 .taken) (placed .all-placed .ensures .1 (tested .if3 .taken)) (c .all-due .ensures) e)
+    (λ c. search needs)
     (λ c. (λ e. nothing-told e)))

@@ -19,7 +19,7 @@ returns-2 : tie.Need-returns-2
 returns-2 c = search (needs, out-of-reach)
 
 receive-frames-requires : tie.Need-receive-frames-requires
-receive-frames-requires c κs = search (needs, in-reach)
+receive-frames-requires c κs = (search (needs, in-reach), c .before .before .before .before .reliables-after .ensures .1 .1 (c .before .before .if2 .left))
 
 same-length : tie.Need-same-length
 same-length c = search needs

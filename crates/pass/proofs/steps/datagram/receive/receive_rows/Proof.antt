@@ -20,6 +20,9 @@ slice-aggregate-receive-all c = sym (length-take-le _ _ (rows-room _ _ (c .befor
 receive-all-requires : tie.Need-receive-all-requires
 receive-all-requires c κs = search needs
 
+conclude-requires : tie.Need-conclude-requires
+conclude-requires c κs = c .before .before .before .before .receive-all .ensures .room
+
 same-length : tie.Need-same-length
 same-length c = search needs
 
@@ -28,8 +31,8 @@ same-length-2 c = search needs
 
 returns : tie.Need-returns
 returns c =
-    let all = c .before .before .before .before in
-    receives-rows _ _ _ _ (all .before .before .before .rows-in .ensures) (all .receive-all .kept .1 .0) _ _ _ _ _ (all .receive-all .ensures)
+    let all = c .before .before .before .before .before in
+    receives-rows _ _ _ _ (all .before .before .before .rows-in .ensures) (all .receive-all .kept .1 .0) _ _ _ _ _ _ (all .receive-all .ensures) (c .conclude .ensures)
 
 pub receive-rows-spec : {M : Type 1} → statement M
 receive-rows-spec =
@@ -40,6 +43,7 @@ receive-rows-spec =
     slice-relend-prefix-receive-all
     slice-aggregate-receive-all
     receive-all-requires
+    conclude-requires
     same-length
     same-length-2
     returns)

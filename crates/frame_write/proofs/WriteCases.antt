@@ -1,0 +1,120 @@
+-- The cases of the writers, each with the facts as the code finds them.
+-- Assumes nothing.
+use mathlib.Core.Path.{_≡_, _∙_, sym, refl}
+use mathlib.Core.Bool.{Bool, true, false}
+use mathlib.Core.List.{List, [], _∷_, _++_}
+use Prim.Native.Nat.{ℕ, _+_, _-_, _*_, _<_, _≤_}
+use native.Mathlib.Omega.{arith}
+use lib.ListN.{length, take, drop, length-drop}
+use lib.Seq.{take-all}
+use Rattle.base.specs.Bytes.{be16Bytes}
+use Rattle.base.specs.If.{ifTrue}
+use Rattle.base.specs.Limits.{maxBody}
+use Rattle.base.specs.Put.{Run}
+use Rattle.base.proofs.Ifs.{lt-yes, lt-no, true-yes, true-no}
+use Rattle.base.proofs.Puts.{put-back, run-then}
+use Rattle.reliability.specs.Kinds.{fieldsOf}
+use Rattle.reliability.specs.declared.KindFields.{KindFields}
+use Rattle.frame.specs.declared.Frame.{Frame}
+use Rattle.frame_write.specs.declared.WriteFrame.the-variants.{Written, OverLimit, NoRoom}
+use Rattle.frame.specs.Read.{maxKind, metaSize}
+use Rattle.frame_write.specs.Write.{flagsOf, startBytes, fieldBytes, frameBytes}
+use Rattle.frame_write.specs.Valid.{fieldsOk, metaOk, withinLimits, sizeOf, byCase, writeFrameOf, writtenOf, writeAnswer}
+use Rattle.frame_write.proofs.Limits.{within}
+
+-- ---- the parts of a frame
+pub start-is : (p : ℕ) (l : List ℕ) (kind : ℕ) (piece : Bool) (n flags : ℕ) (q : ℕ) (L : List ℕ) (r : ℕ) (M : List ℕ) → flags ≡ flagsOf kind piece
+    → Run p (flags ∷ []) l q L → Run q (be16Bytes (n * 8)) L r M → Run p (startBytes kind piece n) l r M
+unfolding startBytes
+start-is p l kind piece n flags q L r M e a b = run-then p _ _ l q L r M (rw e at a) b
+
+pub fields-is : (p : ℕ) (l : List ℕ) (f : Frame) (k j : KindFields) (q : ℕ) (L : List ℕ) → k ≡ j → Run p (fieldBytes k f) l q L → Run p (fieldBytes j f) l q L
+fields-is p l f k j q L e a = rw e at a
+
+pub size-piece : (f : Frame) (n : ℕ) (k : KindFields) → k ≡ fieldsOf (f .kind) → f .piece ≡ true → k .header + metaSize + n ≡ sizeOf f n
+unfolding sizeOf ifTrue
+size-piece f n k e t = rw (t, e)
+
+pub size-whole : (f : Frame) (n : ℕ) (k : KindFields) → k ≡ fieldsOf (f .kind) → f .piece ≡ false → k .header + n ≡ sizeOf f n
+unfolding sizeOf ifTrue
+size-whole f n k e t = rw (t, e)
+
+-- ---- the limits
+module _ (f : Frame) (n : ℕ) where
+  pub over-kind : maxKind < f .kind → false ≡ withinLimits f n
+  unfolding withinLimits
+  over-kind a = lt-yes _ _ _ _ _ a refl
+
+  pub over-body : f .kind ≤ maxKind → maxBody < n → false ≡ withinLimits f n
+  unfolding withinLimits
+  over-body a b = lt-no _ _ _ _ _ a (lt-yes _ _ _ _ _ b refl)
+
+  pub over-field : f .kind ≤ maxKind → n ≤ maxBody → (k : KindFields) (t : Bool) → t ≡ fieldsOk k f → k ≡ fieldsOf (f .kind) → t ≡ false
+      → false ≡ withinLimits f n
+  unfolding withinLimits
+  over-field a b k t e r g = lt-no _ _ _ _ _ a (lt-no _ _ _ _ _ b (true-no _ _ _ _ (rw (← r) (sym e ∙ g)) refl))
+
+  pub by-meta : f .kind ≤ maxKind → n ≤ maxBody → (k : KindFields) (t r : Bool) → r ≡ metaOk (f .piece) (f .meta) → t ≡ fieldsOk k f
+      → k ≡ fieldsOf (f .kind) → t ≡ true → r ≡ withinLimits f n
+  unfolding withinLimits
+  by-meta a b k t r m e i g = lt-no _ _ _ _ _ a (lt-no _ _ _ _ _ b (true-yes _ _ _ _ (rw (← i) (sym e ∙ g)) m))
+
+  -- what the limits say of kind and body
+  pub limits-kind : (t : Bool) → t ≡ withinLimits f n → t ≡ true → f .kind ≤ maxKind
+  limits-kind t e g = within f n (sym e ∙ g) .kind
+
+  pub limits-body : (t : Bool) → t ≡ withinLimits f n → t ≡ true → n ≤ maxBody
+  limits-body t e g = within f n (sym e ∙ g) .body
+
+-- ---- the call's three cases, for the answer and for the output alike
+module _ {A : Type 0} (room at : ℕ) (f : Frame) (n : ℕ) (x y z : A) where
+  pub over-limit : withinLimits f n ≡ false → x ≡ byCase room at f n x y z
+  unfolding byCase
+  over-limit e = true-no _ _ _ _ e refl
+
+  pub no-room : withinLimits f n ≡ true → room < at + sizeOf f n → y ≡ byCase room at f n x y z
+  unfolding byCase
+  no-room e h = true-yes _ _ _ _ e (lt-yes _ _ _ _ _ h refl)
+
+  pub has-room : withinLimits f n ≡ true → at + sizeOf f n ≤ room → z ≡ byCase room at f n x y z
+  unfolding byCase
+  has-room e h = true-yes _ _ _ _ e (lt-no _ _ _ _ _ h refl)
+
+module _ (room at : ℕ) (f : Frame) (n : ℕ) (t : Bool) (i : t ≡ withinLimits f n) where
+  pub answer-over : t ≡ false → writeAnswer OverLimit ≡ writeFrameOf room at f n
+  unfolding writeAnswer writeFrameOf
+  answer-over e = over-limit room at f n _ _ _ (sym i ∙ e)
+
+  pub answer-past : t ≡ true → room < at → writeAnswer NoRoom ≡ writeFrameOf room at f n
+  unfolding writeAnswer writeFrameOf
+  answer-past e h = no-room room at f n _ _ _ (sym i ∙ e) (omega arith)
+
+  pub answer-short : t ≡ true → (s : ℕ) → s ≡ sizeOf f n → room - at < s → writeAnswer NoRoom ≡ writeFrameOf room at f n
+  unfolding writeAnswer writeFrameOf
+  answer-short e s v h = no-room room at f n _ _ _ (sym i ∙ e) (omega arith)
+
+  pub answer-written : t ≡ true → (s : ℕ) → s ≡ sizeOf f n → at ≤ room → s ≤ room - at → writeAnswer (Written (at + s)) ≡ writeFrameOf room at f n
+  unfolding writeAnswer writeFrameOf
+  answer-written e s v g h = rw v (has-room room at f n _ _ _ (sym i ∙ e) (omega arith))
+
+module _ (l : List ℕ) (at : ℕ) (f : Frame) (body : List ℕ) (t : Bool) (i : t ≡ withinLimits f (length body)) where
+  pub output-over : t ≡ false → l ≡ writtenOf l at f body
+  unfolding writtenOf
+  output-over e = over-limit (length l) at f (length body) _ _ _ (sym i ∙ e)
+
+  pub output-past : t ≡ true → length l < at → l ≡ writtenOf l at f body
+  unfolding writtenOf
+  output-past e h = no-room (length l) at f (length body) _ _ _ (sym i ∙ e) (omega arith)
+
+  pub output-short : t ≡ true → (s : ℕ) → s ≡ sizeOf f (length body) → length l - at < s → l ≡ writtenOf l at f body
+  unfolding writtenOf
+  output-short e s v h = no-room (length l) at f (length body) _ _ _ (sym i ∙ e) (omega arith)
+
+  -- the rest of the output was lent, and came back with the frame at its start
+  pub output-written : t ≡ true → (s : ℕ) → s ≡ sizeOf f (length body) → at ≤ length l → s ≤ length l - at
+      → (q : ℕ) (ys : List ℕ) → Run 0 (frameBytes f body) (take (length l - at) (drop at l)) q ys
+      → take at l ++ (ys ++ drop (length l - at) (drop at l)) ≡ writtenOf l at f body
+  unfolding writtenOf
+  output-written e s v g h q ys m =
+      let r : take (length l - at) (drop at l) ≡ drop at l = take-all (length l - at) (drop at l) (simp length-drop (omega arith)) in
+      rw (m .is, r) (put-back l at (frameBytes f body) g) ∙ has-room (length l) at f (length body) _ _ _ (sym i ∙ e) (omega arith)

@@ -1,0 +1,3 @@
+pub mod Write
+pub mod Valid
+pub mod Head
