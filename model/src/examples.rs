@@ -207,6 +207,9 @@ fn told(letter: &str, answer: Result<String, u8>) -> String {
     }
 }
 
+/// The missing are written only where they are no more than so many: the checker's steps are limited, and a list of thousands takes too many.
+const MISSING: usize = 64;
+
 /// One call: its text, and what it is told.
 fn bytes_call(rng: &mut Rng, small: &mut Small, r: &mut Receiver) -> (String, String) {
     let room = rng.pick(&[0, 2, 3, 6, 7, 10, 14]);
@@ -217,7 +220,7 @@ fn bytes_call(rng: &mut Rng, small: &mut Small, r: &mut Receiver) -> (String, St
             (format!("take-with {zeros}"), told("took", answer))
         }
         3 => (format!("write-unsent {zeros}"), told("wrote", r.write_unsent(room).map(|b| hex(&b)))),
-        4 => (format!("write-missing {zeros}"), told("wrote", r.write_missing(room).map(|b| hex(&b)))),
+        4 if r.datagrams.missing().len() <= MISSING => (format!("write-missing {zeros}"), told("wrote", r.write_missing(room).map(|b| hex(&b)))),
         _ => {
             let d = small_datagram(rng, small, r);
             let answer = r.receive(&d).map(|report| format!("{} {} {}", report.ready, report.dropped, report.left));
