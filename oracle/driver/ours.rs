@@ -1,4 +1,5 @@
-//! Our static library: crate `exports`. A slice goes over as a pointer and a length. A number is document 01's refusal, or 0.
+//! Our static libraries: crates `exports` and `exports_queue`. A slice goes over as a pointer and a length, a lent receiver as a pointer. A number
+//! is document 01's refusal, or 0.
 
 #[repr(C)]
 #[derive(Clone, Copy)]
@@ -38,13 +39,11 @@ pub struct SplitPiece {
 }
 
 #[repr(C)]
-#[derive(Clone, Copy)]
 struct Channel {
     next: u32,
 }
 
 #[repr(C)]
-#[derive(Clone, Copy)]
 struct RecvQueue {
     datagrams: Window,
     reliables: Window,
@@ -56,22 +55,16 @@ struct RecvQueue {
 #[repr(C)]
 #[derive(Clone, Copy, Default)]
 struct CellRecord {
-    used: u8,
-    kind: u8,
-    channel: u8,
-    id: u16,
-    index: u16,
-    count: u16,
-    length: u16,
+    used: u32,
+    kind: u32,
+    channel: u32,
+    id: u32,
+    index: u32,
+    count: u32,
+    length: u32,
     sequence: u32,
     order: u32,
     turn: u32,
-}
-
-#[repr(C)]
-struct QueueMade {
-    number: u32,
-    queue: RecvQueue,
 }
 
 #[repr(C)]
@@ -80,7 +73,6 @@ struct QueueReceived {
     ready: u32,
     dropped: u32,
     left: usize,
-    queue: RecvQueue,
 }
 
 #[repr(C)]
@@ -95,13 +87,6 @@ struct QueueTaken {
     len: usize,
 }
 
-#[repr(C)]
-struct QueueWritten {
-    number: u32,
-    len: usize,
-    queue: RecvQueue,
-}
-
 extern "C" {
     fn poghduka_read_frames(s: *const u8, len: usize, at: usize) -> FramesFound;
     fn poghduka_window_new() -> Window;
@@ -109,9 +94,9 @@ extern "C" {
     fn poghduka_window_missing(w: Window, list: *mut u32, len: usize) -> usize;
     fn poghduka_write_list(out: *mut u8, room: usize, nack: bool, numbers: *const u32, len: usize) -> AckWritten;
     fn poghduka_split_piece(buffer: *const u8, len: usize, mtu: u16, k: u32) -> SplitPiece;
-    fn poghduka_make_new(records: *mut CellRecord, n: usize, store: *const u8, len: usize) -> QueueMade;
+    fn poghduka_make_new(queue: *mut RecvQueue, records: *mut CellRecord, n: usize, store: *const u8, len: usize) -> u32;
     fn poghduka_receive(
-        queue: RecvQueue,
+        queue: *mut RecvQueue,
         records: *mut CellRecord,
         n: usize,
         store: *mut u8,
@@ -120,7 +105,7 @@ extern "C" {
         size: usize,
     ) -> QueueReceived;
     fn poghduka_take(
-        queue: RecvQueue,
+        queue: *const RecvQueue,
         records: *mut CellRecord,
         n: usize,
         store: *const u8,
@@ -128,8 +113,8 @@ extern "C" {
         joined: *mut u8,
         room: usize,
     ) -> QueueTaken;
-    fn poghduka_write_unsent(queue: RecvQueue, out: *mut u8, room: usize) -> QueueWritten;
-    fn poghduka_write_missing(queue: RecvQueue, out: *mut u8, room: usize) -> QueueWritten;
+    fn poghduka_write_unsent(queue: *mut RecvQueue, out: *mut u8, room: usize) -> AckWritten;
+    fn poghduka_write_missing(queue: *const RecvQueue, out: *mut u8, room: usize) -> AckWritten;
 }
 
 /// How many frames a datagram has, and the bytes left. (For speed/.)
@@ -181,7 +166,7 @@ pub fn split_piece(buffer: &[u8], mtu: u16, k: u32) -> SplitPiece {
 
 /// A receiver with what it is lent: records, store, a joining buffer and an output.
 pub struct Receiver {
-    queue: RecvQueue,
+    queue: Box<RecvQueue>,
     records: Vec<CellRecord>,
     store: Vec<u8>,
     joined: Vec<u8>,
@@ -201,17 +186,17 @@ impl Receiver {
     pub fn new(cells: usize, room: usize) -> Receiver {
         let mut records = vec![CellRecord::default(); cells];
         let store = vec![0; 1500 * cells];
-        let made = unsafe { poghduka_make_new(records.as_mut_ptr(), cells, store.as_ptr(), store.len()) };
-        assert_eq!(made.number, 0);
-        Receiver { queue: made.queue, records, store, joined: vec![0; room], out: vec![0; 9000] }
+        let mut queue: Box<RecvQueue> = unsafe { Box::new(std::mem::zeroed()) };
+        let number = unsafe { poghduka_make_new(&mut *queue, records.as_mut_ptr(), cells, store.as_ptr(), store.len()) };
+        assert_eq!(number, 0);
+        Receiver { queue, records, store, joined: vec![0; room], out: vec![0; 9000] }
     }
 
     pub fn receive(&mut self, datagram: &[u8]) -> Result<Report, u32> {
-        let (records, store) = (&mut self.records, &mut self.store);
+        let (queue, records, store) = (&mut *self.queue, &mut self.records, &mut self.store);
         let r = unsafe {
-            poghduka_receive(self.queue, records.as_mut_ptr(), records.len(), store.as_mut_ptr(), store.len(), datagram.as_ptr(), datagram.len())
+            poghduka_receive(queue, records.as_mut_ptr(), records.len(), store.as_mut_ptr(), store.len(), datagram.as_ptr(), datagram.len())
         };
-        self.queue = r.queue;
         if r.number != 0 {
             return Err(r.number);
         }
@@ -221,7 +206,7 @@ impl Receiver {
     /// The body of the earliest ready message.
     pub fn take(&mut self) -> Result<&[u8], u32> {
         let (records, store, joined) = (&mut self.records, &self.store, &mut self.joined);
-        let t = unsafe { poghduka_take(self.queue, records.as_mut_ptr(), records.len(), store.as_ptr(), store.len(), joined.as_mut_ptr(), joined.len()) };
+        let t = unsafe { poghduka_take(&*self.queue, records.as_mut_ptr(), records.len(), store.as_ptr(), store.len(), joined.as_mut_ptr(), joined.len()) };
         if t.number != 0 {
             return Err(t.number);
         }
@@ -230,15 +215,13 @@ impl Receiver {
 
     /// The unsent numbers as ACK, which empties them.
     pub fn write_unsent(&mut self) -> Result<&[u8], u32> {
-        let w = unsafe { poghduka_write_unsent(self.queue, self.out.as_mut_ptr(), self.out.len()) };
-        self.queue = w.queue;
+        let w = unsafe { poghduka_write_unsent(&mut *self.queue, self.out.as_mut_ptr(), self.out.len()) };
         if w.number != 0 { Err(w.number) } else { Ok(&self.out[..w.len]) }
     }
 
     /// The missing numbers as NACK.
     pub fn write_missing(&mut self) -> Result<&[u8], u32> {
-        let w = unsafe { poghduka_write_missing(self.queue, self.out.as_mut_ptr(), self.out.len()) };
-        self.queue = w.queue;
+        let w = unsafe { poghduka_write_missing(&*self.queue, self.out.as_mut_ptr(), self.out.len()) };
         if w.number != 0 { Err(w.number) } else { Ok(&self.out[..w.len]) }
     }
 }

@@ -3,3 +3,4 @@ pub mod SortCases
 pub mod Sendable
 pub mod WriteCases
 pub mod WriteLaws
+pub mod Calls

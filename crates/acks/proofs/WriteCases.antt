@@ -1,19 +1,14 @@
 -- The cases of the writings from the receiver, with the facts as the code finds them.
 -- Assumes nothing.
-use mathlib.Core.Path.{_≡_, _∙_, sym, ap, refl}
-use mathlib.Core.Bool.{Bool, true, false}
-use mathlib.Core.List.{List, _++_, map}
-use Prim.Native.Nat.{ℕ, _+_, _<_, _≤_}
-use native.Mathlib.Nat.{zero-add}
+use Rattle.walks.proofs.Walk.{_≡_, _∙_, sym, ap, refl, Bool, true, false, List, _++_, ℕ, _+_, _<_, _≤_, min, min-le-right, arith, length, take, length-append, take-at, length-take-le}
+use native.Mathlib.Nat.{zero-add, min-le-left}
 use native.Mathlib.Decide.{decLt}
-use native.Mathlib.Omega.{arith}
-use lib.ListN.{length, take, drop, length-append}
-use lib.Seq.{take-at, length-take-le}
-use borrow.Author.Needs.{length-unmapped}
+use lib.ListN.{drop}
 use Rattle.base.specs.Answer.{Answer, refused, gives}
 use Rattle.base.specs.If.{ifTrue}
 use Rattle.base.specs.Limits.{windowPlaces, maxList, maxUnsent}
 use Rattle.base.specs.Put.{Run}
+use Rattle.base.proofs.Choices.{byBool, and-right}
 use Rattle.base.proofs.Ifs.{lt-no}
 use Rattle.base.proofs.Puts.{after-fits, put-split, length-put}
 use Rattle.window.specs.declared.ReliableWindow.{ReliableWindow}
@@ -23,13 +18,19 @@ use Rattle.ack.specs.declared.WriteAck.{WriteAck}
 use Rattle.ack.specs.declared.WriteAck.the-variants as ack
 use Rattle.ack.specs.Write.{listBytes, someOver, tooLarge, writeListOf, writtenOf, writeAnswer}
 use Rattle.ack.proofs.WriteCases.{too-short, fits}
+use Rattle.window.specs.Window.{windowOf}
+use Rattle.recv.specs.declared.Heads.{Heads}
 use Rattle.recv.specs.declared.RecvQueue.{RecvQueue}
+use Rattle.recv.specs.Parts.{queueOf}
+use Rattle.sound_queue.specs.declared.QueueSound.{QueueSound}
+use Rattle.sound_queue.specs.Sound.{queueSoundOf}
 use Rattle.recv.specs.Queue.{unsentOf, soundQueue}
-use Rattle.recv.specs.Write.{sorted, writeOf, emptied, writeUnsentOf, writeMissingOf}
+use Rattle.recv.specs.Write.{sorted, Wrote, writeOf, emptied, writeUnsentOf, writeMissingOf}
+use Rattle.recv.proofs.Parts.{take-min}
 use Rattle.acks.specs.declared.WriteQueue.{WriteQueue}
-use Rattle.acks.specs.declared.WriteQueue.the-variants.{Written, Unsound, NoRoom}
-use Rattle.acks.specs.Wrote.{queueAnswer, Sendable, afterSending}
-use Rattle.acks.proofs.Sorted.{length-sorted}
+use Rattle.acks.specs.declared.WriteQueue.the-variants.{Unsound}
+use Rattle.acks.specs.Wrote.{queueAnswer, Sendable, output, outputOf, writingOf}
+use Rattle.acks.proofs.Sorted.{length-sorted, sorted-same}
 use Rattle.acks.proofs.Sendable.{pending-limit, unsent-sendable, missing-sendable}
 
 -- ---- a list that neither 13 nor 14 refuses: 12, or written
@@ -82,16 +83,20 @@ module _ (k : List ℕ) where
   pub first-written : (x out : List ℕ) (nack : Bool) (l : List ℕ) (m : ℕ) → x ≡ writtenOf out nack (take m l) → take m l ≡ k → x ≡ writtenOf out nack k
   first-written x out nack l m f e = rw e at f
 
--- the first m numbers sorted in their place
-module _ (l ys : List ℕ) (m : ℕ) (h : m ≤ length l) (e : ys ≡ sorted (take m l)) where
+-- the first m numbers sorted in a copy, the list l's first m
+module _ (u l ys : List ℕ) (m : ℕ) (e : ys ≡ sorted (take m u)) (h : m ≤ length u) where
   sorted-length : length ys ≡ m
-  sorted-length = ap length e ∙ length-sorted (take m l) ∙ length-take-le m l h
+  sorted-length = ap length e ∙ length-sorted (take m u) ∙ length-take-le m u h
 
-  pub sorted-first : take m (ys ++ drop m l) ≡ sorted (take m l)
+  pub sorted-first : take m (ys ++ drop m l) ≡ sorted (take m u)
   sorted-first = take-at ys (drop m l) m sorted-length ∙ e
 
   pub sorted-room : m ≤ length (ys ++ drop m l)
   sorted-room = let n = sorted-length in simp length-append (omega arith)
+
+-- both parts have the same length
+pub parts-alike : (u l : List ℕ) (m : ℕ) → m ≤ length u → m ≤ length l → length (take m u) ≡ length (take m l)
+parts-alike u l m h k = length-take-le m u h ∙ sym (length-take-le m l k)
 
 -- the missing numbers in a list with room for them
 module _ (w : ReliableWindow) (l : List ℕ) (q : ℕ) (m : List ℕ) (r : Run 0 (missing w) l q m) (h : windowPlaces ≤ length l) where
@@ -106,22 +111,11 @@ module _ (w : ReliableWindow) (l : List ℕ) (q : ℕ) (m : List ℕ) (r : Run 0
       let e : m ≡ missing w ++ drop (0 + length (missing w)) l = r .is ∙ put-split l 0 (missing w) fitting in
       rw e (take-at (missing w) (drop (0 + length (missing w)) l) q (sym missing-count))
 
+  pub missing-goes : Sendable (take q m)
+  missing-goes = rw missing-first (missing-sendable w)
+
   pub missing-room : q ≤ length m
   missing-room = let n = missing-count in let k : length m ≡ length l = ap length (r .is) ∙ length-put l 0 (missing w) in let f = fitting in omega arith
-
--- ---- the receiver afterwards
-module _ (q : RecvQueue) (r : WriteQueue) where
-  pub sent : (n : ℕ) → r ≡ Written n → record { datagrams = q .datagrams; reliables = q .reliables; channels = q .channels; unsent = q .unsent; pending = 0 } ≡ afterSending (queueAnswer r) q
-  unfolding afterSending emptied
-  sent n e = rw e
-
-  pub unsent-unsound : r ≡ Unsound → q ≡ afterSending (queueAnswer r) q
-  unfolding afterSending
-  unsent-unsound e = rw e
-
-  pub unsent-short : r ≡ NoRoom → q ≡ afterSending (queueAnswer r) q
-  unfolding afterSending
-  unsent-short e = rw e
 
 -- ---- the writings whole
 module _ (q after : RecvQueue) (nack : Bool) (l out : List ℕ) where
@@ -139,44 +133,71 @@ module _ (q after : RecvQueue) (nack : Bool) (l out : List ℕ) where
   unfolding writeOf ifTrue
   write-refused s k e = rw (s, e)
 
-module _ (q : RecvQueue) (out : List ℕ) (b : Bool) (s : b ≡ soundQueue q) where
-  pub unsent-9 : b ≡ false → record { answer = refused 9; queue = q; out = out } ≡ writeUnsentOf q out
-  unfolding writeUnsentOf
-  unsent-9 f = sym (write-unsound q (emptied q) false (sorted (unsentOf q)) out (sym s ∙ f))
+  -- answer and output
+  output-unsound : soundQueue q ≡ false → output Unsound out ≡ outputOf (writeOf q after nack l out)
+  unfolding output outputOf
+  output-unsound s = rw (write-unsound s)
 
-  pub missing-9 : b ≡ false → record { answer = refused 9; queue = q; out = out } ≡ writeMissingOf q out
-  unfolding writeMissingOf
-  missing-9 f = sym (write-unsound q q true (missing (q .datagrams)) out (sym s ∙ f))
+  output-sound : soundQueue q ≡ true → (r : WriteQueue) → queueAnswer r ≡ writeListOf (length out) nack l → (x : List ℕ) → x ≡ writtenOf out nack l → output r x ≡ outputOf (writeOf q after nack l out)
+  unfolding output outputOf writeOf ifTrue
+  output-sound s r e x f = rw (s, e, f)
 
-  pub unsent-whole : b ≡ true → (a : Answer ℕ) → a ≡ writeListOf (length out) false (sorted (take (q .pending) (q .unsent)))
-      → (x : List ℕ) → x ≡ writtenOf out false (sorted (take (q .pending) (q .unsent))) → (p : RecvQueue) → p ≡ afterSending a q
-      → record { answer = a; queue = p; out = x } ≡ writeUnsentOf q out
-  unfolding writeUnsentOf unsentOf afterSending
-  unsent-whole f a e x g p h = go a e h
-    where
-      l : List ℕ
-      l = sorted (take (q .pending) (q .unsent))
+-- ---- the same, of a receiver by its parts, with the facts as the code finds them
+module _ (h : Heads) (dbits rbits nexts unsent out : List ℕ) (s : QueueSound) (is : s ≡ queueSoundOf (queueOf h dbits rbits nexts unsent)) (nack : Bool) where
+  abbrev q : RecvQueue
+  q = queueOf h dbits rbits nexts unsent
 
-      go : (a : Answer ℕ) → a ≡ writeListOf (length out) false l → p ≡ afterSending a q → record { answer = a; queue = p; out = x } ≡ writeOf q (emptied q) false l out
-      go (gives n) e h = rw (h, g) (sym (write-given q (emptied q) false l out (sym s ∙ f) n (sym e)))
-      go (refused k) e h = rw (h, g) (sym (write-refused q (emptied q) false l out (sym s ∙ f) k (sym e)))
+  sound-is : s .sound ≡ soundQueue q
+  unfolding queueSoundOf
+  sound-is = ap (λ (t : QueueSound). t .sound) is
 
-  pub missing-whole : b ≡ true → (a : Answer ℕ) → a ≡ writeListOf (length out) true (missing (q .datagrams))
-      → (x : List ℕ) → x ≡ writtenOf out true (missing (q .datagrams)) → record { answer = a; queue = q; out = x } ≡ writeMissingOf q out
-  unfolding writeMissingOf
-  missing-whole f a e x g = go a e
-    where
-      go : (a : Answer ℕ) → a ≡ writeListOf (length out) true (missing (q .datagrams)) → record { answer = a; queue = q; out = x } ≡ writeOf q q true (missing (q .datagrams)) out
-      go (gives n) e = rw g (sym (write-given q q true (missing (q .datagrams)) out (sym s ∙ f) n (sym e)))
-      go (refused k) e = rw g (sym (write-refused q q true (missing (q .datagrams)) out (sym s ∙ f) k (sym e)))
+  pub list-9 : s .sound ≡ false → output Unsound out ≡ outputOf (writingOf nack q out)
+  unfolding writingOf writeUnsentOf writeMissingOf
+  list-9 f =
+      let unsound : soundQueue q ≡ false = sym sound-is ∙ f in
+      byBool (λ (w : Wrote). output Unsound out ≡ outputOf w) nack
+      (λ e. output-unsound q q true (missing (q .datagrams)) out unsound)
+      (λ e. output-unsound q (emptied q) false (sorted (unsentOf q)) out unsound)
 
-  -- ---- what the private functions require
-  pub unsent-within : b ≡ true → length (map (λ (x : ℕ). x) (q .unsent)) ≡ maxUnsent → q .pending ≤ length (q .unsent)
-  unsent-within f e = let p = pending-limit q (sym s ∙ f) in let n : length (q .unsent) ≡ maxUnsent = length-unmapped ℕ (q .unsent) maxUnsent e in omega arith
+  module _ (f : s .sound ≡ true) where
+    abbrev good : soundQueue q ≡ true
+    good = sym sound-is ∙ f
 
-  pub unsent-goes : b ≡ true → Sendable (sorted (take (q .pending) (q .unsent)))
-  unfolding unsentOf
-  unsent-goes f = unsent-sendable q (sym s ∙ f)
+    pub missing-whole : nack ≡ true → (r : WriteQueue) → queueAnswer r ≡ writeListOf (length out) true (missing (windowOf (h .datagrams) dbits))
+        → (x : List ℕ) → x ≡ writtenOf out true (missing (windowOf (h .datagrams) dbits)) → output r x ≡ outputOf (writingOf nack q out)
+    unfolding writingOf writeMissingOf queueOf
+    missing-whole e r a x b = rw e (output-sound q q true (missing (q .datagrams)) out good r a x b)
 
-  pub missing-goes : b ≡ true → length (map (λ (x : ℕ). x) (q .datagrams .bits)) ≡ 256 → Sendable (missing (q .datagrams))
-  missing-goes f e = missing-sendable q (sym s ∙ f) (length-unmapped ℕ (q .datagrams .bits) 256 e)
+    -- m of the numbers are unsent
+    module _ (e : nack ≡ false) (m : ℕ) (many : m ≡ min (h .pending) (length unsent)) where
+      unsent-first : take m unsent ≡ unsentOf q
+      unfolding unsentOf queueOf
+      unsent-first = rw many (take-min (h .pending) unsent)
+
+      pub unsent-within : m ≤ length unsent
+      unsent-within = rw many (min-le-right (h .pending) (length unsent))
+
+      pub unsent-few : m ≤ maxUnsent
+      unfolding queueOf
+      unsent-few = let p : h .pending ≤ maxUnsent = pending-limit q good in let n : m ≤ h .pending = rw many (min-le-left (h .pending) (length unsent)) in omega arith
+
+      pub unsent-goes : Sendable (sorted (take m unsent))
+      unsent-goes = rw unsent-first (unsent-sendable q good)
+
+      pub unsent-whole : (r : WriteQueue) → queueAnswer r ≡ writeListOf (length out) false (sorted (take m unsent))
+          → (x : List ℕ) → x ≡ writtenOf out false (sorted (take m unsent)) → output r x ≡ outputOf (writingOf nack q out)
+      unfolding writingOf writeUnsentOf
+      unsent-whole r a x b = rw e (output-sound q (emptied q) false (sorted (unsentOf q)) out good r (a ∙ rw unsent-first) x (b ∙ rw unsent-first))
+
+      -- where they ascend they are sorted
+      module _ (up : s .ascending ≡ true) where
+        sorted-already : sorted (take m unsent) ≡ take m unsent
+        unfolding queueSoundOf
+        sorted-already = sorted-same (take m unsent) (rw unsent-first (and-right (soundQueue q) _ (sym (ap (λ (t : QueueSound). t .ascending) is) ∙ up)))
+
+        pub straight-goes : Sendable (take m unsent)
+        straight-goes = rw (← sorted-already) unsent-goes
+
+        pub straight-whole : (r : WriteQueue) → queueAnswer r ≡ writeListOf (length out) false (take m unsent)
+            → (x : List ℕ) → x ≡ writtenOf out false (take m unsent) → output r x ≡ outputOf (writingOf nack q out)
+        straight-whole r a x b = unsent-whole r (a ∙ rw sorted-already) x (b ∙ rw sorted-already)

@@ -10,7 +10,6 @@ use lib.ListN.{length}
 use Rattle.base.specs.Answer.{Answer, refused, gives}
 use Rattle.base.proofs.Choices.{cases}
 use Rattle.window.specs.Missing.{missing}
-use Rattle.window.specs.Proper.{Sized}
 use Rattle.ack.specs.declared.Record.{Record}
 use Rattle.ack.specs.Records.{numbersOf, runs}
 use Rattle.ack.specs.Read.{headerSize, readHeaderOf, noneLeft, readAll, cursor}
@@ -20,7 +19,8 @@ use Rattle.ack.proofs.WriteLaws.{refused-writes-nothing, read-back-header, read
 use Rattle.recv.specs.declared.RecvQueue.{RecvQueue}
 use Rattle.recv.specs.Queue.{unsentOf, soundQueue}
 use Rattle.recv.specs.Write.{sorted, Wrote, writeOf, emptied, writeUnsentOf, writeMissingOf}
-use Rattle.acks.specs.Wrote.{Sendable}
+use Rattle.acks.specs.declared.WriteQueue.{WriteQueue}
+use Rattle.acks.specs.Wrote.{queueAnswer, wrote, Sendable, Output, output, outputOf, writingOf, withPending, pendingAfter}
 use Rattle.acks.proofs.Sorted.{sorted-member}
 use Rattle.acks.proofs.Sendable.{unsent-sendable, missing-sendable}
 use Rattle.acks.proofs.WriteCases.{short-or-written, write-unsound, write-given, write-refused}
@@ -143,6 +143,11 @@ module _ (q : RecvQueue) (out : List ℕ) where
       let a : writeUnsentOf q out .queue ≡ emptied q = given-after q (emptied q) false (sorted (unsentOf q)) out n e .0 in
       (a, rw a)
 
+  -- so of the receiver only the count of the unsent changes
+  pub unsent-count : writeUnsentOf q out .queue ≡ withPending q (pendingAfter (writeUnsentOf q out .answer) (q .pending))
+  unfolding writeUnsentOf emptied
+  unsent-count = write-ways q (emptied q) false (sorted (unsentOf q)) out (λ (r : Wrote). r .queue ≡ withPending q (pendingAfter (r .answer) (q .pending))) (λ s. refl) (λ s k e. refl) (λ s n e. refl)
+
   -- the ACK names the unsent numbers, ascending
   pub unsent-reads : (n : ℕ) → writeUnsentOf q out .answer ≡ gives n → Reads false (sorted (unsentOf q)) (writeUnsentOf q out .out)
   unfolding writeUnsentOf
@@ -156,10 +161,10 @@ module _ (q : RecvQueue) (out : List ℕ) where
 
 -- ---- the missing as NACK
 module _ (q : RecvQueue) (out : List ℕ) where
-  -- which answer, for the 256 bytes that each value of a window has; 13 and 14 are never given
-  pub missing-told : Sized (q .datagrams) → Told q (length (listBytes true (missing (q .datagrams)))) (length out) (writeMissingOf q out .answer)
+  -- which answer; 13 and 14 are never given
+  pub missing-told : Told q (length (listBytes true (missing (q .datagrams)))) (length out) (writeMissingOf q out .answer)
   unfolding writeMissingOf
-  missing-told z = told q q true (missing (q .datagrams)) out (λ s. missing-sendable q s z)
+  missing-told = told q q true (missing (q .datagrams)) out (λ s. missing-sendable (q .datagrams))
 
   -- the receiver is as it was, and after a refusal so is the output
   pub missing-keeps : writeMissingOf q out .queue ≡ q
@@ -174,3 +179,22 @@ module _ (q : RecvQueue) (out : List ℕ) where
   pub missing-reads : (n : ℕ) → writeMissingOf q out .answer ≡ gives n → Reads true (missing (q .datagrams)) (writeMissingOf q out .out)
   unfolding writeMissingOf
   missing-reads n e = given-after q q true (missing (q .datagrams)) out n e .1
+
+-- ---- a call by its answer and output, and by the receiver that it leaves
+module _ (r : WriteQueue) (l : List ℕ) (q : RecvQueue) (out : List ℕ) where
+  whole : (x : RecvQueue) (w : Wrote) → output r l ≡ outputOf w → w .queue ≡ x → wrote r x l ≡ w
+  unfolding output outputOf
+  whole x w e f =
+      let a : queueAnswer r ≡ w .answer = ap (λ (y : Output). y .answer) e in
+      let o : l ≡ w .out = ap (λ (y : Output). y .out) e in
+      rw (a, o, ← f)
+
+  pub missing-said : output r l ≡ outputOf (writingOf true q out) → wrote r q l ≡ writeMissingOf q out
+  unfolding writingOf
+  missing-said e = whole q (writeMissingOf q out) e (missing-keeps q out)
+
+  pub unsent-said : output r l ≡ outputOf (writingOf false q out) → wrote r (withPending q (pendingAfter (queueAnswer r) (q .pending))) l ≡ writeUnsentOf q out
+  unfolding writingOf output outputOf
+  unsent-said e =
+      let a : queueAnswer r ≡ writeUnsentOf q out .answer = ap (λ (y : Output). y .answer) e in
+      whole _ (writeUnsentOf q out) e (unsent-count q out ∙ rw a)

@@ -1,7 +1,7 @@
 -- Document 01's numbers and values for the answers of the two writings.
 use Prim.Native.Nat.{ℕ, _≤_}
 use mathlib.Core.Path.{_≡_}
-use mathlib.Core.Bool.{true, false}
+use mathlib.Core.Bool.{Bool, true, false, cond}
 use mathlib.Core.List.{List}
 use lib.ListN.{length}
 use Rattle.base.specs.Answer.{Answer, refused, gives}
@@ -11,7 +11,6 @@ use Rattle.recv.specs.declared.RecvQueue.{RecvQueue}
 use Rattle.recv.specs.Write as Write
 use Rattle.acks.specs.declared.WriteQueue.{WriteQueue}
 use Rattle.acks.specs.declared.WriteQueue.the-variants.{Written, Unsound, NoRoom}
-use Rattle.acks.specs.declared.WroteQueue.{WroteQueue}
 
 abbrev pub queueAnswer : WriteQueue → Answer ℕ
 queueAnswer (Written len) = gives len
@@ -19,8 +18,8 @@ queueAnswer Unsound = refused 9
 queueAnswer NoRoom = refused 12
 
 -- the answer, and what the call leaves of receiver and output
-abbrev pub wrote : WroteQueue → List ℕ → Write.Wrote
-wrote r out = record { answer = queueAnswer (r .answer); queue = r .queue; out = out }
+abbrev pub wrote : WriteQueue → RecvQueue → List ℕ → Write.Wrote
+wrote r q out = record { answer = queueAnswer r; queue = q; out = out }
 
 -- a list that neither 13 ("list too long or number of 2^24 or more") nor 14 ("not strictly ascending") refuses
 pub record Sendable (l : List ℕ) : Type 0 where
@@ -28,7 +27,28 @@ pub record Sendable (l : List ℕ) : Type 0 where
   pub below : someOver l ≡ false
   pub ordered : ascending l ≡ true
 
--- "Sending the unsent empties them."
-unfoldable pub afterSending : Answer ℕ → RecvQueue → RecvQueue
-afterSending (gives n) q = Write.emptied q
-afterSending (refused n) q = q
+-- ---- the writings that only read the receiver
+
+-- answer and output, without the receiver
+pub record Output : Type 0 where
+  pub answer : Answer ℕ
+  pub out : List ℕ
+
+unfoldable pub output : WriteQueue → List ℕ → Output
+output r out = record { answer = queueAnswer r; out = out }
+
+unfoldable pub outputOf : Write.Wrote → Output
+outputOf w = record { answer = w .answer; out = w .out }
+
+-- the missing as NACK where so, else the unsent as ACK
+unfoldable pub writingOf : Bool → RecvQueue → List ℕ → Write.Wrote
+writingOf nack q out = cond nack (Write.writeMissingOf q out) (Write.writeUnsentOf q out)
+
+-- the receiver with another count of unsent numbers
+abbrev pub withPending : RecvQueue → ℕ → RecvQueue
+withPending q k = record { datagrams = q .datagrams; reliables = q .reliables; channels = q .channels; unsent = q .unsent; pending = k }
+
+-- "Sending the unsent empties them": how many are left of k
+abbrev pub pendingAfter : Answer ℕ → ℕ → ℕ
+pendingAfter (gives n) k = 0
+pendingAfter (refused n) k = k

@@ -3,13 +3,14 @@
 use mathlib.Core.Path.{_≡_, _∙_, sym, ap, refl}
 use mathlib.Core.Bool.{Bool, true, false}
 use mathlib.Core.List.{List, [], _∷_, _++_, append-nil, append-assoc}
-use Prim.Native.Nat.{ℕ, zero, suc, _+_, _-_, _<_, _≤_}
+use Prim.Native.Nat.{ℕ, zero, suc, _+_, _-_, _<_, _≤_, min}
+use native.Mathlib.Decide.{decLe}
 use native.Mathlib.Nat.{add-zero, zero-add, add-suc, suc-add, le-of-suc-le-suc, not-suc-le-zero}
 use native.Mathlib.Numerals.{add-one}
 use native.Mathlib.Omega.{arith}
 use lib.Dec.{ltb}
 use lib.ListN.{length, getD, set, take, drop, length-set, length-append, length-take, length-drop, take-append-drop}
-use lib.Seq.{getD-set-same, getD-set-other, set-out, take-suc, take-all, sets, sets-eq, drop-length}
+use lib.Seq.{getD-set-same, getD-set-other, set-out, take-suc, take-suc-set, take-all, length-take-le, drop-drop, sets, sets-eq, drop-length}
 use borrow.Author.Tests.{lt-ltb, le-ltb, ltb-true, ltb-false}
 use Rattle.base.specs.If.{ifTrue, ifLt}
 use Rattle.base.proofs.Ifs.{lt-yes, lt-no}
@@ -127,23 +128,69 @@ pub run-cons : (p a : ℕ) (bs l : List ℕ) (q : ℕ) (L : List ℕ) (r : ℕ) 
 unfolding andThen
 run-cons p a bs l q L r M x y = run-then p (a ∷ []) bs l q L r M x y
 
+-- past the end nothing is stored
+pub run-past : (p : ℕ) (bs l : List ℕ) → length l ≤ p → Run p bs l p l
+run-past p bs l h = record { next = sym (after-past (length l) p (length bs) h); is = sym (put-past l p bs h) }
+
 -- one byte, where there is room and past the end
 pub byte-in : (l : List ℕ) (p b : ℕ) → p < length l → Run p (b ∷ []) l (p + 1) (set l p b)
 unfolding after
 byte-in l p b h = record { next = lt-yes p (length l) (p + 1) (suc p) p h (add-one p); is = sym (put-one l p b) }
 
 pub byte-past : (l : List ℕ) (p b : ℕ) → length l ≤ p → Run p (b ∷ []) l p l
-unfolding after
-byte-past l p b h = record { next = lt-no p (length l) p (suc p) p h refl; is = sym (put-past l p (b ∷ []) h) }
+byte-past l p b h = run-past p (b ∷ []) l h
 
--- one byte more of a body that is copied
-pub body-step : (p i : ℕ) (body l : List ℕ) (q : ℕ) (L : List ℕ) (r : ℕ) (M : List ℕ) → i < length body
-    → Run p (take i body) l q L → Run q (getD body i 0 ∷ []) L r M → Run p (take (i + 1) body) l r M
-unfolding andThen
-body-step p i body l q L r M h a b = rw (add-one, take-suc body i 0) (run-then p (take i body) (getD body i 0 ∷ []) l q L r M a b)
+-- one element more of a list that is copied over another
+pub copy-step : (i : ℕ) (from to : List ℕ) → i < length from → length to ≡ length from → take i to ≡ take i from
+    → take (i + 1) (set to i (getD from i 0)) ≡ take (i + 1) from
+copy-step i from to h n e =
+    let k : i < length to = omega arith in
+    rw (add-one, take-suc-set to i (getD from i 0) k, take-suc from i 0 h, e)
 
-pub body-end : (p i : ℕ) (body l : List ℕ) (q : ℕ) (L : List ℕ) → i ≤ length body → length body ≤ i → Run p (take i body) l q L → Run p body l q L
-body-end p i body l q L h k a = rw (take-all i body k) at a
+pub copy-end : (i : ℕ) (from to : List ℕ) → length from ≤ i → length to ≡ length from → take i to ≡ take i from → to ≡ from
+copy-end i from to h n e =
+    let k : length to ≤ i = omega arith in
+    rw (take-all i to k, take-all i from h) at e
+
+-- a body, as much of it as there is room for, in place of a part of the list
+module _ (p m : ℕ) (body l : List ℕ) (h : p < length l) (e : m ≡ min (length l - p) (length body)) where
+  part-long : length (take m body) ≡ m
+  part-long = length-take-le m body (omega arith)
+
+  part-put : put l p body ≡ put l p (take m body)
+  part-put = go (decLe (length body) m)
+    where
+      go : Dec (length body ≤ m) → put l p body ≡ put l p (take m body)
+      go (yes i) = rw (take-all m body i)
+      go (no i) =
+          let f : after (length l) p (length (take m body)) ≡ p + m = rw part-long (after-fits (length l) p m (omega arith)) in
+          let full : length (put l p (take m body)) ≤ p + m = rw length-put (omega arith) in
+          let a : put (put l p (take m body)) (after (length l) p (length (take m body))) (drop m body) ≡ put l p (take m body ++ drop m body) =
+          put-append l p (take m body) (drop m body) in
+          sym (rw (f, put-past (put l p (take m body)) (p + m) (drop m body) full, take-append-drop) at a)
+
+  part-next : after (length l) p (length body) ≡ p + m
+  part-next = go (decLe (length body) m)
+    where
+      go : Dec (length body ≤ m) → after (length l) p (length body) ≡ p + m
+      go (yes i) = let n : length body ≡ m = omega arith in rw n (after-fits (length l) p m (omega arith))
+      go (no i) =
+          let n : length body ≡ m + (length body - m) = omega arith in
+          rw (n, after-add (length l) p m (length body - m), after-fits (length l) p m (omega arith))
+          (after-past (length l) (p + m) (length body - m) (omega arith))
+
+  -- the part of the body and the part of the list, as they are lent
+  pub part-count : m ≡ length (take m body)
+  part-count = sym part-long
+
+  pub part-same : length (take (p + m - p) (drop p l)) ≡ length (take m body)
+  part-same = rw part-long (simp (length-take, length-drop) (omega arith))
+
+  pub part-run : (part : List ℕ) → part ≡ take m body → Run p body l (p + m) (take p l ++ (part ++ drop (p + m - p) (drop p l)))
+  part-run part i =
+      let s : put l p (take m body) ≡ take p l ++ (take m body ++ drop (p + length (take m body)) l) = put-split l p (take m body) (rw part-long (omega arith)) in
+      let d : p + (p + m - p) ≡ p + m = omega arith in
+      record { next = sym part-next; is = rw (i, drop-drop, d) (sym (part-put ∙ (rw part-long at s))) }
 
 -- a run leaves the length
 pub run-long : (p : ℕ) (bs l : List ℕ) (q : ℕ) (m : List ℕ) → Run p bs l q m → length m ≡ length l

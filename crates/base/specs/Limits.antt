@@ -5,6 +5,10 @@ use Prim.Native.Nat.{ℕ}
 abbrev pub numbers24 : ℕ
 numbers24 = 16777216
 
+-- a piece's id is a number of 16 bits: the first that is over the limit, 2^16
+abbrev pub numbers16 : ℕ
+numbers16 = 65536
+
 -- "channel 0 to 31": how many channels there are (`MAX_ORD_CHANS`)
 abbrev pub maxOrdChans : ℕ
 maxOrdChans = 32

@@ -1,12 +1,15 @@
 // What the other crates share: document 01's limits, and numbers read from bytes and written as bytes.
 ghost use mathlib.Core.Path.{_≡_};
 ghost use mathlib.Core.List.{_∷_, []};
-ghost use lib.ListN.{getD};
+ghost use Prim.Native.Nat.{min};
+ghost use lib.ListN.{getD, length};
 ghost use Rattle.base.specs.Bytes.{be16, be32, le24, be16Bytes, be32Bytes, le24Bytes};
 ghost use Rattle.base.specs.Put.{Run};
 
 // Document 01's limits. The definitions' own are in specs/Limits.antt.
 pub const NUMBERS_24: u32 = 16777216;
+
+pub const NUMBERS_16: u32 = 65536;
 
 pub const MAX_ORD_CHANS: u8 = 32;
 
@@ -122,16 +125,37 @@ pub fn put32(out: &mut [u8], p: usize, x: u32) -> usize
     put16(out, a, x)
 }
 
-// All of a body.
+// A body, as far as the output goes.
 pub fn put_bytes(out: &mut [u8], p: usize, body: &[u8]) -> usize
     ensures { λ r. ⌜ Run p (now (body .entry)) (now (out .entry)) r (now (out .exit)) ⌝ }
 {
-    let mut q = p;
+    let n = out.len();
+    if n <= p {
+        return p;
+    }
+    let m = lesser(n - p, body.len());
+    let q = p + m;
+    copy_all(&mut out[p..q], &body[..m]);
+    q
+}
+
+fn lesser(a: usize, b: usize) -> usize
+    ensures { λ r. ⌜ r ≡ min a b ⌝ }
+{
+    if a < b {
+        return a;
+    }
+    b
+}
+
+// One slice over another of its length. A loop without a branch, as this one, is compiled to moves of many bytes at a time.
+fn copy_all(to: &mut [u8], from: &[u8])
+    requires { ⌜ length (now to) ≡ length (now from) ⌝ }
+    ensures { λ _. ⌜ now (to .exit) ≡ now (from .entry) ⌝ }
+{
     let mut i = 0;
-    while i < body.len() {
-        let b = body[i];
-        q = put8(out, q, b);
+    while i < from.len() {
+        to[i] = from[i];
         i += 1;
     }
-    q
 }

@@ -4,13 +4,13 @@
 // 0 receive, followed by n bytes; 1 take with a joining buffer of n bytes; 2 write the unsent, 3 write the missing, each into an output of n bytes.
 // A cut call ends the input, as does another first byte. Output, one line a call: `r 0 READY DROPPED LEFT`, `t 0 LENGTH SUM KIND CHANNEL ORDER`, `u 0 LENGTH SUM`, `m 0
 // LENGTH SUM`; on a refusal the letter and document 01's number. SUM is over the bytes handed out: from 1 on, for each byte h = (31 h + byte) mod 65521.
-use acks::WriteQueue;
-use cells::CellRecord;
 use libc::STDIN_FILENO;
 use libc::STDOUT_FILENO;
-use pass::Receive;
-use recv::RecvQueue;
-use takes::Take;
+use recv_queue::CellRecord;
+use recv_queue::Receive;
+use recv_queue::RecvQueue;
+use recv_queue::Take;
+use recv_queue::WriteQueue;
 
 const STORE: usize = base::CELL_BYTES * held::HELD;
 
@@ -158,7 +158,7 @@ fn show_write(letter: &[u8], answer: WriteQueue, out: &[u8]) {
 fn write_unsent(x: Receiver, out: &mut [u8]) -> Receiver {
     let queue = x.queue;
     let records = x.records;
-    let r = acks::write_unsent(queue, out);
+    let r = held::write_unsent_held(queue, out);
     let answer = r.answer;
     let q = r.queue;
     show_write(b"u", answer, out);
@@ -168,11 +168,9 @@ fn write_unsent(x: Receiver, out: &mut [u8]) -> Receiver {
 fn write_missing(x: Receiver, out: &mut [u8]) -> Receiver {
     let queue = x.queue;
     let records = x.records;
-    let r = acks::write_missing(queue, out);
-    let answer = r.answer;
-    let q = r.queue;
+    let answer = held::write_missing_held(queue, out);
     show_write(b"m", answer, out);
-    with_cells(q, records)
+    with_cells(queue, records)
 }
 
 // ---- the input
@@ -272,7 +270,7 @@ fn run(x: Receiver, cells: usize, store: &mut [u8], buffer: &mut [u8]) {
 }
 
 fn start(cells: usize, store: &mut [u8], buffer: &mut [u8]) {
-    let made = held::make_held(cells, store);
+    let made = held::new_held(cells, store);
     let queue = made.queue;
     let records = made.records;
     run(with_cells(queue, records), cells, store, buffer);

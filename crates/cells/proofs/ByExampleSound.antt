@@ -40,12 +40,12 @@ pub no-more : (soundAt 0 (ready-cell 0 3 5 0 ∷ held-cell 5 0 ∷ open-cell 0 0
 unfolding run soundAt
 no-more = (refl, refl)
 
--- "values and body lengths obey the limits", one at a time: at their limits; kind 8; channel 32; index 1 of count 1; count 0; sequence and order number
--- 2^24; use 4. Of an unused record nothing but its use is looked at. An open piece of 1,024, of 1,025.
+-- "values and body lengths obey the limits", one at a time: at their limits; id 2^16; kind 8; channel 32; index 1 of count 1; count 0; sequence and order
+-- number 2^24; use 4. Of an unused record nothing but its use is looked at. An open piece of 1,024, of 1,025.
 pub values : map (λ (s : Slot). soundAt 0 (s ∷ []))
-    (slot 3 65535 0 7 31 1 16777215 16777215 0 [] ∷ slot 3 0 0 8 0 1 0 0 0 [] ∷ slot 3 0 0 0 32 1 0 0 0 [] ∷ slot 3 0 1 0 0 1 0 0 0 [] ∷ slot 3 0 0 0 0 0 0 0 0 [] ∷ slot 3 0 0 0 0 1 16777216 0 0 [] ∷ slot 3 0 0 0 0 1 0 16777216 0 [] ∷ slot 4 0 0 0 0 1 0 0 0 []
-    ∷ slot 0 9 9 8 99 0 99999999 99999999 9 [] ∷ slot 1 0 0 0 0 1024 0 0 0 [] ∷ slot 1 0 0 0 0 1025 0 0 0 [] ∷ [])
-    ≡ true ∷ false ∷ false ∷ false ∷ false ∷ false ∷ false ∷ false ∷ true ∷ true ∷ false ∷ []
+    (slot 3 65535 0 7 31 1 16777215 16777215 0 [] ∷ slot 3 65536 0 7 31 1 0 0 0 [] ∷ slot 3 0 0 8 0 1 0 0 0 [] ∷ slot 3 0 0 0 32 1 0 0 0 [] ∷ slot 3 0 1 0 0 1 0 0 0 [] ∷ slot 3 0 0 0 0 0 0 0 0 [] ∷ slot 3 0 0 0 0 1 16777216 0 0 [] ∷ slot 3 0 0 0 0 1 0 16777216 0 [] ∷ slot 4 0 0 0 0 1 0 0 0 []
+    ∷ slot 0 99999 9 8 99 0 99999999 99999999 9 [] ∷ slot 1 0 0 0 0 1024 0 0 0 [] ∷ slot 1 0 0 0 0 1025 0 0 0 [] ∷ [])
+    ≡ true ∷ false ∷ false ∷ false ∷ false ∷ false ∷ false ∷ false ∷ false ∷ true ∷ true ∷ false ∷ []
 unfolding run soundAt
 values = refl
 

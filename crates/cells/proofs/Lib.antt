@@ -14,6 +14,7 @@ pub mod Takes
 pub mod Sessions
 pub mod Simulation
 pub mod Room
+pub mod Growing
 pub mod SoundCore
 pub mod SoundCascade
 pub mod SoundFrames

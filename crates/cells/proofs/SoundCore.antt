@@ -8,7 +8,7 @@ use mathlib.Core.List.{List, map, Memᴰ·of-map, List·Memᴰ}
 use native.Mathlib.Omega.{arith}
 use lib.Dec.{eqb}
 use borrow.Author.Tests.{eqb-true, eqb-false, eq-eqb}
-use Rattle.base.specs.Limits.{numbers24, maxOrdChans, maxFrags, cellBytes}
+use Rattle.base.specs.Limits.{numbers16, numbers24, maxOrdChans, maxFrags, cellBytes}
 use Rattle.base.specs.Lists.{any, countOf, below}
 use Rattle.base.proofs.Choices.{cases, and-left, and-right, and-both, neither}
 use Rattle.base.proofs.Lists.{any-false, any-all, any-map}
@@ -30,6 +30,7 @@ pub record Bounds (s : Slot) : Type 0 where
   pub count : s .cell .count ≤ maxFrags
   pub index : s .cell .index < s .cell .count
   pub length : s .cell .length ≤ cellBytes
+  pub id : s .cell .id < numbers16
 
 -- Two cells of a message "agree as in step 3".
 pub record Agreeing (s s′ : Slot) : Type 0 where
@@ -178,7 +179,7 @@ same-or-apart (readyAs t) (readyAs u) = cases (eqb t u) (λ y. inl (ap readyAs (
 
 pub bounds-mark : (u t : ℕ) (s : Slot) → u ≤ 4 → Bounds s → Bounds (mark u t s)
 unfolding mark markCell
-bounds-mark u t s le b = record { used = le; kind = b .kind; channel = b .channel; sequence = b .sequence; order = b .order; some-count = b .some-count; count = b .count; index = b .index; length = b .length }
+bounds-mark u t s le b = record { used = le; kind = b .kind; channel = b .channel; sequence = b .sequence; order = b .order; some-count = b .some-count; count = b .count; index = b .index; length = b .length; id = b .id }
 
 -- Slots of a key that get another use do not become a key's cells; or they do, where it had none and they lack no index.
 abbrev pub Target : Key → ℕ → ℕ → List Slot → Key → Type 0

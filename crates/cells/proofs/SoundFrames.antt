@@ -37,6 +37,7 @@ slot-bounds f u t ok lim le = record {
   count = go (f .piece) (piece-limits f lim) .1;
   index = go (f .piece) (piece-limits f lim) .2;
   length = ok .body;
+  id = ok .id;
 }
   where
     go : (b : Bool) → (b ≡ true → (1 ≤ f .count) × (f .count ≤ maxFrags) × (f .index < f .count)) → (1 ≤ cond b (f .count) 1) × (cond b (f .count) 1 ≤ maxFrags) × (cond b (f .index) 0 < cond b (f .count) 1)

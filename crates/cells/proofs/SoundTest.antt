@@ -7,7 +7,7 @@ use mathlib.Core.List.{List, Memᴰ·map, Memᴰ·of-map, List·Memᴰ}
 use native.Mathlib.Omega.{arith}
 use lib.Dec.{ltb, leb, eqb}
 use borrow.Author.Tests.{ltb-true, lt-ltb, leb-true, le-leb, eqb-true, eqb-false, eq-eqb, ne-eqb, not-true}
-use Rattle.base.specs.Limits.{numbers24, maxOrdChans, maxFrags}
+use Rattle.base.specs.Limits.{numbers24, maxOrdChans, maxFrags, cellBytes}
 use Rattle.base.specs.Lists.{any, every, countOf}
 use Rattle.base.proofs.Choices.{cases, and-left, and-right, and-both, or-implied, implied-or}
 use Rattle.base.proofs.Lists.{any-true, any-mem, every-mem, every-all, below-at, below-all}
@@ -85,6 +85,7 @@ limits-bounds s e₀ =
     let e₅ = and-right (ltb (s .cell .order) numbers24) _ e₄ in
     let e₆ = and-right (leb 1 (s .cell .count)) _ e₅ in
     let e₇ = and-right (leb (s .cell .count) maxFrags) _ e₆ in
+    let e₈ = and-right (ltb (s .cell .index) (s .cell .count)) _ e₇ in
     let u = leb-true (s .cell .used) 3 (and-left (leb (s .cell .used) 3) _ e₀) in (
       record {
         used = omega arith;
@@ -95,14 +96,15 @@ limits-bounds s e₀ =
         some-count = leb-true _ _ (and-left (leb 1 (s .cell .count)) _ e₅);
         count = leb-true _ _ (and-left (leb (s .cell .count) maxFrags) _ e₆);
         index = ltb-true _ _ (and-left (ltb (s .cell .index) (s .cell .count)) _ e₇);
-        length = leb-true _ _ (and-right (ltb (s .cell .index) (s .cell .count)) _ e₇);
+        length = leb-true _ _ (and-left (leb (s .cell .length) cellBytes) _ e₈);
+        id = ltb-true _ _ (and-right (leb (s .cell .length) cellBytes) _ e₈);
       },
       u,
     )
 
 bounds-limits : (s : Slot) → Bounds s → s .cell .used ≤ 3 → limits (s .cell) ≡ true
 unfolding limits
-bounds-limits s b u = and-both _ _ (le-leb _ _ u) (and-both _ _ (le-leb _ _ (b .kind)) (and-both _ _ (lt-ltb _ _ (b .channel)) (and-both _ _ (lt-ltb _ _ (b .sequence)) (and-both _ _ (lt-ltb _ _ (b .order)) (and-both _ _ (le-leb _ _ (b .some-count)) (and-both _ _ (le-leb _ _ (b .count)) (and-both _ _ (lt-ltb _ _ (b .index)) (le-leb _ _ (b .length)))))))))
+bounds-limits s b u = and-both _ _ (le-leb _ _ u) (and-both _ _ (le-leb _ _ (b .kind)) (and-both _ _ (lt-ltb _ _ (b .channel)) (and-both _ _ (lt-ltb _ _ (b .sequence)) (and-both _ _ (lt-ltb _ _ (b .order)) (and-both _ _ (le-leb _ _ (b .some-count)) (and-both _ _ (le-leb _ _ (b .count)) (and-both _ _ (lt-ltb _ _ (b .index)) (and-both _ _ (le-leb _ _ (b .length)) (lt-ltb _ _ (b .id))))))))))
 
 agree-says : (s s′ : Slot) → agree (s .cell) (s′ .cell) ≡ true → Agreeing s s′
 unfolding agree

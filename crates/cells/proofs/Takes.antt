@@ -112,8 +112,21 @@ taking-is : (l : List Slot) (t : ℕ) (m : Message) → earliest l ≡ some t �
 unfolding taking
 taking-is l t m e f = rw (e, f)
 
--- What a take leaves: the slots without those of one ready message.
-pub taken-freed : (l : List Slot) (t : Taken) → taking l ≡ some t → (u : ℕ) × (t .slots ≡ freed (readyAs u) l)
+freed-fewer : (t : ℕ) (l : List Slot) → any (of (readyAs t)) l ≡ true → countOf isReady (freed (readyAs t) l) < countOf isReady l
+unfolding freed mapIf change isReady emptySlot emptyCell
+freed-fewer t l e =
+    let a = any-true (of (readyAs t)) l e in
+    count-lt-map isReady isReady (change (of (readyAs t)) (λ s. emptySlot)) l
+    (λ s m. cases (of (readyAs t) s) (λ y. rw y (λ z. absurd (false≢true z))) (λ y. rw y (λ z. z)))
+    (a .0) (a .1) ((ready-of t (a .0) (a .2)) .0) (rw (a .2))
+
+message-present : (t : ℕ) (l : List Slot) (m : Message) → messageAt (readyAs t) l ≡ some m → any (of (readyAs t)) l ≡ true
+message-present t l m e =
+    let a = any-true (sits (readyAs t) 0) l (message-there (readyAs t) l m e) in
+    any-mem (of (readyAs t)) l (a .0) (a .1) ((sits-is (readyAs t) 0 (a .0) (a .2)) .0)
+
+-- What a take leaves: the slots without those of one ready message, of which there was one.
+pub taken-freed : (l : List Slot) (t : Taken) → taking l ≡ some t → (u : ℕ) × (t .slots ≡ freed (readyAs u) l) × (countOf isReady (t .slots) < countOf isReady l)
 unfolding taking
 taken-freed l t e = caseOption (earliest l)
     (λ y. absurd (let n : none ≡ some t = rw y at e in let z : _≡_ {A = ℕ} 0 1 = cc in omega arith))
@@ -121,7 +134,8 @@ taken-freed l t e = caseOption (earliest l)
     (λ z. absurd (let n : none ≡ some t = rw (y, z) at e in let z : _≡_ {A = ℕ} 0 1 = cc in omega arith))
     (λ m z. let n : some (record { message = m; slots = freed (readyAs u) l }) ≡ some t = rw (y, z) at e in
     let q : record { message = m; slots = freed (readyAs u) l } ≡ t = cc in
-    (u, ap (λ (x : Taken). x .slots) (sym q))))
+    let f = ap (λ (x : Taken). x .slots) (sym q) in
+    (u, f, rw f (freed-fewer u l (message-present u l m z)))))
 
 freed-ready : (lo : ℕ) (l : List Slot) (t : ℕ) → (t ≡ lo → ⊥) → SameUnder (readyAs t) l (readyAs t) (freed (readyAs lo) l)
 unfolding freed
@@ -173,20 +187,9 @@ module _ {o : Out} {next : ℕ → ℕ} {l : List Slot} {lo : ℕ} {h : List Mes
   pub take-some : (n : ℕ) → Outs o next l lo (suc n) h → (m : Message) × (messageAt (readyAs lo) l ≡ some m) × (taking l ≡ some (record { message = m; slots = freed (readyAs lo) l })) × Outs o next (freed (readyAs lo) l) (suc lo) n (h ++ (m ∷ []))
   take-some n v = let f = has-some (messageAt (readyAs lo) l) (v .firsts lo (omega arith) (omega arith)) in (f .0, f .1, taking-is l lo (f .0) (take-first n v) (f .1), freed-outs n (f .0) v (f .1))
 
-freed-fewer : (t : ℕ) (l : List Slot) → any (of (readyAs t)) l ≡ true → countOf isReady (freed (readyAs t) l) < countOf isReady l
-unfolding freed mapIf change isReady emptySlot emptyCell
-freed-fewer t l e =
-    let a = any-true (of (readyAs t)) l e in
-    count-lt-map isReady isReady (change (of (readyAs t)) (λ s. emptySlot)) l
-    (λ s m. cases (of (readyAs t) s) (λ y. rw y (λ z. absurd (false≢true z))) (λ y. rw y (λ z. z)))
-    (a .0) (a .1) ((ready-of t (a .0) (a .2)) .0) (rw (a .2))
-
 module _ {o : Out} {next : ℕ → ℕ} where
   ready-present : {l : List Slot} {lo n : ℕ} {h : List Message} → Outs o next l lo (suc n) h → any (of (readyAs lo)) l ≡ true
-  ready-present {l} {lo} v =
-      let f = has-some (messageAt (readyAs lo) l) (v .firsts lo (omega arith) (omega arith)) in
-      let a = any-true (sits (readyAs lo) 0) l (message-there (readyAs lo) l (f .0) (f .1)) in
-      any-mem (of (readyAs lo)) l (a .0) (a .1) ((sits-is (readyAs lo) 0 (a .0) (a .2)) .0)
+  ready-present {l} {lo} v = let f = has-some (messageAt (readyAs lo) l) (v .firsts lo (omega arith) (omega arith)) in message-present lo l (f .0) (f .1)
 
   drain-line : (f n lo : ℕ) (l : List Slot) (h : List Message) → Outs o next l lo n h → countOf isReady l ≤ f → drainIn f l ≡ readyLine l lo n
   unfolding drainIn

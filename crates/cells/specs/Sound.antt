@@ -4,7 +4,7 @@ use mathlib.Core.Bool.{Bool, cond, not, _&&_, _||_}
 use mathlib.Core.List.{List}
 use lib.ListN.{length}
 use lib.Dec.{ltb, leb, eqb}
-use Rattle.base.specs.Limits.{numbers24, maxOrdChans, maxFrags, maxCells, cellBytes}
+use Rattle.base.specs.Limits.{numbers16, numbers24, maxOrdChans, maxFrags, maxCells, cellBytes}
 use Rattle.base.specs.Lists.{any, every, countOf, below}
 use Rattle.line.specs.Frame.{Frame}
 use Rattle.cells.specs.Cell.{Cell, Key, openAs, heldAs, readyAs, bears, at}
@@ -13,11 +13,11 @@ use Rattle.cells.specs.Cell.{Cell, Key, openAs, heldAs, readyAs, bears, 
 unfoldable pub keyOf : Cell → Key
 keyOf c = cond (eqb (c .used) 1) (openAs (c .id)) (cond (eqb (c .used) 2) (heldAs (c .channel) (c .order)) (readyAs (c .turn)))
 
--- "values and body lengths obey the limits" (an id's limit is its type's)
+-- "values and body lengths obey the limits"
 unfoldable pub limits : Cell → Bool
 limits c =
     leb (c .used) 3 && (leb (c .kind) 7 && (ltb (c .channel) maxOrdChans && (ltb (c .sequence) numbers24 && (ltb (c .order) numbers24
-    && (leb 1 (c .count) && (leb (c .count) maxFrags && (ltb (c .index) (c .count) && leb (c .length) cellBytes)))))))
+    && (leb 1 (c .count) && (leb (c .count) maxFrags && (ltb (c .index) (c .count) && (leb (c .length) cellBytes && ltb (c .id) numbers16))))))))
 
 -- "the pieces of a message agree as in step 3"
 unfoldable pub agree : Cell → Cell → Bool
@@ -53,9 +53,10 @@ sound cs next = soundCells cs next && soundNexts next
 unfoldable pub lengths : ℕ → ℕ → Bool
 lengths cells bytes = leb 1 cells && (leb cells maxCells && eqb bytes (cellBytes * cells))
 
--- What the reading of a datagram gives of each frame: a kind of three bits, numbers of 24, a body no longer than a cell.
+-- What the reading of a datagram gives of each frame: a kind of three bits, numbers of 24, an id of 16, a body no longer than a cell.
 pub record Readable (f : Frame) : Type 0 where
   pub kind : f .kind ≤ 7
   pub sequence : f .sequence < numbers24
   pub order : f .order < numbers24
+  pub id : f .id < numbers16
   pub body : length (f .body) ≤ cellBytes

@@ -12,8 +12,7 @@ use Rattle.window.proofs.Laws.{refusal-keeps-window}
 use Rattle.recv.specs.Queue.{unsentOf}
 use Rattle.recv.specs.Receive.{numberOf}
 use Rattle.recv.specs.Calls.{Call, receive, Receiver, after, afterAll}
-use Rattle.recv.specs.Claim.{Start, begun}
-use Rattle.recv.proofs.Runs.{AllBytes}
+use Rattle.recv.specs.Claim.{Start, begun, AllBytes}
 use Rattle.recv.proofs.Lists.{runs}
 use Rattle.recv.proofs.Demand.{start-sane}
 use Rattle.corollaries.specs.Refusals.{RefusedWith, lent, lentAfter, IsAccepted, soundReceiver, Arrays}

@@ -1,4 +1,3 @@
-pub mod Widths
 pub mod Refusals
 pub mod UnsentAfter
 pub mod SoundStays

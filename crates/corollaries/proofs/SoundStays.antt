@@ -18,9 +18,9 @@ use Rattle.cells.specs.Sound.{soundNexts}
 use Rattle.recv.specs.declared.RecvQueue.{RecvQueue}
 use Rattle.recv.specs.Queue.{nextOf, unsentOf, placesWithin, soundWindow, differ, soundUnsent, soundQueue}
 use Rattle.recv.specs.Calls.{Call, Receiver, afterAll}
+use Rattle.recv.specs.Claim.{AllBytes}
 use Rattle.recv.proofs.Queues.{Good}
 use Rattle.recv.proofs.Receives.{Sane}
-use Rattle.recv.proofs.Runs.{AllBytes}
 use Rattle.recv.proofs.Lists.{runs}
 use Rattle.corollaries.specs.Refusals.{Arrays, soundReceiver}
 use Rattle.corollaries.proofs.Refusals.{queue-sound}

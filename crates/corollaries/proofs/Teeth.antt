@@ -5,6 +5,7 @@ use mathlib.Core.Path.{_≡_, refl, sym, _∙_, ap}
 use mathlib.Core.List.{List, [], _∷_, _++_}
 use native.Mathlib.Omega.{arith}
 use lib.ListN.{length}
+use Rattle.base.specs.Answer.{refused}
 use Rattle.base.specs.Bytes.{be16, be32, le24, be16Bytes, le24Bytes}
 use Rattle.base.specs.Put.{put, andThen}
 use Rattle.base.specs.If.{ifTrue, ifLt, ifLe, ifEq}
@@ -27,13 +28,13 @@ use Rattle.recv.specs.Take.{handed, takeOf}
 use Rattle.recv.specs.Write.{sorted, writeOf, emptied, writeUnsentOf}
 use Rattle.recv.specs.Calls.{made, zeros, takes, bytesAt, messageOf, tookOf, Accepted, acceptedBy, framesRead, bareAnswers}
 use Rattle.recv.specs.Claim.{begun}
-use Rattle.corollaries.specs.Shape.{Pair, ours, afterBy, afterAllBy, handedOutBy, stillOutBy, acceptedOfBy, readBy, OneListBy}
+use Rattle.corollaries.specs.Shape.{Pair, ours, afterBy, afterAllBy, handedOutBy, stillOutBy, drainedBy, acceptedOfBy, readBy, leftBy, OneListBy}
 use Rattle.corollaries.specs.Wrong.{idle, untouched, acknowledged, firstOnly, mute, trace1, trace2, traceCalls, traceStart}
 
 -- What a pair's takes handed out over these calls, then what they would still hand out. `unfolding outBy` opens every definition that such a
 -- run computes with, beside those that `run` does.
 unfoldable pub outBy : Pair → List Message
-unfolding trace1 trace2 traceCalls traceStart made zeros takes bytesAt messageOf tookOf acceptedBy framesRead bareAnswers afterBy afterAllBy handedOutBy stillOutBy acceptedOfBy lineFor
+unfolding trace1 trace2 traceCalls traceStart made zeros takes bytesAt messageOf tookOf acceptedBy framesRead bareAnswers afterBy afterAllBy handedOutBy stillOutBy drainedBy acceptedOfBy lineFor
     framesIn frameIn bytesLeft frs.framesOf frs.framesFrom frs.endOf frs.endFrom frs.onRead fr.readFrameOf fr.frameAt fr.placedAt ifTrue ifLt ifLe ifEq be16 be32 le24 be16Bytes le24Bytes put andThen fieldsOf
     records.firstOf records.lastOf records.recordBytes records.recordsBytes records.grow records.runs ack.idOf ack.headerBytes ack.listBytes ack.someOver ack.tooLarge ack.ascending ack.byCase ack.writeListOf ack.writtenOf
     places.bit places.placeSet places.setPlace places.clearPlace window.newWindow window.accepted window.advance window.accept
@@ -62,6 +63,10 @@ ours-hands-out : outBy ours ≡ traceLine
 unfolding run outBy traceLine
 ours-hands-out = refl
 
+ours-ends : (buffer : List ℕ) → ours .taking (leftBy ours traceStart traceCalls .queue) (leftBy ours traceStart traceCalls .records) (leftBy ours traceStart traceCalls .store) buffer .answer ≡ refused 20
+unfolding run outBy
+ours-ends buffer = refl
+
 bare-line : lineFor (framesRead traceAccepted) ≡ traceLine
 unfolding run outBy traceLine traceAccepted
 bare-line = refl
@@ -75,7 +80,7 @@ pub ours-passes : OneListBy ours traceStart traceCalls
 ours-passes =
     let e : acceptedOfBy ours (begun traceStart) traceCalls ≡ traceAccepted = unfold acceptsBy in ours-accepts in
     let h : handedOutBy ours (begun traceStart) traceCalls ++ stillOutBy ours (afterAllBy ours (begun traceStart) traceCalls) ≡ traceLine = unfold outBy in ours-hands-out in
-    record { line = rw e (bare-line ∙ sym h); counts = rw e (sym bare-counts) }
+    record { line = rw e (bare-line ∙ sym h); until-20 = ours-ends; counts = rw e (sym bare-counts) }
 
 -- A pair that accepts frames with two messages in the line and hands out none fails.
 none-handed-out : (p : Pair) → length (lineFor (readBy p traceStart traceCalls)) ≡ 2 → length (outBy p) ≡ 0 → OneListBy p traceStart traceCalls → ⊥

@@ -4,6 +4,7 @@ use Prim.Native.Nat.{ℕ}
 use mathlib.Core.Path.{_≡_}
 use mathlib.Core.List.{List, [], _∷_, _++_}
 use lib.ListN.{length}
+use Rattle.base.specs.Answer.{refused}
 use Rattle.line.specs.Frame.{Frame, Message}
 use Rattle.line.specs.Bare.{new}
 use Rattle.line.specs.Order.{lineFor}
@@ -45,6 +46,9 @@ handedOutBy p x (write-missing out ∷ cs) = handedOutBy p (afterBy p x (write-m
 unfoldable pub stillOutBy : Pair → Receiver → List Message
 stillOutBy p x = handedOutBy p x (takes (length (x .records)))
 
+unfoldable pub drainedBy : Pair → Receiver → Receiver
+drainedBy p x = afterAllBy p x (takes (length (x .records)))
+
 unfoldable pub acceptedOfBy : Pair → Receiver → List Call → List Accepted
 acceptedOfBy p x [] = []
 acceptedOfBy p x (receive d ∷ cs) = acceptedBy d (p .receiving (x .queue) (x .records) (x .store) d .answer) ++ acceptedOfBy p (afterBy p x (receive d)) cs
@@ -55,6 +59,10 @@ acceptedOfBy p x (write-missing out ∷ cs) = acceptedOfBy p (afterBy p x (write
 abbrev pub readBy : Pair → Start → List Call → List Frame
 readBy p s cs = framesRead (acceptedOfBy p (begun s) cs)
 
+abbrev pub leftBy : Pair → Start → List Call → Receiver
+leftBy p s cs = drainedBy p (afterAllBy p (begun s) cs)
+
 pub record OneListBy (p : Pair) (s : Start) (cs : List Call) : Type 0 where
   pub line : lineFor (readBy p s cs) ≡ handedOutBy p (begun s) cs ++ stillOutBy p (afterAllBy p (begun s) cs)
+  pub until-20 : (buffer : List ℕ) → p .taking (leftBy p s cs .queue) (leftBy p s cs .records) (leftBy p s cs .store) buffer .answer ≡ refused 20
   pub counts : acceptedOfBy p (begun s) cs ≡ bareAnswers new (acceptedOfBy p (begun s) cs)

@@ -1,48 +1,31 @@
--- What the exported functions tell, with the facts as the code finds them: the called function's answer, its number and its values.
+-- What the exported functions tell of an answer, with the facts as the code finds them: which case it is, and the definition that it is equal to.
 -- Assumes nothing.
-use mathlib.Core.Path.{_≡_, _∙_, ap, sym, refl}
-use mathlib.Core.List.{List}
-use Prim.Native.Nat.{ℕ, zero}
-use Rattle.base.specs.Answer.{Answer, gives}
+use mathlib.Core.Path.{_≡_, _∙_, ap, sym}
+use Prim.Native.Nat.{ℕ}
+use Rattle.base.specs.Answer.{Answer}
 use Rattle.window.specs.declared.Inserted.{Inserted}
 use Rattle.window.specs.declared.ReliableWindow.{ReliableWindow}
-use Rattle.window.specs.Window.{Insertion, insertAnswer, insertion, insertOf}
+use Rattle.window.specs.Window.{insertAnswer, insertion, insertOf}
 use Rattle.ack.specs.declared.WriteAck.{WriteAck}
-use Rattle.ack.specs.declared.WriteAck.the-variants.{Written}
 use Rattle.ack.specs.Write.{writeAnswer}
-use Rattle.acks.specs.declared.WriteQueue.{WriteQueue}
-use Rattle.acks.specs.declared.WriteQueue.the-variants as WriteQueue
-use Rattle.acks.specs.declared.WroteQueue.{WroteQueue}
-use Rattle.acks.specs.Wrote.{queueAnswer, wrote}
-use Rattle.recv.specs.Write.{Wrote}
 use Rattle.queue.specs.declared.Piece.{Piece}
-use Rattle.queue.specs.declared.Piece.the-variants.{Part}
-use Rattle.queue.specs.Split.{pieceAnswer}
-use Rattle.exports.specs.declared.QueueWritten.{QueueWritten}
-use Rattle.exports.specs.Numbers.{numbered, writtenBy}
+use Rattle.queue.specs.Split.{Fragment, pieceAnswer}
+use Rattle.exports.specs.declared.AckWritten.{AckWritten}
+use Rattle.exports.specs.declared.SplitPiece.{SplitPiece}
+use Rattle.exports.specs.Numbers.{numberOf, insertTold, ackTold, pieceTold}
 
-pub through : {A : Type 0} (x y z : A) → x ≡ y → y ≡ z → x ≡ z
-through x y z p q = p ∙ q
+pub inserted : (w : ReliableWindow) (n : ℕ) (r : Inserted) (number : ℕ) → insertion r ≡ insertOf w n → number ≡ numberOf (insertAnswer (r .answer))
+    → record { number = number; window = r .window } ≡ insertTold (insertOf w n)
+inserted w n r number e t = rw t (ap insertTold e)
 
--- a window insert's number, beside the window afterwards
-pub inserted : (w : ReliableWindow) (n : ℕ) (r : Inserted) (number : ℕ) → insertion r ≡ insertOf w n → numbered number tt ≡ insertAnswer (r .answer)
-    → record { answer = numbered number tt; window = r .window } ≡ insertOf w n
-inserted w n r number e t = rw t e
+pub ack-case : (a b : WriteAck) → a ≡ b → ackTold (writeAnswer b) ≡ ackTold (writeAnswer a)
+ack-case a b e = ap (λ x. ackTold (writeAnswer x)) (sym e)
 
--- the values of an answer that carries some
-pub written : (a : WriteAck) (len : ℕ) → a ≡ Written len → numbered 0 len ≡ writeAnswer a
-unfolding numbered
-written a len e = rw e refl
+pub ack-is : (r : AckWritten) (x y : Answer ℕ) → r ≡ ackTold x → x ≡ y → r ≡ ackTold y
+ack-is r x y t e = t ∙ ap ackTold e
 
-pub part : (p : Piece) (s l c i : ℕ) → p ≡ Part s l c i → numbered 0 (record { start = s; len = l; count = c; index = i }) ≡ pieceAnswer p
-unfolding numbered pieceAnswer
-part p s l c i e = rw e refl
+pub piece-case : (r : SplitPiece) (p q : Piece) → p ≡ q → r ≡ pieceTold (pieceAnswer q) → r ≡ pieceTold (pieceAnswer p)
+piece-case r p q e t = t ∙ ap (λ x. pieceTold (pieceAnswer x)) (sym e)
 
-pub sent : (a : WriteQueue) (len : ℕ) → a ≡ WriteQueue.Written len → numbered 0 len ≡ queueAnswer a
-unfolding numbered
-sent a len e = rw e refl
-
-pub written-told : (a : WroteQueue) (z : QueueWritten) (out : List ℕ) (is : Wrote) → wrote a out ≡ is → (numbered (z .number) (z .len) ≡ queueAnswer (a .answer)) × (z .queue ≡ a .queue)
-    → writtenBy z out ≡ is
-unfolding writtenBy
-written-told a z out is said t = rw (t .0, t .1) said
+pub piece-is : (r : SplitPiece) (x y : Answer Fragment) → r ≡ pieceTold x → x ≡ y → r ≡ pieceTold y
+piece-is r x y t e = t ∙ ap pieceTold e

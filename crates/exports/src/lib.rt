@@ -1,6 +1,6 @@
 // The calls for programs in other languages, under plain names: a static library of them links into Rust or C (`rt staticlib exports`).
 // Such a function can't answer an enum. It answers document 01's refusal number, or 0 where nothing is refused, and the values beside it,
-// which are 0 on a refusal. Each promise says by the called function's own definition what the numbers are.
+// which are 0 on a refusal. Each promise says by the called function's own definition what all the numbers are.
 ghost use mathlib.Core.Path.{_≡_};
 ghost use lib.ListN.{length};
 ghost use Rattle.base.specs.Put.{Run};
@@ -9,14 +9,9 @@ ghost use Rattle.window.specs.Window.{newWindow, insertOf, insertAnswer};
 ghost use Rattle.window.specs.Missing as Missing;
 ghost use Rattle.ack.specs.Write.{writeListOf, writtenOf, writeAnswer};
 ghost use Rattle.queue.specs.Split.{pieceOf, pieceAnswer};
-ghost use Rattle.recv.specs.Write.{writeUnsentOf, writeMissingOf};
-ghost use Rattle.acks.specs.Wrote.{queueAnswer};
-ghost use Rattle.exports.specs.Numbers.{numbered, framesRead, insertionOf, writtenAnswer, fragmentAnswer, writtenBy};
+ghost use Rattle.exports.specs.Numbers.{numberOf, framesRead, insertTold, ackTold, pieceTold, noPiece};
 use ack::WriteAck;
-use acks::WriteQueue;
-use acks::WroteQueue;
 use queue::Piece;
-use recv::RecvQueue;
 use window::Insert;
 use window::ReliableWindow;
 
@@ -50,14 +45,6 @@ pub struct SplitPiece {
     pub index: u32,
 }
 
-// How many bytes were written, and the receiver afterwards.
-#[repr(C)]
-pub struct QueueWritten {
-    pub number: u32,
-    pub len: usize,
-    pub queue: RecvQueue,
-}
-
 // The frames from place `at` on.
 #[no_mangle]
 pub extern "C" fn poghduka_read_frames(s: &[u8], at: usize) -> FramesFound
@@ -79,7 +66,7 @@ pub extern "C" fn poghduka_window_new() -> ReliableWindow
 
 #[no_mangle]
 pub extern "C" fn poghduka_window_insert(w: ReliableWindow, n: u32) -> WindowInsert
-    ensures { λ r. ⌜ insertionOf r ≡ insertOf w n ⌝ }
+    ensures { λ r. ⌜ r ≡ insertTold (insertOf w n) ⌝ }
 {
     let r = w.insert(n);
     let answer = r.answer;
@@ -100,7 +87,7 @@ pub extern "C" fn poghduka_window_missing(w: ReliableWindow, list: &mut [u32]) -
 
 #[no_mangle]
 pub extern "C" fn poghduka_write_list(out: &mut [u8], nack: bool, numbers: &[u32]) -> AckWritten
-    ensures { λ r. ⌜ writtenAnswer r ≡ writeListOf (length (now (out .entry))) nack (now (numbers .entry)) ⌝ }
+    ensures { λ r. ⌜ r ≡ ackTold (writeListOf (length (now (out .entry))) nack (now (numbers .entry))) ⌝ }
     ensures { λ r. ⌜ now (out .exit) ≡ writtenOf (now (out .entry)) nack (now (numbers .entry)) ⌝ }
 {
     ack_written(ack::write_list(out, nack, numbers))
@@ -109,27 +96,13 @@ pub extern "C" fn poghduka_write_list(out: &mut [u8], nack: bool, numbers: &[u32
 // Piece k of the split of the buffer at this mtu.
 #[no_mangle]
 pub extern "C" fn poghduka_split_piece(buffer: &[u8], mtu: u16, k: u32) -> SplitPiece
-    ensures { λ r. ⌜ fragmentAnswer r ≡ pieceOf (length (now (buffer .entry))) mtu k ⌝ }
+    ensures { λ r. ⌜ r ≡ pieceTold (pieceOf (length (now (buffer .entry))) mtu k) ⌝ }
 {
     piece_numbers(queue::split_piece(buffer, mtu, k))
 }
 
-#[no_mangle]
-pub extern "C" fn poghduka_write_unsent(queue: RecvQueue, out: &mut [u8]) -> QueueWritten
-    ensures { λ r. ⌜ writtenBy r (now (out .exit)) ≡ writeUnsentOf queue (now (out .entry)) ⌝ }
-{
-    written_told(acks::write_unsent(queue, out))
-}
-
-#[no_mangle]
-pub extern "C" fn poghduka_write_missing(queue: RecvQueue, out: &mut [u8]) -> QueueWritten
-    ensures { λ r. ⌜ writtenBy r (now (out .exit)) ≡ writeMissingOf queue (now (out .entry)) ⌝ }
-{
-    written_told(acks::write_missing(queue, out))
-}
-
 fn insert_number(answer: Insert) -> u32
-    ensures { λ r. ⌜ numbered r tt ≡ insertAnswer answer ⌝ }
+    ensures { λ r. ⌜ r ≡ numberOf (insertAnswer answer) ⌝ }
 {
     match answer {
         Insert::Accepted => 0,
@@ -140,7 +113,7 @@ fn insert_number(answer: Insert) -> u32
 }
 
 fn ack_written(answer: WriteAck) -> AckWritten
-    ensures { λ r. ⌜ writtenAnswer r ≡ writeAnswer answer ⌝ }
+    ensures { λ r. ⌜ r ≡ ackTold (writeAnswer answer) ⌝ }
 {
     match answer {
         WriteAck::Written { len } => AckWritten {
@@ -154,7 +127,7 @@ fn ack_written(answer: WriteAck) -> AckWritten
 }
 
 fn no_piece(number: u32) -> SplitPiece
-    ensures { λ r. ⌜ r .number ≡ number ⌝ }
+    ensures { λ r. ⌜ r ≡ noPiece number ⌝ }
 {
     SplitPiece {
         number: number,
@@ -166,7 +139,7 @@ fn no_piece(number: u32) -> SplitPiece
 }
 
 fn piece_numbers(piece: Piece) -> SplitPiece
-    ensures { λ r. ⌜ fragmentAnswer r ≡ pieceAnswer piece ⌝ }
+    ensures { λ r. ⌜ r ≡ pieceTold (pieceAnswer piece) ⌝ }
 {
     match piece {
         Piece::Part {
@@ -185,29 +158,5 @@ fn piece_numbers(piece: Piece) -> SplitPiece
         Piece::FitsOneChunk => no_piece(17),
         Piece::TooManyPieces => no_piece(18),
         Piece::BeyondLast => no_piece(19),
-    }
-}
-
-fn written_told(r: WroteQueue) -> QueueWritten
-    ensures { λ w. ⌜ (numbered (w .number) (w .len) ≡ queueAnswer (r .answer)) × (w .queue ≡ r .queue) ⌝ }
-{
-    let answer = r.answer;
-    let queue = r.queue;
-    match answer {
-        WriteQueue::Written { len: bytes } => QueueWritten {
-            number: 0,
-            len: bytes,
-            queue: queue,
-        },
-        WriteQueue::Unsound => QueueWritten {
-            number: 9,
-            len: 0,
-            queue: queue,
-        },
-        WriteQueue::NoRoom => QueueWritten {
-            number: 12,
-            len: 0,
-            queue: queue,
-        },
     }
 }

@@ -1,26 +1,23 @@
 // The receiver's calls for programs in other languages, as `exports` has the others (`rt staticlib exports_queue`). The caller keeps the
-// receiver, its records and its store, and hands them over for each call.
+// receiver, its records and its store, and lends them for each call. Each promise says by the call's own definition what is returned, all of it, and
+// what is left of everything lent.
 ghost use mathlib.Core.Path.{_≡_};
 ghost use Rattle.recv.specs.Receive.{receiveOf};
 ghost use Rattle.recv.specs.Take.{takeOf};
+ghost use Rattle.recv.specs.Write.{writeUnsentOf, writeMissingOf};
 ghost use Rattle.pass.specs.Outcome.{receiveAnswer};
 ghost use Rattle.takes.specs.Outcome.{takeAnswer};
+ghost use Rattle.acks.specs.Wrote.{queueAnswer};
 ghost use Rattle.recv_new.specs.New.{makeNewOf, newAnswer};
-ghost use Rattle.exports.specs.Numbers.{numbered};
-ghost use Rattle.exports_queue.specs.Receiver.{report, told, handed, madeBy, receivedBy, takenBy};
-use cells::CellRecord;
-use pass::Receive;
-use recv::RecvQueue;
+ghost use Rattle.exports.specs.Numbers.{numberOf, ackTold};
+ghost use Rattle.exports_queue.specs.Receiver.{notReceived, receiveTold, notTaken, takeTold, newNumbers, newNumbersOf, receiveNumbers, receiveNumbersOf, takeNumbers, takeNumbersOf, writeNumbers, writeNumbersOf};
+use exports::AckWritten;
+use recv_queue::CellRecord;
 use recv_queue::MakeNew;
-use recv_queue::NewReceiver;
-use recv_queue::Received;
-use takes::Take;
-
-#[repr(C)]
-pub struct QueueMade {
-    pub number: u32,
-    pub queue: RecvQueue,
-}
+use recv_queue::Receive;
+use recv_queue::RecvQueue;
+use recv_queue::Take;
+use recv_queue::WriteQueue;
 
 #[repr(C)]
 pub struct QueueReceived {
@@ -28,7 +25,6 @@ pub struct QueueReceived {
     pub ready: u32,
     pub dropped: u32,
     pub left: usize,
-    pub queue: RecvQueue,
 }
 
 // The message's bytes are the first `len` of the joining buffer where it is joined, else `len` of the store from `start` on.
@@ -44,43 +40,65 @@ pub struct QueueTaken {
 }
 
 #[no_mangle]
-pub extern "C" fn poghduka_make_new(records: &mut [CellRecord], store: &[u8]) -> QueueMade
-    ensures { λ r. ⌜ madeBy r (now (records .exit)) ≡ makeNewOf (now (records .entry)) (now (store .entry)) ⌝ }
+pub extern "C" fn poghduka_make_new(
+    queue: &mut RecvQueue,
+    records: &mut [CellRecord],
+    store: &[u8],
+) -> u32
+    ensures { λ r. ⌜ newNumbers r (now (queue .exit)) (now (records .exit)) ≡ newNumbersOf (makeNewOf (now (queue .entry)) (now (records .entry)) (now (store .entry))) ⌝ }
 {
-    let r = recv_queue::make_new(records, store);
-    made_told(r)
+    let answer = recv_queue::make_new(queue, records, store);
+    new_number(answer)
 }
 
 #[no_mangle]
 pub extern "C" fn poghduka_receive(
-    queue: RecvQueue,
+    queue: &mut RecvQueue,
     records: &mut [CellRecord],
     store: &mut [u8],
     datagram: &[u8],
 ) -> QueueReceived
-    ensures { λ r. ⌜ receivedBy r (now (records .exit)) (now (store .exit)) ≡ receiveOf queue (now (records .entry)) (now (store .entry)) (now (datagram .entry)) ⌝ }
+    ensures { λ r. ⌜ receiveNumbers r (now (queue .exit)) (now (records .exit)) (now (store .exit))
+        ≡ receiveNumbersOf (receiveOf (now (queue .entry)) (now (records .entry)) (now (store .entry)) (now (datagram .entry))) ⌝ }
 {
-    let r = recv_queue::receive(queue, records, store, datagram);
-    received_told(r)
+    let answer = recv_queue::receive(queue, records, store, datagram);
+    receive_told(answer)
 }
 
 #[no_mangle]
 pub extern "C" fn poghduka_take(
-    queue: RecvQueue,
+    queue: &RecvQueue,
     records: &mut [CellRecord],
     store: &[u8],
     joined: &mut [u8],
 ) -> QueueTaken
-    ensures { λ r. ⌜ takenBy r (now (records .exit)) (now (joined .exit)) ≡ takeOf queue (now (records .entry)) (now (store .entry)) (now (joined .entry)) ⌝ }
+    ensures { λ r. ⌜ takeNumbers r (now (records .exit)) (now (joined .exit))
+        ≡ takeNumbersOf (takeOf (now (queue .entry)) (now (records .entry)) (now (store .entry)) (now (joined .entry))) ⌝ }
 {
-    let r = recv_queue::take(queue, records, store, joined);
-    taken_told(r)
+    let answer = recv_queue::take(queue, records, store, joined);
+    take_told(answer)
+}
+
+#[no_mangle]
+pub extern "C" fn poghduka_write_unsent(queue: &mut RecvQueue, out: &mut [u8]) -> AckWritten
+    ensures { λ r. ⌜ writeNumbers r (now (queue .exit)) (now (out .exit)) ≡ writeNumbersOf (writeUnsentOf (now (queue .entry)) (now (out .entry))) ⌝ }
+{
+    let answer = recv_queue::write_unsent(queue, out);
+    write_told(answer)
+}
+
+#[no_mangle]
+pub extern "C" fn poghduka_write_missing(queue: &RecvQueue, out: &mut [u8]) -> AckWritten
+    ensures { λ r. ⌜ writeNumbers r (now (queue .entry)) (now (out .exit)) ≡ writeNumbersOf (writeMissingOf (now (queue .entry)) (now (out .entry))) ⌝ }
+{
+    let answer = recv_queue::write_missing(queue, out);
+    write_told(answer)
 }
 
 // ---- the answers in numbers
 
 fn new_number(answer: MakeNew) -> u32
-    ensures { λ r. ⌜ numbered r tt ≡ newAnswer answer ⌝ }
+    ensures { λ r. ⌜ r ≡ numberOf (newAnswer answer) ⌝ }
 {
     match answer {
         MakeNew::BadLengths => 9,
@@ -88,30 +106,10 @@ fn new_number(answer: MakeNew) -> u32
     }
 }
 
-fn made_told(r: NewReceiver) -> QueueMade
-    ensures { λ m. ⌜ (numbered (m .number) tt ≡ newAnswer (r .answer)) × (m .queue ≡ r .queue) ⌝ }
+fn refused(number: u32) -> QueueReceived
+    ensures { λ r. ⌜ r ≡ notReceived number ⌝ }
 {
-    let answer = r.answer;
-    let number = new_number(answer);
-    let queue = r.queue;
-    QueueMade {
-        number: number,
-        queue: queue,
-    }
-}
-
-// What an answer of `receive` says, without the receiver.
-struct ReceiveTold {
-    number: u32,
-    ready: u32,
-    dropped: u32,
-    left: usize,
-}
-
-fn refused(number: u32) -> ReceiveTold
-    ensures { λ r. ⌜ r .number ≡ number ⌝ }
-{
-    ReceiveTold {
+    QueueReceived {
         number: number,
         ready: 0,
         dropped: 0,
@@ -119,15 +117,15 @@ fn refused(number: u32) -> ReceiveTold
     }
 }
 
-fn receive_told(answer: Receive) -> ReceiveTold
-    ensures { λ r. ⌜ numbered (r .number) (told r) ≡ receiveAnswer answer ⌝ }
+fn receive_told(answer: Receive) -> QueueReceived
+    ensures { λ r. ⌜ r ≡ receiveTold (receiveAnswer answer) ⌝ }
 {
     match answer {
         Receive::Accepted {
             ready,
             dropped,
             left,
-        } => ReceiveTold {
+        } => QueueReceived {
             number: 0,
             ready: ready,
             dropped: dropped,
@@ -145,23 +143,8 @@ fn receive_told(answer: Receive) -> ReceiveTold
     }
 }
 
-fn received_told(r: Received) -> QueueReceived
-    ensures { λ x. ⌜ (numbered (x .number) (report x) ≡ receiveAnswer (r .answer)) × (x .queue ≡ r .queue) ⌝ }
-{
-    let answer = r.answer;
-    let t = receive_told(answer);
-    let queue = r.queue;
-    QueueReceived {
-        number: t.number,
-        ready: t.ready,
-        dropped: t.dropped,
-        left: t.left,
-        queue: queue,
-    }
-}
-
 fn untaken(number: u32) -> QueueTaken
-    ensures { λ r. ⌜ r .number ≡ number ⌝ }
+    ensures { λ r. ⌜ r ≡ notTaken number ⌝ }
 {
     QueueTaken {
         number: number,
@@ -174,10 +157,10 @@ fn untaken(number: u32) -> QueueTaken
     }
 }
 
-fn taken_told(taken: Take) -> QueueTaken
-    ensures { λ r. ⌜ numbered (r .number) (handed r) ≡ takeAnswer taken ⌝ }
+fn take_told(answer: Take) -> QueueTaken
+    ensures { λ r. ⌜ r ≡ takeTold (takeAnswer answer) ⌝ }
 {
-    match taken {
+    match answer {
         Take::InStore {
             kind,
             channel,
@@ -210,5 +193,18 @@ fn taken_told(taken: Take) -> QueueTaken
         Take::NotSound => untaken(9),
         Take::NoneReady => untaken(20),
         Take::ShortBuffer => untaken(12),
+    }
+}
+
+fn write_told(answer: WriteQueue) -> AckWritten
+    ensures { λ r. ⌜ r ≡ ackTold (queueAnswer answer) ⌝ }
+{
+    match answer {
+        WriteQueue::Written { len } => AckWritten {
+            number: 0,
+            len: len,
+        },
+        WriteQueue::Unsound => AckWritten { number: 9, len: 0 },
+        WriteQueue::NoRoom => AckWritten { number: 12, len: 0 },
     }
 }

@@ -6,14 +6,12 @@ use Prim.Native.Nat.{ℕ, _+_, _-_, _<_, _≤_}
 use native.Mathlib.Omega.{arith}
 use lib.ListN.{length}
 use Rattle.frame.specs.declared.FramesRead.{FramesRead}
-use Rattle.frame.specs.declared.Placed.{Placed}
-use Rattle.frame.specs.declared.ReadFrame.{ReadFrame}
-use Rattle.frame.specs.declared.ReadFrame.the-variants.{Whole, Cut}
-use Rattle.frame.specs.Read.{readFrameOf, readAnswer}
+use Rattle.frame.specs.declared.Span.{Span}
+use Rattle.frame.specs.declared.Span.the-variants.{Fits, Cut}
+use Rattle.frame.specs.Read.{placedAt, spanOf}
 use Rattle.frame.specs.Frames.{framesOf, endOf, readFramesOf}
 use Rattle.frame.proofs.FramesOf.{frames-more, end-more, frames-cut, end-cut}
-use Rattle.frame.proofs.ReadCases.{told-cut, told-whole}
-use Rattle.frame.proofs.Reading.{read-whole}
+use Rattle.frame.proofs.ReadCases.{none-spanned, one-spanned}
 
 -- `count` frames were passed on the way from `at` to `place`
 pub record Passed (s : List ℕ) (at place count : ℕ) : Type 0 where
@@ -25,28 +23,27 @@ pub record Passed (s : List ℕ) (at place count : ℕ) : Type 0 where
 pub passed-none : (s : List ℕ) (at : ℕ) → Passed s at at 0
 passed-none s at = record { behind = omega arith; few = omega arith; frames = omega arith; end = refl }
 
-module _ (s : List ℕ) (at place count : ℕ) (r : ReadFrame) (e : readAnswer r ≡ readFrameOf s place) where
+module _ (s : List ℕ) (at place count : ℕ) (r : Span) (e : r ≡ spanOf s place) where
   -- the first frame that does not fit: that many frames, and the bytes from it on are left
   pub passed-all : r ≡ Cut → Passed s at place count → (left : ℕ) → left ≡ length s - place
       → _≡_ {A = FramesRead} (record { count = count; left = left }) (readFramesOf s at)
   unfolding readFramesOf
   passed-all i a left l =
-      let c = told-cut s place r e i in
+      let c = none-spanned s place r e i in
       let n : count ≡ length (framesOf s at) = omega (arith, ap length (frames-cut s place 1 c), a .frames) in
       let f : left ≡ length s - endOf s at = l ∙ rw (a .end, end-cut s place 1 c) in
       λ j. record { count = n j; left = f j }
 
-  module _ (p : Placed) (next : ℕ) (i : r ≡ Whole p next) where
+  module _ (start next : ℕ) (i : r ≡ Fits start next) where
     pub passed-more : Passed s at place count → Passed s at next (count + 1)
     passed-more a =
-        let g = told-whole s place r e p next i in
-        let w = read-whole s place p next g in
+        let w = one-spanned s place r e start next i in
         record {
           behind = omega arith;
           few = omega arith;
-          frames = omega (arith, ap length (frames-more s place p next g));
-          end = a .end ∙ end-more s place p next g;
+          frames = omega (arith, ap length (frames-more s place (placedAt s place) next (w .gives)));
+          end = a .end ∙ end-more s place (placedAt s place) next (w .gives);
         }
 
     pub passed-less : length s - next < length s - place
-    passed-less = let w = read-whole s place p next (told-whole s place r e p next i) in omega arith
+    passed-less = let w = one-spanned s place r e start next i in omega arith

@@ -13,7 +13,7 @@ use Rattle.base.specs.Bytes.{be16}
 use Rattle.base.specs.If.{ifTrue}
 use Rattle.base.proofs.Ifs.{lt-yes, lt-no}
 use Rattle.reliability.specs.Kinds.{fieldsOf, Small}
-use Rattle.reliability.proofs.Laws.{small}
+use Rattle.reliability.proofs.Laws.{Inside, small, inside}
 use Rattle.frame.specs.declared.Placed.{Placed}
 use Rattle.frame.specs.Read.{kindOf, isPiece, headerSize, endsAt, frameAt, placedAt, bodyOf, readFrameOf}
 use Rattle.base.proofs.Answers.{refused-gives}
@@ -23,18 +23,23 @@ row-small : (k : ℕ) → Small (fieldsOf k)
 unfolding fieldsOf
 row-small k = small (k % 8)
 
--- a header has at least flags and length
-header-low : (piece : Bool) (n : ℕ) → 3 ≤ n → 3 ≤ headerSize piece n
+-- and each field lies in the header
+pub row-inside : (k : ℕ) → Inside (fieldsOf k)
+unfolding fieldsOf
+row-inside k = inside (k % 8)
+
+-- a header has at least the bytes of its kind's row
+pub header-least : (piece : Bool) (n : ℕ) → n ≤ headerSize piece n
 unfolding ifTrue
-header-low true n h = omega arith
-header-low false n h = h
+header-least true n = omega arith
+header-least false n = omega arith
 
 module _ (s : List ℕ) (at : ℕ) where
   pub start-after : at + 3 ≤ placedAt s at .start
   unfolding placedAt
   start-after =
-      let h = header-low (isPiece (getD s at 0)) (fieldsOf (kindOf (getD s at 0)) .header) (row-small (kindOf (getD s at 0)) .low) in
-      omega (arith, h)
+      let k = kindOf (getD s at 0) in
+      omega (arith, header-least (isPiece (getD s at 0)) (fieldsOf k .header), row-small k .low)
 
   pub frame-is : placedAt s at .frame ≡ frameAt s at
   unfolding placedAt

@@ -15,6 +15,8 @@ use Rattle.frame.specs.declared.Frame.{Frame}
 use Rattle.frame.specs.declared.Placed.{Placed}
 use Rattle.frame.specs.declared.ReadFrame.{ReadFrame}
 use Rattle.frame.specs.declared.ReadFrame.the-variants.{Whole, Cut}
+use Rattle.frame.specs.declared.Span.{Span}
+use Rattle.frame.specs.declared.Span.the-variants as span
 
 -- "Kinds 0 to 7"
 abbrev pub maxKind : ℕ
@@ -90,3 +92,7 @@ readFrameOf s at = ifLt (length s) (endsAt (placedAt s at)) (refused 1) (gives (
 unfoldable pub readAnswer : ReadFrame → Answer (Placed × ℕ)
 readAnswer (Whole p next) = gives (p, next)
 readAnswer Cut = refused 1
+
+-- where the frame's body starts and the place after the frame, where header and body fit
+unfoldable pub spanOf : List ℕ → ℕ → Span
+spanOf s at = ifLt (length s) (endsAt (placedAt s at)) span.Cut (span.Fits (placedAt s at .start) (endsAt (placedAt s at)))

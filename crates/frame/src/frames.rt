@@ -1,26 +1,25 @@
 // Frame after frame, until one does not fit.
 use super::FramesRead;
-use super::ReadFrame;
-use super::read_frame;
+use super::Span;
 ghost use mathlib.Core.Path.{_≡_};
 ghost use Prim.Native.Nat.{_-_};
 ghost use Rattle.frame.specs.Frames.{readFramesOf};
 
-// How many frames stand one after the other from `at` on, and the bytes left from the first that does not fit.
+// How many frames stand one after the other from `at` on, and the bytes left from the first that does not fit. No header is read.
 pub fn read_frames(s: &[u8], at: usize) -> FramesRead
     ensures { λ r. ⌜ r ≡ readFramesOf (now (s .entry)) at ⌝ }
 {
     let mut place = at;
     let mut count: usize = 0;
     loop {
-        match read_frame(s, place) {
-            ReadFrame::Cut => {
+        match super::span_at(s, place) {
+            Span::Cut => {
                 return FramesRead {
                     count: count,
                     left: bytes_left(s.len(), place),
                 };
             }
-            ReadFrame::Whole { placed: _, next } => {
+            Span::Fits { start: _, next } => {
                 place = next;
                 count += 1;
             }

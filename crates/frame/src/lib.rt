@@ -1,13 +1,19 @@
 // Frames, as document 01's "Bytes" has them, read from a slice; `frame_write` writes them.
 ghost use mathlib.Core.Path.{_≡_};
-ghost use Prim.Native.Nat.{_<_};
-ghost use Rattle.frame.specs.Read.{headerSize};
+ghost use Prim.Native.Nat.{_+_, _/_, _<_, _≤_};
+ghost use lib.ListN.{length};
+ghost use Rattle.base.specs.Bytes.{be16, be32, le24};
+ghost use Rattle.base.specs.Limits.{maxBody};
+ghost use Rattle.frame.specs.Read.{headerSize, spanOf};
 
 mod frames;
 mod read;
 
 pub use frames::read_frames;
 pub use read::read_frame;
+
+// Flags and length: the least that a frame takes.
+const START_SIZE: usize = 3;
 
 // The bytes of a piece's count, id and index.
 pub const META_SIZE: usize = 10;
@@ -49,6 +55,79 @@ pub struct FramesRead {
     pub left: usize,
 }
 
+// Where the body of a frame starts, and the place after the frame; or Cut where it does not fit.
+enum Span {
+    Fits { start: usize, next: usize },
+    Cut,
+}
+
+// ---- numbers that are known to stand in the slice, read without a test
+
+fn wide16(x: u8) -> u16
+    ensures { λ r. ⌜ (r ≡ x) × (r < 256) ⌝ }
+{
+    x as u16
+}
+
+fn wide32(x: u8) -> u32
+    ensures { λ r. ⌜ (r ≡ x) × (r < 256) ⌝ }
+{
+    x as u32
+}
+
+fn long32(x: u16) -> u32
+    ensures { λ r. ⌜ r ≡ x ⌝ }
+{
+    x as u32
+}
+
+fn read16(s: &[u8], p: usize) -> u16
+    requires { ⌜ p + 2 ≤ length (now s) ⌝ }
+    ensures { λ r. ⌜ r ≡ be16 (now (s .entry)) p ⌝ }
+{
+    wide16(s[p]) * 256 + wide16(s[p + 1])
+}
+
+fn read32(s: &[u8], p: usize) -> u32
+    requires { ⌜ p + 4 ≤ length (now s) ⌝ }
+    ensures { λ r. ⌜ r ≡ be32 (now (s .entry)) p ⌝ }
+{
+    long32(read16(s, p)) * 65536 + long32(read16(s, p + 2))
+}
+
+fn read24(s: &[u8], p: usize) -> u32
+    requires { ⌜ p + 3 ≤ length (now s) ⌝ }
+    ensures { λ r. ⌜ r ≡ le24 (now (s .entry)) p ⌝ }
+{
+    wide32(s[p]) + wide32(s[p + 1]) * 256 + wide32(s[p + 2]) * 65536
+}
+
+// ---- how far a frame reaches: flags and length alone say it
+
+// The span of the frame whose flags stand at `at`.
+fn span_at(s: &[u8], at: usize) -> Span
+    ensures { λ r. ⌜ r ≡ spanOf (now (s .entry)) at ⌝ }
+{
+    let n = s.len();
+    if n < START_SIZE {
+        return Span::Cut;
+    }
+    if n - START_SIZE < at {
+        return Span::Cut;
+    }
+    let flags = s[at];
+    let k = reliability::fields(flags / 32);
+    let start = at + header_size(flags / 16 % 2 == 1, k.header);
+    let next = start + body_len(read16(s, at + 1));
+    if next <= n {
+        return Span::Fits {
+            start: start,
+            next: next,
+        };
+    }
+    Span::Cut
+}
+
 // The header's bytes: those of the kind's row, and a piece's ten. (Bounds such as these two say only that no sum wraps.)
 fn header_size(piece: bool, header: usize) -> usize
     requires { ⌜ header < 100 ⌝ }
@@ -59,4 +138,12 @@ fn header_size(piece: bool, header: usize) -> usize
         return header + META_SIZE;
     }
     header
+}
+
+// The bytes of a body whose length in bits is given; a remainder is dropped.
+fn body_len(bits: u16) -> usize
+    ensures is { λ r. ⌜ r ≡ bits / 8 ⌝ }
+    ensures small { λ r. ⌜ r ≤ maxBody ⌝ }
+{
+    (bits / 8) as usize
 }

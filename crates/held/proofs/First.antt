@@ -1,14 +1,10 @@
 -- A list of c of which the first n, or all where n is more, are replaced by zs.
-use mathlib.Core.Path.{_≡_, refl, sym, _∙_, ap, subst}
-use mathlib.Core.Bool.{Bool, true, false}
-use Prim.Native.Nat.{ℕ, _≤_, min}
-use native.Mathlib.Nat.{min-le-right, min-eq-left, min-eq-right, le-of-lt}
-use native.Mathlib.Omega.{arith}
-use mathlib.Core.List.{List, [], _++_, append-nil}
-use lib.Dec.{ltb}
-use lib.ListN.{length, take, drop, drop-of-length-le}
-use lib.Seq.{length-take-le, length-front, take-all, take-at, drop-at}
-use borrow.Author.Tests.{ltb-true, ltb-false}
+use Rattle.walks.proofs.Walk.{_≡_, refl, sym, _∙_, ap, subst, Bool, true, false, ℕ, _≤_, min, min-le-right, arith, List, [], _++_, ltb, length, take, length-take-le, take-at, ltb-false}
+use native.Mathlib.Nat.{min-eq-left, min-eq-right, le-of-lt}
+use mathlib.Core.List.{append-nil}
+use lib.ListN.{drop, drop-of-length-le}
+use lib.Seq.{length-front, take-all, drop-at}
+use borrow.Author.Tests.{ltb-true}
 
 module _ {A : Type 0} (n c : ℕ) (l zs : List A) (e : length l ≡ c) (f : length zs ≡ length (take (min n c) l)) where
   -- so many

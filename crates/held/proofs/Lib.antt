@@ -1,7 +1,5 @@
-pub mod First
-pub mod Prefix
-pub mod Said
 pub mod Calls
-pub mod Receives
-pub mod Takes
-pub mod Makes
+pub mod First
+pub mod Said
+pub mod Prefix
+pub mod Whole

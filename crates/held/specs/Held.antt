@@ -1,19 +1,24 @@
--- The calls over the first n of a program's 256 records: what they return, as the calls over lent records have it.
+-- The calls over a receiver and the first n of 256 records that a program holds: what they return, as the calls over lent ones have it.
 use Prim.Native.Nat.{ℕ}
 use mathlib.Core.List.{List}
 use lib.ListN.{take, replicate}
 use Rattle.cells.specs.Cell.{Cell, emptyCell}
-use Rattle.recv.specs.Receive as Receive
+use Rattle.recv.specs.declared.RecvQueue.{RecvQueue}
+use Rattle.recv.specs.Receive.{Received}
 use Rattle.recv.specs.Take.{TakeResult}
+use Rattle.recv.specs.Write.{Wrote}
+use Rattle.pass.specs.declared.Receive.{Receive}
 use Rattle.takes.specs.declared.Take.{Take}
-use Rattle.recv_queue.specs.declared.receiving.Received.{Received}
-use Rattle.recv_new.specs.declared.NewReceiver.{NewReceiver}
+use Rattle.takes.specs.Outcome.{takeResult}
+use Rattle.acks.specs.declared.WriteQueue.{WriteQueue}
+use Rattle.acks.specs.Wrote.{wrote}
+use Rattle.recv_new.specs.declared.MakeNew.{MakeNew}
+use Rattle.recv_new.specs.New.{MadeNew, madeNew}
+use Rattle.recv_queue.specs.Answers.{received}
+use Rattle.held.specs.declared.HeldNew.{HeldNew}
 use Rattle.held.specs.declared.HeldReceived.{HeldReceived}
 use Rattle.held.specs.declared.HeldTake.{HeldTake}
-use Rattle.held.specs.declared.HeldNew.{HeldNew}
-use Rattle.takes.specs.Outcome.{takeResult}
-use Rattle.recv_queue.specs.Answers.{received}
-use Rattle.recv_new.specs.New.{MadeNew, madeNew}
+use Rattle.held.specs.declared.HeldWrote.{HeldWrote}
 
 -- how many records are held
 abbrev pub heldCells : ℕ
@@ -23,22 +28,28 @@ heldCells = 256
 unfoldable pub unusedCells : List Cell
 unusedCells = replicate heldCells emptyCell
 
--- an answer beside the records
-abbrev pub receivedWith : Received → List Cell → HeldReceived
-receivedWith r rs = record { answer = r .answer; queue = r .queue; records = rs }
+-- an answer beside what was lent
+abbrev pub madeWith : MakeNew → RecvQueue → List Cell → HeldNew
+madeWith a q rs = record { answer = a; queue = q; records = rs }
+
+abbrev pub receivedWith : Receive → RecvQueue → List Cell → HeldReceived
+receivedWith a q rs = record { answer = a; queue = q; records = rs }
 
 abbrev pub takenWith : Take → List Cell → HeldTake
 takenWith a rs = record { answer = a; records = rs }
 
-abbrev pub newWith : NewReceiver → List Cell → HeldNew
-newWith r rs = record { answer = r .answer; queue = r .queue; records = rs }
+abbrev pub wroteWith : WriteQueue → RecvQueue → HeldWrote
+wroteWith a q = record { answer = a; queue = q }
 
 -- a call's outcome over the first n records
-unfoldable pub heldReceived : HeldReceived → ℕ → List ℕ → Receive.Received
-heldReceived r n st = received (record { answer = r .answer; queue = r .queue }) (take n (r .records)) st
+unfoldable pub heldNew : HeldNew → ℕ → MadeNew
+heldNew r n = madeNew (r .answer) (r .queue) (take n (r .records))
+
+unfoldable pub heldReceived : HeldReceived → ℕ → List ℕ → Received
+heldReceived r n st = received (r .answer) (r .queue) (take n (r .records)) st
 
 unfoldable pub heldTaken : HeldTake → ℕ → List ℕ → TakeResult
 heldTaken r n buffer = takeResult (r .answer) (take n (r .records)) buffer
 
-unfoldable pub heldNew : HeldNew → ℕ → MadeNew
-heldNew r n = madeNew (record { answer = r .answer; queue = r .queue }) (take n (r .records))
+unfoldable pub heldWrote : HeldWrote → List ℕ → Wrote
+heldWrote r out = wrote (r .answer) (r .queue) out

@@ -1,22 +1,30 @@
-// The calls for a program that holds its records in an array: the array is passed and handed back, and a call is over its first n records (all, where
-// n is more than there are). A `&mut` of such an array stands in these functions alone.
-use cells::CellRecord;
-use pass::Receive;
-use recv::RecvQueue;
+// The calls for a program that holds its receiver and its records by value: they are passed, lent for the call, and handed back. A call is over the first n
+// records (all, where n is more than there are). A `&mut` of such values stands in these functions alone.
+use recv_queue::CellRecord;
 use recv_queue::MakeNew;
-use recv_queue::NewReceiver;
-use recv_queue::Received;
-use takes::Take;
+use recv_queue::Receive;
+use recv_queue::RecvQueue;
+use recv_queue::Take;
+use recv_queue::WriteQueue;
 ghost use mathlib.Core.Path.{_≡_};
 ghost use Prim.Native.Nat.{min};
 ghost use lib.ListN.{take, drop};
+ghost use Rattle.recv.specs.Queue.{newQueue};
 ghost use Rattle.recv.specs.Receive.{receiveOf};
 ghost use Rattle.recv.specs.Take.{takeOf};
+ghost use Rattle.recv.specs.Write.{writeUnsentOf, writeMissingOf};
+ghost use Rattle.acks.specs.Wrote.{wrote};
 ghost use Rattle.recv_new.specs.New.{makeNewOf};
-ghost use Rattle.held.specs.Held.{heldCells, unusedCells, receivedWith, takenWith, newWith, heldReceived, heldTaken, heldNew};
+ghost use Rattle.held.specs.Held.{heldCells, unusedCells, madeWith, receivedWith, takenWith, wroteWith, heldNew, heldReceived, heldTaken, heldWrote};
 
 // How many records a program holds, in use or not.
 pub const HELD: usize = 256;
+
+pub struct HeldNew {
+    pub answer: MakeNew,
+    pub queue: RecvQueue,
+    pub records: [CellRecord; HELD],
+}
 
 pub struct HeldReceived {
     pub answer: Receive,
@@ -29,19 +37,26 @@ pub struct HeldTake {
     pub records: [CellRecord; HELD],
 }
 
-pub struct HeldNew {
-    pub answer: MakeNew,
+pub struct HeldWrote {
+    pub answer: WriteQueue,
     pub queue: RecvQueue,
-    pub records: [CellRecord; HELD],
 }
 
-// ---- an answer beside the records
+// ---- an answer beside what was lent
 
-fn received_with(r: Received, records: [CellRecord; HELD]) -> HeldReceived
-    ensures { λ h. ⌜ h ≡ receivedWith r records ⌝ }
+fn made_with(made: MakeNew, queue: RecvQueue, records: [CellRecord; HELD]) -> HeldNew
+    ensures { λ r. ⌜ r ≡ madeWith made queue records ⌝ }
 {
-    let answer = r.answer;
-    let queue = r.queue;
+    HeldNew {
+        answer: made,
+        queue: queue,
+        records: records,
+    }
+}
+
+fn received_with(answer: Receive, queue: RecvQueue, records: [CellRecord; HELD]) -> HeldReceived
+    ensures { λ r. ⌜ r ≡ receivedWith answer queue records ⌝ }
+{
     HeldReceived {
         answer: answer,
         queue: queue,
@@ -50,7 +65,7 @@ fn received_with(r: Received, records: [CellRecord; HELD]) -> HeldReceived
 }
 
 fn taken_with(taken: Take, records: [CellRecord; HELD]) -> HeldTake
-    ensures { λ h. ⌜ h ≡ takenWith taken records ⌝ }
+    ensures { λ r. ⌜ r ≡ takenWith taken records ⌝ }
 {
     HeldTake {
         answer: taken,
@@ -58,15 +73,12 @@ fn taken_with(taken: Take, records: [CellRecord; HELD]) -> HeldTake
     }
 }
 
-fn new_with(r: NewReceiver, records: [CellRecord; HELD]) -> HeldNew
-    ensures { λ h. ⌜ h ≡ newWith r records ⌝ }
+fn wrote_with(written: WriteQueue, queue: RecvQueue) -> HeldWrote
+    ensures { λ r. ⌜ r ≡ wroteWith written queue ⌝ }
 {
-    let made = r.answer;
-    let new = r.queue;
-    HeldNew {
-        answer: made,
-        queue: new,
-        records: records,
+    HeldWrote {
+        answer: written,
+        queue: queue,
     }
 }
 
@@ -79,32 +91,30 @@ fn in_use(n: usize) -> usize
     if n < HELD { n } else { HELD }
 }
 
-fn unused() -> [CellRecord; HELD]
+fn unused_records() -> [CellRecord; HELD]
     ensures { λ r. ⌜ r ≡ unusedCells ⌝ }
 {
-    let cell = CellRecord {
-        used: 0,
-        kind: 0,
-        channel: 0,
-        id: 0,
-        index: 0,
-        count: 0,
-        length: 0,
-        sequence: 0,
-        order: 0,
-        turn: 0,
-    };
+    let cell = recv_queue::unused();
     [cell; HELD]
 }
 
-// Make new over the first n of so many unused records.
-pub fn make_held(n: usize, store: &[u8]) -> HeldNew
-    ensures { λ r. ⌜ (heldNew r n ≡ makeNewOf (take n unusedCells) (now (store .entry))) × (r .records ≡ unusedCells) ⌝ }
+fn make_held(queue: RecvQueue, records: [CellRecord; HELD], n: usize, store: &[u8]) -> HeldNew
+    ensures { λ r. ⌜ (heldNew r n ≡ makeNewOf queue (take n records) (now (store .entry))) × (drop n (r .records) ≡ drop n records) ⌝ }
 {
-    let mut held = unused();
+    let mut lent = queue;
+    let mut held = records;
     let m = in_use(n);
-    let a = recv_queue::make_new(&mut held[..m], store);
-    new_with(a, held)
+    let a = recv_queue::make_new(&mut lent, &mut held[..m], store);
+    made_with(a, lent, held)
+}
+
+// Make new over the first n of so many unused records.
+pub fn new_held(n: usize, store: &[u8]) -> HeldNew
+    ensures { λ r. ⌜ (heldNew r n ≡ makeNewOf newQueue (take n unusedCells) (now (store .entry))) × (drop n (r .records) ≡ drop n unusedCells) ⌝ }
+{
+    let queue = recv_queue::new_queue();
+    let records = unused_records();
+    make_held(queue, records, n, store)
 }
 
 // Receive over the first n records: the others stay as they are.
@@ -118,10 +128,11 @@ pub fn receive_held(
     ensures { λ r. ⌜ (heldReceived r n (now (store .exit)) ≡ receiveOf queue (take n records) (now (store .entry)) (now (datagram .entry)))
         × (drop n (r .records) ≡ drop n records) ⌝ }
 {
+    let mut lent = queue;
     let mut held = records;
     let m = in_use(n);
-    let a = recv_queue::receive(queue, &mut held[..m], store, datagram);
-    received_with(a, held)
+    let a = recv_queue::receive(&mut lent, &mut held[..m], store, datagram);
+    received_with(a, lent, held)
 }
 
 // Take over the first n records: the others stay as they are.
@@ -137,6 +148,20 @@ pub fn take_held(
 {
     let mut held = records;
     let m = in_use(n);
-    let a = recv_queue::take(queue, &mut held[..m], store, joined);
+    let a = recv_queue::take(&queue, &mut held[..m], store, joined);
     taken_with(a, held)
+}
+
+pub fn write_unsent_held(queue: RecvQueue, out: &mut [u8]) -> HeldWrote
+    ensures { λ r. ⌜ heldWrote r (now (out .exit)) ≡ writeUnsentOf queue (now (out .entry)) ⌝ }
+{
+    let mut lent = queue;
+    let a = recv_queue::write_unsent(&mut lent, out);
+    wrote_with(a, lent)
+}
+
+pub fn write_missing_held(queue: RecvQueue, out: &mut [u8]) -> WriteQueue
+    ensures { λ r. ⌜ wrote r queue (now (out .exit)) ≡ writeMissingOf queue (now (out .entry)) ⌝ }
+{
+    recv_queue::write_missing(&queue, out)
 }

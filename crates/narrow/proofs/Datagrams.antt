@@ -20,7 +20,7 @@ use Rattle.cells.specs.Cell.{Cell, Slot, isFree, isReady, mark, emptySlot, chan
 use Rattle.cells.specs.Datagram.{Work, place, frame, frames, isFirst, isBefore, rank, renumber, sweep, State, begin, datagram}
 use Rattle.cells.specs.Store.{cellSize, slotsOf, cellsOf, laid, storeOf}
 use Rattle.cells.proofs.Keys.{used-free, mark-free}
-use Rattle.pass.proofs.Growing.{frame-grows}
+use Rattle.cells.proofs.Growing.{frame-grows}
 use Rattle.narrow.specs.First.{isUnused}
 use Rattle.narrow.proofs.Unused.{count-first}
 use Rattle.narrow.proofs.Prefix.{map-fixed, frames-prefix}

@@ -4,6 +4,7 @@ pub mod Beside
 pub mod Prefix
 pub mod Datagrams
 pub mod ReceiveFirst
-pub mod ReceiveParts
 pub mod TakeFirst
-pub mod TakeParts
+pub mod Used
+pub mod Needs
+pub mod Enough

@@ -155,9 +155,10 @@ module _ (q : RecvQueue) (first rest : List Cell) (st d : List ℕ) (unused : ev
       by-rest [] e = rw e (receive-same q first st d (store-long first rest st fit ∙ ap (λ (l : List Cell). cellBytes * (length first + length l)) e ∙ (omega arith)))
       by-rest (c ∷ cs) e = receive-split (room (λ n. let z : length (c ∷ cs) ≡ 0 = ap length (sym e ∙ n) in absurd (omega arith)))
 
-receive-unfit : (q : RecvQueue) (first rest : List Cell) (st d : List ℕ) → lengths (length (first ++ rest)) (length st) ≡ false → receiveOf q (first ++ rest) st d ≡ refusedOf q (first ++ rest) st 9
+-- "9 slice lengths"
+pub receive-unfit : (q : RecvQueue) (rs : List Cell) (st d : List ℕ) → lengths (length rs) (length st) ≡ false → receiveOf q rs st d ≡ refusedOf q rs st 9
 unfolding receiveOf soundCall
-receive-unfit q first rest st d e = sym (true-no _ _ _ _ (rw e) refl)
+receive-unfit q rs st d e = sym (true-no _ _ _ _ (rw e) refl)
 
 -- Records after the first ones do not matter to a receive where they are unused and the first have an unused one for each frame of the datagram.
 pub receive-first : (q : RecvQueue) (first rest : List Cell) (st d : List ℕ) → every isUnused rest ≡ true → 1 ≤ length first → ((rest ≡ [] → ⊥) → length (framesOf d minDatagram) ≤ countOf isUnused first)
@@ -165,7 +166,7 @@ pub receive-first : (q : RecvQueue) (first rest : List Cell) (st d : List ℕ) �
 unfolding receiveFirst
 receive-first q first rest st d unused some room = cases (lengths (length first + length rest) (length st))
     (λ fit. receive-fitting q first rest st d unused some fit room ∙ ap (beside rest) (true-yes _ _ _ _ fit (le-yes _ _ _ _ _ (omega arith) refl)))
-    (λ unfit. receive-unfit q first rest st d (rw (length-append first rest) unfit) ∙ (refused-beside ∙ ap (beside rest) (true-no _ _ _ _ unfit refl)))
+    (λ unfit. receive-unfit q (first ++ rest) st d (rw (length-append first rest) unfit) ∙ (refused-beside ∙ ap (beside rest) (true-no _ _ _ _ unfit refl)))
   where
     refused-beside : refusedOf q (first ++ rest) st 9 ≡ beside rest (refusedOf q first st 9)
     refused-beside = unfold refusedOf beside in refl

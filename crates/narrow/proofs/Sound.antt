@@ -13,7 +13,7 @@ use Rattle.base.specs.Limits.{maxCells, cellBytes}
 use Rattle.base.specs.Lists.{every}
 use Rattle.base.proofs.Choices.{and-left, and-right, and-both}
 use Rattle.base.proofs.Lists.{every-mem, every-all}
-use Rattle.sound.proofs.Scans.{every-append}
+use Rattle.rows.proofs.ForBase.{every-append}
 use Rattle.cells.specs.Cell.{Cell, bears, at}
 use Rattle.cells.specs.Sound.{keyOf, agree, soundCell, soundCells, lengths}
 use Rattle.recv.specs.declared.RecvQueue.{RecvQueue}

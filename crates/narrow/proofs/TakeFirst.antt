@@ -9,15 +9,15 @@ use native.Mathlib.Omega.{arith}
 use lib.Dec.{eqb}
 use lib.ListN.{length, take, drop, length-append, take-append-drop}
 use borrow.Author.Tests.{eqb-true, ne-eqb}
-use Rattle.base.specs.If.{ifTrue, ifLt, ifLe}
+use Rattle.base.specs.If.{ifTrue, ifLt}
 use Rattle.base.specs.Limits.{cellBytes}
 use Rattle.base.specs.Lists.{find, any, every}
 use Rattle.base.proofs.Choices.{cases, same-cond, same-option, and-left, and-right, or-left, or-right}
 use Rattle.base.proofs.Lists.{find-some, any-mem}
-use Rattle.base.proofs.Ifs.{true-yes, le-yes}
+use Rattle.base.proofs.Ifs.{true-yes, true-no, le-yes}
 use Rattle.rows.proofs.ForBase.{map-append}
 use Rattle.line.specs.Frame.{Message}
-use Rattle.cells.specs.Cell.{Cell, Slot, Key, readyAs, bears, at, of, sits, isFree, isReady, join, messageOf, messageAt, emptyCell, freed}
+use Rattle.cells.specs.Cell.{Cell, Slot, Key, readyAs, bears, at, sits, isFree, isReady, join, messageOf, messageAt, emptyCell, freed}
 use Rattle.cells.specs.Records.{indexOf, changeCells}
 use Rattle.cells.specs.Sound.{lengths}
 use Rattle.cells.specs.Store.{cellSize, slotsOf, cellsOf}
@@ -97,6 +97,10 @@ module _ (first rest : List Cell) (unused : every isUnused rest ≡ true) where
   beside-choice true x y x′ y′ e f = e
   beside-choice false x y x′ y′ e f = f
 
+  refused-first : (buffer : List ℕ) (n : ℕ) → Beside (refuse (first ++ rest) buffer n) (refuse first buffer n)
+  unfolding besideTaken
+  refused-first buffer n = refl
+
   handed-first : (st part buffer : List ℕ) (t : ℕ) (m : Message) (c : Cell) → any (at (readyAs t) 0) first ≡ true → Beside (handed (first ++ rest) st buffer t m c) (handed first part buffer t m c)
   unfolding handed besideTaken ifLt
   handed-first st part buffer t m c there = same-cond Beside (eqb (c .count) 1) (eqb (c .count) 1) refl
@@ -116,34 +120,29 @@ module _ (first rest : List Cell) (unused : every isUnused rest ≡ true) where
         let l : length part ≡ length first * cellSize = part-long first rest st fit ∙ (omega arith) in
         ap (slotsOf (first ++ rest)) (sym (take-append-drop (cellBytes * length first) st)) ∙ slots-append first rest part (drop (cellBytes * length first) st) (bodies-short q first part sound) l
 
-    refused-first : (n : ℕ) → Beside (refuse (first ++ rest) buffer n) (refuse first buffer n)
-    unfolding besideTaken
-    refused-first n = refl
-
     takes-part : Beside (takeOf q (first ++ rest) st buffer) (takeOf q first part buffer)
     unfolding takeOf ifTrue
     takes-part = cases (soundCall q first part)
         (λ sound.
         let free = slots-free rest (drop (cellBytes * length first) st) ∙ unused in
         rw (sound-first q first rest st unused some-first fit, sound, slots-first sound)
-        (same-option Beside (earliest (slotsOf first part ++ tail)) (earliest (slotsOf first part)) (earliest-first tail free (slotsOf first part)) (λ e. refused-first 20)
-        (λ t e. same-option Beside (messageAt (readyAs t) (slotsOf first part ++ tail)) (messageAt (readyAs t) (slotsOf first part)) (message-first tail free (readyAs t) (slotsOf first part)) (λ f. refused-first 20)
-        (λ m f. same-option Beside (find (at (readyAs t) 0) (first ++ rest)) (find (at (readyAs t) 0) first) (finds t) (λ g. refused-first 20)
+        (same-option Beside (earliest (slotsOf first part ++ tail)) (earliest (slotsOf first part)) (earliest-first tail free (slotsOf first part)) (λ e. refused-first buffer 20)
+        (λ t e. same-option Beside (messageAt (readyAs t) (slotsOf first part ++ tail)) (messageAt (readyAs t) (slotsOf first part)) (message-first tail free (readyAs t) (slotsOf first part)) (λ f. refused-first buffer 20)
+        (λ m f. same-option Beside (find (at (readyAs t) 0) (first ++ rest)) (find (at (readyAs t) 0) first) (finds t) (λ g. refused-first buffer 20)
         (λ c g. let h = find-some (at (readyAs t) 0) first (sym (finds t) ∙ g) in handed-first st part buffer t m c (any-mem (at (readyAs t) 0) first c (h .0) (h .1)))))))
-        (λ not. rw (sound-first q first rest st unused some-first fit, not) (refused-first 9))
+        (λ not. rw (sound-first q first rest st unused some-first fit, not) (refused-first buffer 9))
       where
         finds : (t : ℕ) → find (at (readyAs t) 0) (first ++ rest) ≡ find (at (readyAs t) 0) first
         finds t = find-first rest unused (at (readyAs t) 0) (at-unused (readyAs t) 0) first
+
+-- "9 slice lengths"
+pub take-unfit : (q : RecvQueue) (rs : List Cell) (st buffer : List ℕ) → lengths (length rs) (length st) ≡ false → takeOf q rs st buffer ≡ refuse rs buffer 9
+unfolding takeOf soundCall
+take-unfit q rs st buffer e = sym (true-no _ _ _ _ (rw e) refl)
 
 -- A take over records whose last ones are unused is the take over the first ones, beside them.
 pub take-first : (q : RecvQueue) (first rest : List Cell) (st buffer : List ℕ) → every isUnused rest ≡ true → 1 ≤ length first → takeOf q (first ++ rest) st buffer ≡ besideTaken rest (takeFirst q (length first + length rest) first st buffer)
 unfolding takeFirst
 take-first q first rest st buffer unused some-first = cases (lengths (length first + length rest) (length st))
-    (λ fit. rw fit (takes-part first rest unused q st buffer some-first fit ∙ ap (besideTaken rest) (all-there _)))
-    (λ not. rw not (lengths-not not))
-  where
-    all-there : (x : TakeResult) → x ≡ ifTrue true (ifLe (length first) (length first + length rest) x (refuse first buffer 9)) (refuse first buffer 9)
-    all-there x = true-yes true _ _ _ refl (le-yes _ _ _ _ _ (omega arith) refl)
-
-    lengths-not : lengths (length first + length rest) (length st) ≡ false → takeOf q (first ++ rest) st buffer ≡ besideTaken rest (ifTrue false (ifLe (length first) (length first + length rest) (takeOf q first (take (cellBytes * length first) st) buffer) (refuse first buffer 9)) (refuse first buffer 9))
-    lengths-not e = unfold takeOf soundCall ifTrue besideTaken in rw (length-append first rest, e)
+    (λ fit. takes-part first rest unused q st buffer some-first fit ∙ ap (besideTaken rest) (true-yes _ _ _ _ fit (le-yes _ _ _ _ _ (omega arith) refl)))
+    (λ unfit. take-unfit q (first ++ rest) st buffer (rw (length-append first rest) unfit) ∙ (refused-first first rest unused buffer 9 ∙ ap (besideTaken rest) (true-no _ _ _ _ unfit refl)))

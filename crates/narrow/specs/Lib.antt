@@ -1,3 +1,4 @@
 pub mod First
+pub mod Needs
 pub mod Receiving
 pub mod Taking

@@ -4,13 +4,13 @@
 // An item is a tag (1 byte), a length (16 bits big-endian) and a payload. Other tags, and a cut last item, are passed over.
 ghost use Prim.Native.Nat.{_≤_, _<_};
 ghost use lib.ListN.{length};
-use acks::WriteQueue;
-use cells::CellRecord;
 use libc::STDIN_FILENO;
 use libc::STDOUT_FILENO;
-use pass::Receive;
-use recv::RecvQueue;
-use takes::Take;
+use recv_queue::CellRecord;
+use recv_queue::Receive;
+use recv_queue::RecvQueue;
+use recv_queue::Take;
+use recv_queue::WriteQueue;
 
 // A new receiver of so many cells (16 bits), 1 to 256.
 const NEW: u8 = b'N';
@@ -83,7 +83,7 @@ fn after(x: State, queue: RecvQueue, records: [CellRecord; 256], right: bool) ->
 }
 
 fn new_receiver(cells: usize, store: &[u8], answers: u32, wrong: u32) -> State {
-    let made = held::make_held(cells, store);
+    let made = held::new_held(cells, store);
     let queue = made.queue;
     let records = made.records;
     State {
@@ -157,7 +157,7 @@ fn written_right(answer: WriteQueue, out: &[u8], p: &[u8]) -> bool {
 fn unsent(x: State, out: &mut [u8], p: &[u8]) -> State {
     let queue = x.queue;
     let records = x.records;
-    let r = acks::write_unsent(queue, out);
+    let r = held::write_unsent_held(queue, out);
     let answer = r.answer;
     let q = r.queue;
     after(x, q, records, written_right(answer, out, p))
@@ -166,10 +166,8 @@ fn unsent(x: State, out: &mut [u8], p: &[u8]) -> State {
 fn missing(x: State, out: &mut [u8], p: &[u8]) -> State {
     let queue = x.queue;
     let records = x.records;
-    let r = acks::write_missing(queue, out);
-    let answer = r.answer;
-    let q = r.queue;
-    after(x, q, records, written_right(answer, out, p))
+    let answer = held::write_missing_held(queue, out);
+    after(x, queue, records, written_right(answer, out, p))
 }
 
 // One item, over a store of just so many cells.

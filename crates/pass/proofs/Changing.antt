@@ -2,13 +2,15 @@
 -- Assumes nothing.
 use Prim.Native.Nat.{ℕ, suc, _≤_, _<_}
 use mathlib.Core.Path.{_≡_, refl, sym, _∙_, ap}
-use mathlib.Core.List.{List, map}
+use mathlib.Core.Bool.{false, true≢false}
+use mathlib.Core.List.{List, [], _∷_, map}
 use native.Mathlib.Omega.{arith}
 use lib.Dec.{ltb}
 use lib.ListN.{length, take, drop, set, length-take, length-drop}
 use Rattle.base.specs.Lists.{any}
+use Rattle.base.proofs.Choices.{cases}
 use Rattle.frame.specs.declared.Placed.{Placed}
-use Rattle.cells.specs.Cell.{Key, bears, isFree, putSlot, slotOf, turnTo}
+use Rattle.cells.specs.Cell.{Slot, Key, bears, isFree, putSlot, slotOf, turnTo}
 use Rattle.cells.specs.Records.{unusedAt}
 use Rattle.cells.specs.Store.{cellSize}
 use Rattle.rows.specs.declared.Row.{Row}
@@ -69,7 +71,13 @@ turn-changes d k u t rs rs′ pos e = record {
 
 -- ---- room
 
--- There is an unused slot exactly if the lowest-numbered unused row is one of the rows.
-pub room-is : (ws : List ℕ) (i : ℕ) → i ≡ unusedAt (cellsIn ws) → (store d : List ℕ) → ltb i (rowCount ws) ≡ any isFree (slotsIn (rowsOf ws) store d)
+-- Where no slot is unused, none is put.
+pub put-none : (x : Slot) (l : List Slot) → any isFree l ≡ false → putSlot x l ≡ l
+unfolding putSlot any
+put-none x [] e = refl
+put-none x (s ∷ l) e = cases (isFree s) (λ t. absurd (true≢false (rw t at e))) (λ t. rw t (ap (λ (m : List Slot). s ∷ m) (put-none x l (rw t at e))))
+
+-- There is an unused slot exactly if the lowest-numbered unused row was one of the rows.
+pub room-is : (ws ws′ : List ℕ) (i : ℕ) → i ≡ unusedAt (cellsIn ws) → length ws′ ≡ length ws → (store d : List ℕ) → ltb i (rowCount ws′) ≡ any isFree (slotsIn (rowsOf ws) store d)
 unfolding cellsIn
-room-is ws i e store d = rw (e, ← rows-length ws) (sym (room-below (rowsOf ws) store d))
+room-is ws ws′ i e long store d = rw (e, long, ← rows-length ws) (sym (room-below (rowsOf ws) store d))

@@ -14,34 +14,34 @@ use Rattle.rows.specs.Rows.{rowsOf, cellsIn}
 use Rattle.slots.specs.Slots.{slotsIn}
 use Rattle.slots.proofs.Tests.{held-rows}
 use Rattle.recv.specs.Receive.{frameIn}
-use Rattle.recv.specs.Queue.{nextIn}
-use Rattle.pass.specs.declared.Pass.{Pass}
+use Rattle.recv.specs.Parts.{nextAt}
+use Rattle.pass.specs.declared.Tally.{Tally}
 use Rattle.pass.specs.declared.Course.the-variants.{Late, Early, Due, Free}
 use Rattle.pass.specs.Work.{workOf, fateIs}
 
-module _ (ws : List ℕ) (x : Pass) (p : Placed) (b : Bool) (eb : b ≡ ordered (p .frame .kind)) where
-  pub fate-free : b ≡ false → (store d : List ℕ) → fateIs Free ≡ fateOf (frameIn d p) (workOf x (rowsOf ws) store d)
+module _ (ws ns : List ℕ) (p : Placed) (b : Bool) (eb : b ≡ ordered (p .frame .kind)) where
+  pub fate-free : b ≡ false → (x : Tally) (a : ℕ → Bool) (store d : List ℕ) → fateIs Free ≡ fateOf (frameIn d p) (workOf a x ns (rowsOf ws) store d)
   unfolding fateIs fateOf frameIn fate
-  fate-free t store d = rw (sym eb ∙ t)
+  fate-free t x a store d = rw (sym eb ∙ t)
 
-  module _ (t : b ≡ true) (n : ℕ) (en : n ≡ nextIn (x .channels) (p .frame .channel)) where
-    pub fate-behind : p .frame .order < n → (store d : List ℕ) → fateIs Late ≡ fateOf (frameIn d p) (workOf x (rowsOf ws) store d)
+  module _ (t : b ≡ true) (n : ℕ) (en : n ≡ nextAt ns (p .frame .channel)) where
+    pub fate-behind : p .frame .order < n → (x : Tally) (a : ℕ → Bool) (store d : List ℕ) → fateIs Late ≡ fateOf (frameIn d p) (workOf a x ns (rowsOf ws) store d)
     unfolding fateIs fateOf frameIn fate workOf
-    fate-behind lt store d = rw (sym eb ∙ t, ← en, lt-ltb (p .frame .order) n lt)
+    fate-behind lt x a store d = rw (sym eb ∙ t, ← en, lt-ltb (p .frame .order) n lt)
 
     module _ (ge : n ≤ p .frame .order) (h : Bool) (eh : h ≡ any (bears (heldAs (p .frame .channel) (p .frame .order))) (cellsIn ws)) where
       held : (store d : List ℕ) → isHeld (p .frame .channel) (p .frame .order) (slotsIn (rowsOf ws) store d) ≡ h
       unfolding cellsIn
       held store d = held-rows (rowsOf ws) store d (p .frame .channel) (p .frame .order) ∙ sym eh
 
-      pub fate-held : h ≡ true → (store d : List ℕ) → fateIs Late ≡ fateOf (frameIn d p) (workOf x (rowsOf ws) store d)
+      pub fate-held : h ≡ true → (x : Tally) (a : ℕ → Bool) (store d : List ℕ) → fateIs Late ≡ fateOf (frameIn d p) (workOf a x ns (rowsOf ws) store d)
       unfolding fateIs fateOf frameIn fate workOf
-      fate-held y store d = rw (sym eb ∙ t, ← en, le-ltb (p .frame .order) n ge, held store d ∙ y)
+      fate-held y x a store d = rw (sym eb ∙ t, ← en, le-ltb (p .frame .order) n ge, held store d ∙ y)
 
-      pub fate-due : h ≡ false → p .frame .order ≡ n → (store d : List ℕ) → fateIs Due ≡ fateOf (frameIn d p) (workOf x (rowsOf ws) store d)
+      pub fate-due : h ≡ false → p .frame .order ≡ n → (x : Tally) (a : ℕ → Bool) (store d : List ℕ) → fateIs Due ≡ fateOf (frameIn d p) (workOf a x ns (rowsOf ws) store d)
       unfolding fateIs fateOf frameIn fate workOf
-      fate-due y q store d = rw (sym eb ∙ t, ← en, le-ltb (p .frame .order) n ge, held store d ∙ y, eq-eqb (p .frame .order) n q)
+      fate-due y q x a store d = rw (sym eb ∙ t, ← en, le-ltb (p .frame .order) n ge, held store d ∙ y, eq-eqb (p .frame .order) n q)
 
-      pub fate-early : h ≡ false → (p .frame .order ≡ n → ⊥) → (store d : List ℕ) → fateIs Early ≡ fateOf (frameIn d p) (workOf x (rowsOf ws) store d)
+      pub fate-early : h ≡ false → (p .frame .order ≡ n → ⊥) → (x : Tally) (a : ℕ → Bool) (store d : List ℕ) → fateIs Early ≡ fateOf (frameIn d p) (workOf a x ns (rowsOf ws) store d)
       unfolding fateIs fateOf frameIn fate workOf
-      fate-early y q store d = rw (sym eb ∙ t, ← en, le-ltb (p .frame .order) n ge, held store d ∙ y, ne-eqb (p .frame .order) n q)
+      fate-early y q x a store d = rw (sym eb ∙ t, ← en, le-ltb (p .frame .order) n ge, held store d ∙ y, ne-eqb (p .frame .order) n q)

@@ -6,9 +6,11 @@ pub mod Following
 pub mod Wholes
 pub mod Joining
 pub mod Stepping
-pub mod Growing
+pub mod Numbering
+pub mod Seeing
 pub mod Passing
 pub mod Flushing
+pub mod Clearing
 pub mod Receiving
 pub mod Beginning
 pub mod ReceivingAccepted

@@ -1,68 +1,62 @@
--- What functions over working values and rows do to the working state, put together.
+-- What functions over counts, nexts and rows do to the working state, put together.
 -- Assumes nothing.
-use Prim.Native.Nat.{ℕ, _+_, _<_}
-use mathlib.Core.Path.{_≡_, refl, sym, _∙_, ap}
+use Prim.Native.Nat.{ℕ, _<_}
+use mathlib.Core.Path.{_≡_, sym, _∙_, ap}
 use mathlib.Core.Bool.{Bool, true, false}
 use mathlib.Core.List.{List}
+use lib.ListN.{length}
 use Rattle.base.specs.Lists.{any}
 use Rattle.line.specs.Frame.{Frame}
 use Rattle.cells.specs.Cell.{Slot, isFree}
 use Rattle.cells.specs.Datagram.{Work, dropOne, fillUp, place, made, rise, Fate, fateOf, roomy}
 use Rattle.rows.specs.declared.Row.{Row}
 use Rattle.slots.specs.Slots.{slotsIn, AllFit}
-use lib.ListN.{length, length-set}
-use Rattle.pass.specs.declared.Pass.{Pass}
-use Rattle.recv.specs.Queue.{nextIn}
+use Rattle.pass.specs.declared.Tally.{Tally}
 use Rattle.pass.specs.Work.{workOf}
 use Rattle.pass.specs.Own.{droppedOne, filledUp, madeOne, risen}
 use Rattle.pass.specs.Moves.{Moves, byFate}
 use Rattle.pass.proofs.Own.{work-dropped, work-filled, work-made, work-risen}
 
 module _ (d : List ℕ) where
-  pub moves-then : (g h : Work → Work) (x y z : Pass) (rs rs′ rs″ : List Row) → Moves d g x rs y rs′ → Moves d h y rs′ z rs″ → Moves d (λ w. h (g w)) x rs z rs″
-  moves-then g h x y z rs rs′ rs″ a b = record { is = λ store. b .is store ∙ ap h (a .is store); fits = λ v. b .fits (a .fits v); reliables = b .reliables ∙ a .reliables; channels = b .channels ∙ a .channels }
+  pub moves-then : (g h : Work → Work) (x y z : Tally) (ns ns′ ns″ : List ℕ) (rs rs′ rs″ : List Row) → Moves d g x ns rs y ns′ rs′ → Moves d h y ns′ rs′ z ns″ rs″ → Moves d (λ w. h (g w)) x ns rs z ns″ rs″
+  moves-then g h x y z ns ns′ ns″ rs rs′ rs″ m n = record { is = λ a store. n .is a store ∙ ap h (m .is a store); fits = λ v. n .fits (m .fits v) }
 
-  module _ (x : Pass) (rs : List Row) where
-    pub moves-none : Moves d (λ w. w) x rs x rs
-    moves-none = record { is = λ store. refl; fits = λ v. v; reliables = refl; channels = refl }
+  module _ (x : Tally) (ns : List ℕ) (rs : List Row) where
+    pub moves-drop : Moves d dropOne x ns rs (droppedOne x) ns rs
+    moves-drop = record { is = λ a store. work-dropped a x ns rs store d; fits = λ v. v }
 
-    pub moves-drop : Moves d dropOne x rs (droppedOne x) rs
-    moves-drop = record { is = λ store. work-dropped x rs store d; fits = λ v. v; reliables = unfold droppedOne in refl; channels = unfold droppedOne in refl }
-
-    pub moves-fill : Moves d fillUp x rs (filledUp x) rs
-    moves-fill = record { is = λ store. work-filled x rs store d; fits = λ v. v; reliables = unfold filledUp in refl; channels = unfold filledUp in refl }
-
-    pub moves-rise : (c : ℕ) → c < length (x .channels) → Moves d (rise c) x rs (risen c x) rs
-    moves-rise c lt = record { is = λ store. work-risen x rs store d c lt; fits = λ v. v; reliables = unfold risen in refl; channels = unfold risen in length-set (x .channels) c (record { next = nextIn (x .channels) c + 1 }) }
+    pub moves-rise : (c : ℕ) → c < length ns → Moves d (rise c) x ns rs x (risen c ns) rs
+    moves-rise c lt = record { is = λ a store. work-risen a x ns rs store d c lt; fits = λ v. v }
 
     -- Other slots, and other slots that make a message ready: g may look at the working state, which has the slots of the rows.
-    module _ (rs′ : List Row) (g : Work → List Slot) (e : (store : List ℕ) → slotsIn rs′ store d ≡ g (workOf x rs store d)) (f : AllFit d rs → AllFit d rs′) where
-      pub moves-place : Moves d (λ w. place (g w) w) x rs x rs′
+    module _ (rs′ : List Row) (g : Work → List Slot) (e : (a : ℕ → Bool) (store : List ℕ) → slotsIn rs′ store d ≡ g (workOf a x ns rs store d)) (f : AllFit d rs → AllFit d rs′) where
+      pub moves-place : Moves d (λ w. place (g w) w) x ns rs x ns rs′
       unfolding workOf place
-      moves-place = record { is = λ store. rw (e store); fits = f; reliables = refl; channels = refl }
+      moves-place = record { is = λ a store. rw (e a store); fits = f }
 
-      pub moves-made : Moves d (λ w. made (g w) w) x rs (madeOne x) rs′
-      moves-made = record { is = λ store. work-made x rs′ store d ∙ chosen store; fits = f; reliables = unfold madeOne in refl; channels = unfold madeOne in refl }
+      pub moves-made : Moves d (λ w. made (g w) w) x ns rs (madeOne x) ns rs′
+      moves-made = record { is = λ a store. work-made a x ns rs′ store d ∙ chosen a store; fits = f }
         where
-          chosen : (store : List ℕ) → made (workOf x rs′ store d .slots) (workOf x rs′ store d) ≡ made (g (workOf x rs store d)) (workOf x rs store d)
-          chosen store = unfold workOf made in rw (e store)
+          chosen : (a : ℕ → Bool) (store : List ℕ) → made (workOf a x ns rs′ store d .slots) (workOf a x ns rs′ store d) ≡ made (g (workOf a x ns rs store d)) (workOf a x ns rs store d)
+          chosen a store = unfold workOf made in rw (e a store)
 
     -- Room is asked for.
     module _ (g : Work → Work) (b : Bool) (h : (store d : List ℕ) → b ≡ any isFree (slotsIn rs store d)) where
-      pub moves-roomy : b ≡ true → (y : Pass) (rs′ : List Row) → Moves d g x rs y rs′ → Moves d (λ w. roomy w (g w)) x rs y rs′
-      moves-roomy t y rs′ a = record { is = λ store. a .is store ∙ room store; fits = a .fits; reliables = a .reliables; channels = a .channels }
+      pub moves-roomy : b ≡ true → (y : Tally) (ns′ : List ℕ) (rs′ : List Row) → Moves d g x ns rs y ns′ rs′ → Moves d (λ w. roomy w (g w)) x ns rs y ns′ rs′
+      moves-roomy t y ns′ rs′ m = record { is = λ a store. m .is a store ∙ room a store; fits = m .fits }
         where
-          room : (store : List ℕ) → g (workOf x rs store d) ≡ roomy (workOf x rs store d) (g (workOf x rs store d))
-          room store = unfold workOf roomy in rw (sym (h store d) ∙ t)
+          room : (a : ℕ → Bool) (store : List ℕ) → g (workOf a x ns rs store d) ≡ roomy (workOf a x ns rs store d) (g (workOf a x ns rs store d))
+          room a store = unfold workOf roomy in rw (sym (h store d) ∙ t)
 
-      pub moves-full : b ≡ false → Moves d (λ w. roomy w (g w)) x rs (filledUp x) rs
-      moves-full t = record { is = λ store. work-filled x rs store d ∙ room store; fits = λ v. v; reliables = unfold filledUp in refl; channels = unfold filledUp in refl }
+      -- there is none, and the slots stay
+      pub moves-full : b ≡ false → (rs′ : List Row) → ((store : List ℕ) → slotsIn rs′ store d ≡ slotsIn rs store d) → (AllFit d rs → AllFit d rs′) → Moves d (λ w. roomy w (g w)) x ns rs (filledUp x) ns rs′
+      moves-full t rs′ e f = record { is = λ a store. work-filled a x ns rs′ store d ∙ room a store; fits = f }
         where
-          room : (store : List ℕ) → fillUp (workOf x rs store d) ≡ roomy (workOf x rs store d) (g (workOf x rs store d))
-          room store = unfold workOf roomy in rw (sym (h store d) ∙ t)
+          room : (a : ℕ → Bool) (store : List ℕ) → fillUp (workOf a x ns rs′ store d) ≡ roomy (workOf a x ns rs store d) (g (workOf a x ns rs store d))
+          room a store = unfold workOf roomy fillUp in rw (sym (h store d) ∙ t, e store)
 
     -- What step 4 found decides.
-    pub moves-by : (g : Fate → Frame → Work → Work) (f : Frame) (k : Fate) → ((store : List ℕ) → k ≡ fateOf f (workOf x rs store d)) → (y : Pass) (rs′ : List Row)
-        → Moves d (g k f) x rs y rs′ → Moves d (byFate g f) x rs y rs′
+    pub moves-by : (g : Fate → Frame → Work → Work) (f : Frame) (k : Fate) → ((a : ℕ → Bool) (store : List ℕ) → k ≡ fateOf f (workOf a x ns rs store d)) → (y : Tally) (ns′ : List ℕ) (rs′ : List Row)
+        → Moves d (g k f) x ns rs y ns′ rs′ → Moves d (byFate g f) x ns rs y ns′ rs′
     unfolding byFate
-    moves-by g f k e y rs′ a = record { is = λ store. a .is store ∙ ap (λ (z : Fate). g z f (workOf x rs store d)) (e store); fits = a .fits; reliables = a .reliables; channels = a .channels }
+    moves-by g f k e y ns′ rs′ m = record { is = λ a store. m .is a store ∙ ap (λ (z : Fate). g z f (workOf a x ns rs store d)) (e a store); fits = m .fits }

@@ -8,79 +8,86 @@ use Rattle.base.specs.Lists.{any}
 use Rattle.frame.specs.declared.Placed.{Placed}
 use Rattle.line.specs.Frame.{Frame}
 use Rattle.cells.specs.Cell.{isFree, putSlot, slotOf}
-use Rattle.cells.specs.Datagram.{Work, place, made, Fate, early, due, free, fateOf, follows, whole}
+use Rattle.cells.specs.Datagram.{Work, place, made, roomy, Fate, early, due, free, fateOf, follows, whole}
 use Rattle.rows.specs.declared.Row.{Row}
 use Rattle.slots.specs.Slots.{slotsIn}
 use Rattle.recv.specs.Receive.{frameIn}
-use Rattle.pass.specs.declared.Pass.{Pass}
+use Rattle.pass.specs.declared.Tally.{Tally}
 use Rattle.pass.specs.declared.Course.{Course}
 use Rattle.pass.specs.declared.Course.the-variants.{Late, Early, Due, Free}
 use Rattle.pass.specs.Work.{workOf, fateIs}
 use Rattle.pass.specs.Own.{droppedOne, filledUp, madeOne}
 use Rattle.pass.specs.Placing.{Stands}
-use Rattle.pass.specs.Moves.{Changes, Moves, byFate, putReady}
+use Rattle.pass.specs.Moves.{Changes, Moves, byFate}
+use Rattle.pass.proofs.Changing.{put-none}
 use Rattle.pass.proofs.Moving.{moves-then, moves-drop, moves-place, moves-made, moves-roomy, moves-full, moves-by}
 
 -- ---- room
 
-module _ (x : Pass) (rs : List Row) (p : Placed) (b : Bool) (h : (store d : List ℕ) → b ≡ any isFree (slotsIn rs store d)) where
-  module _ (t : b ≡ false) (y : Pass) (e : y ≡ filledUp x) (d : List ℕ) (s : Stands d p) where
-    pub early-full : Moves d (whole early (frameIn d p)) x rs y rs
-    unfolding whole
-    early-full = rw e (moves-full d x rs (λ w. place (putSlot (slotOf (frameIn d p) 2 0) (w .slots)) w) b h t)
+-- A frame's row is put as use u and turn k; b tells whether there was room.
+module _ (x : Tally) (rs rs′ : List Row) (p : Placed) (u k : ℕ) (b : Bool) (h : (store d : List ℕ) → b ≡ any isFree (slotsIn rs store d))
+    (ch : (d : List ℕ) → Stands d p → Changes d (putSlot (slotOf (frameIn d p) u k)) rs rs′) where
+  -- There was none: nothing was put.
+  pub put-full : b ≡ false → (g : Work → Work) (y : Tally) → y ≡ filledUp x → (ns d : List ℕ) → Stands d p → Moves d (λ w. roomy w (g w)) x ns rs y ns rs′
+  put-full t g y e ns d s = rw e (moves-full d x ns rs g b h t rs′ (λ store. ch d s .is store ∙ put-none (slotOf (frameIn d p) u k) (slotsIn rs store d) (sym (h store d) ∙ t)) (ch d s .fits))
 
-    pub free-full : Moves d (whole free (frameIn d p)) x rs y rs
+module _ (x : Tally) (rs rs′ : List Row) (p : Placed) (b : Bool) (h : (store d : List ℕ) → b ≡ any isFree (slotsIn rs store d)) where
+  module _ (ch : (d : List ℕ) → Stands d p → Changes d (putSlot (slotOf (frameIn d p) 2 0)) rs rs′) where
+    pub early-full : b ≡ false → (y : Tally) → y ≡ filledUp x → (ns d : List ℕ) → Stands d p → Moves d (whole early (frameIn d p)) x ns rs y ns rs′
     unfolding whole
-    free-full = rw e (moves-full d x rs (λ w. made (putSlot (slotOf (frameIn d p) 3 (w .turn)) (w .slots)) w) b h t)
+    early-full t y e ns d s = put-full x rs rs′ p 2 0 b h ch t (λ w. place (putSlot (slotOf (frameIn d p) 2 0) (w .slots)) w) y e ns d s
 
-    pub due-full : Moves d (whole due (frameIn d p)) x rs y rs
-    unfolding whole
-    due-full = rw e (moves-full d x rs (λ w. follows (frameIn d p .channel) (made (putSlot (slotOf (frameIn d p) 3 (w .turn)) (w .slots)) w)) b h t)
-
-  module _ (t : b ≡ true) (rs′ : List Row) where
-    pub early-put : ((d : List ℕ) → Stands d p → Changes d (putSlot (slotOf (frameIn d p) 2 0)) rs rs′) → (d : List ℕ) → Stands d p → Moves d (whole early (frameIn d p)) x rs x rs′
+    pub early-put : b ≡ true → (ns d : List ℕ) → Stands d p → Moves d (whole early (frameIn d p)) x ns rs x ns rs′
     unfolding whole workOf
-    early-put ch d s =
-        moves-roomy d x rs (λ w. place (putSlot (slotOf (frameIn d p) 2 0) (w .slots)) w) b h t x rs′
-        (moves-place d x rs rs′ (λ w. putSlot (slotOf (frameIn d p) 2 0) (w .slots)) (ch d s .is) (ch d s .fits))
+    early-put t ns d s =
+        moves-roomy d x ns rs (λ w. place (putSlot (slotOf (frameIn d p) 2 0) (w .slots)) w) b h t x ns rs′
+        (moves-place d x ns rs rs′ (λ w. putSlot (slotOf (frameIn d p) 2 0) (w .slots)) (λ a. ch d s .is) (ch d s .fits))
 
-    pub free-put : (y : Pass) → ((d : List ℕ) → Stands d p → Moves d (putReady (frameIn d p)) x rs y rs′) → (d : List ℕ) → Stands d p → Moves d (whole free (frameIn d p)) x rs y rs′
-    unfolding whole putReady
-    free-put y m d s = moves-roomy d x rs (λ w. made (putSlot (slotOf (frameIn d p) 3 (w .turn)) (w .slots)) w) b h t y rs′ (m d s)
+  -- Put as a ready message.
+  module _ (ch : (d : List ℕ) → Stands d p → Changes d (putSlot (slotOf (frameIn d p) 3 (x .turn))) rs rs′) where
+    pub free-full : b ≡ false → (y : Tally) → y ≡ filledUp x → (ns d : List ℕ) → Stands d p → Moves d (whole free (frameIn d p)) x ns rs y ns rs′
+    unfolding whole
+    free-full t y e ns d s = put-full x rs rs′ p 3 (x .turn) b h ch t (λ w. made (putSlot (slotOf (frameIn d p) 3 (w .turn)) (w .slots)) w) y e ns d s
 
-    pub due-put : (y z : Pass) (rs″ : List Row) → ((d : List ℕ) → Stands d p → Moves d (putReady (frameIn d p)) x rs y rs′) → ((d : List ℕ) → Moves d (follows (p .frame .channel)) y rs′ z rs″)
-        → (d : List ℕ) → Stands d p → Moves d (whole due (frameIn d p)) x rs z rs″
-    unfolding whole putReady frameIn
-    due-put y z rs″ m f d s =
-        moves-roomy d x rs (λ w. follows (frameIn d p .channel) (made (putSlot (slotOf (frameIn d p) 3 (w .turn)) (w .slots)) w)) b h t z rs″
-        (moves-then d (λ w. made (putSlot (slotOf (frameIn d p) 3 (w .turn)) (w .slots)) w) (follows (frameIn d p .channel)) x y z rs rs′ rs″ (m d s) (f d))
+    pub due-full : b ≡ false → (y : Tally) → y ≡ filledUp x → (ns d : List ℕ) → Stands d p → Moves d (whole due (frameIn d p)) x ns rs y ns rs′
+    unfolding whole
+    due-full t y e ns d s = put-full x rs rs′ p 3 (x .turn) b h ch t (λ w. follows (frameIn d p .channel) (made (putSlot (slotOf (frameIn d p) 3 (w .turn)) (w .slots)) w)) y e ns d s
 
--- A frame's slot put as a ready message.
-pub ready-put : (x y : Pass) (rs rs′ : List Row) (p : Placed) → ((d : List ℕ) → Stands d p → Changes d (putSlot (slotOf (frameIn d p) 3 (x .turn))) rs rs′) → y ≡ madeOne x
-    → (d : List ℕ) → Stands d p → Moves d (putReady (frameIn d p)) x rs y rs′
-unfolding workOf putReady
-ready-put x y rs rs′ p ch e d s = rw e (moves-made d x rs rs′ (λ w. putSlot (slotOf (frameIn d p) 3 (w .turn)) (w .slots)) (ch d s .is) (ch d s .fits))
+    ready-put : (ns d : List ℕ) → Stands d p → Moves d (λ w. made (putSlot (slotOf (frameIn d p) 3 (w .turn)) (w .slots)) w) x ns rs (madeOne x) ns rs′
+    unfolding workOf
+    ready-put ns d s = moves-made d x ns rs rs′ (λ w. putSlot (slotOf (frameIn d p) 3 (w .turn)) (w .slots)) (λ a. ch d s .is) (ch d s .fits)
+
+    pub free-put : b ≡ true → (y : Tally) → y ≡ madeOne x → (ns d : List ℕ) → Stands d p → Moves d (whole free (frameIn d p)) x ns rs y ns rs′
+    unfolding whole
+    free-put t y e ns d s = rw e (moves-roomy d x ns rs (λ w. made (putSlot (slotOf (frameIn d p) 3 (w .turn)) (w .slots)) w) b h t (madeOne x) ns rs′ (ready-put ns d s))
+
+    pub due-put : b ≡ true → (y z : Tally) → y ≡ madeOne x → (ns ns′ : List ℕ) (rs″ : List Row) → ((d : List ℕ) → Moves d (follows (p .frame .channel)) y ns rs′ z ns′ rs″)
+        → (d : List ℕ) → Stands d p → Moves d (whole due (frameIn d p)) x ns rs z ns′ rs″
+    unfolding whole frameIn
+    due-put t y z e ns ns′ rs″ f d s =
+        moves-roomy d x ns rs (λ w. follows (frameIn d p .channel) (made (putSlot (slotOf (frameIn d p) 3 (w .turn)) (w .slots)) w)) b h t z ns′ rs″
+        (moves-then d (λ w. made (putSlot (slotOf (frameIn d p) 3 (w .turn)) (w .slots)) w) (follows (frameIn d p .channel)) x (madeOne x) z ns ns ns′ rs rs′ rs″ (ready-put ns d s) (rw e at (f d)))
 
 -- ---- what step 4 found
 
-module _ (x : Pass) (rs : List Row) (p : Placed) (r : Course) (h : (store d : List ℕ) → fateIs r ≡ fateOf (frameIn d p) (workOf x rs store d)) where
+module _ (x : Tally) (ns : List ℕ) (rs : List Row) (p : Placed) (r : Course) (h : (x : Tally) (a : ℕ → Bool) (store d : List ℕ) → fateIs r ≡ fateOf (frameIn d p) (workOf a x ns rs store d)) where
   -- one of the four, and what is done then
-  pub found-by : (g : Fate → Frame → Work → Work) (k : Course) → r ≡ k → (y : Pass) (rs′ : List Row) (d : List ℕ) → Moves d (g (fateIs k) (frameIn d p)) x rs y rs′ → Moves d (byFate g (frameIn d p)) x rs y rs′
-  found-by g k e y rs′ d m = moves-by d x rs g (frameIn d p) (fateIs k) (λ store. ap fateIs (sym e) ∙ h store d) y rs′ m
+  pub found-by : (g : Fate → Frame → Work → Work) (k : Course) → r ≡ k → (y : Tally) (ns′ : List ℕ) (rs′ : List Row) (d : List ℕ) → Moves d (g (fateIs k) (frameIn d p)) x ns rs y ns′ rs′ → Moves d (byFate g (frameIn d p)) x ns rs y ns′ rs′
+  found-by g k e y ns′ rs′ d m = moves-by d x ns rs g (frameIn d p) (fateIs k) (λ a store. ap fateIs (sym e) ∙ h x a store d) y ns′ rs′ m
 
-  pub whole-late : r ≡ Late → (y : Pass) → y ≡ droppedOne x → (d : List ℕ) → Stands d p → Moves d (byFate whole (frameIn d p)) x rs y rs
+  pub whole-late : r ≡ Late → (y : Tally) → y ≡ droppedOne x → (d : List ℕ) → Stands d p → Moves d (byFate whole (frameIn d p)) x ns rs y ns rs
   unfolding whole fateIs
-  whole-late e y ey d s = found-by whole Late e y rs d (rw ey (moves-drop d x rs))
+  whole-late e y ey d s = found-by whole Late e y ns rs d (rw ey (moves-drop d x ns rs))
 
-  module _ (y : Pass) (rs′ : List Row) where
-    pub whole-early : r ≡ Early → ((d : List ℕ) → Stands d p → Moves d (whole early (frameIn d p)) x rs y rs′) → (d : List ℕ) → Stands d p → Moves d (byFate whole (frameIn d p)) x rs y rs′
+  module _ (y : Tally) (rs′ : List Row) where
+    pub whole-early : r ≡ Early → ((ns d : List ℕ) → Stands d p → Moves d (whole early (frameIn d p)) x ns rs y ns rs′) → (d : List ℕ) → Stands d p → Moves d (byFate whole (frameIn d p)) x ns rs y ns rs′
     unfolding fateIs
-    whole-early e m d s = found-by whole Early e y rs′ d (m d s)
+    whole-early e m d s = found-by whole Early e y ns rs′ d (m ns d s)
 
-    pub whole-due : r ≡ Due → ((d : List ℕ) → Stands d p → Moves d (whole due (frameIn d p)) x rs y rs′) → (d : List ℕ) → Stands d p → Moves d (byFate whole (frameIn d p)) x rs y rs′
+    pub whole-due : r ≡ Due → (ns′ : List ℕ) → ((d : List ℕ) → Stands d p → Moves d (whole due (frameIn d p)) x ns rs y ns′ rs′) → (d : List ℕ) → Stands d p → Moves d (byFate whole (frameIn d p)) x ns rs y ns′ rs′
     unfolding fateIs
-    whole-due e m d s = found-by whole Due e y rs′ d (m d s)
+    whole-due e ns′ m d s = found-by whole Due e y ns′ rs′ d (m d s)
 
-    pub whole-free : r ≡ Free → ((d : List ℕ) → Stands d p → Moves d (whole free (frameIn d p)) x rs y rs′) → (d : List ℕ) → Stands d p → Moves d (byFate whole (frameIn d p)) x rs y rs′
+    pub whole-free : r ≡ Free → ((ns d : List ℕ) → Stands d p → Moves d (whole free (frameIn d p)) x ns rs y ns rs′) → (d : List ℕ) → Stands d p → Moves d (byFate whole (frameIn d p)) x ns rs y ns rs′
     unfolding fateIs
-    whole-free e m d s = found-by whole Free e y rs′ d (m d s)
+    whole-free e m d s = found-by whole Free e y ns rs′ d (m ns d s)

@@ -1,33 +1,31 @@
--- Changes of the working values alone: a frame dropped, room run out, a message made ready, a channel's next raised, a reliable number accepted.
+-- Changes of counts and nexts alone: a frame dropped, room run out, a message made ready, a channel's next raised.
 use Prim.Native.Nat.{ℕ, _+_, _^_, _<_}
 use mathlib.Core.Path.{_≡_}
+use mathlib.Core.List.{List}
 use lib.ListN.{set, length}
 use Rattle.base.specs.Limits.{maxOrdChans}
-use Rattle.window.specs.Proper.{Sized}
-use Rattle.window.specs.Window.{accept}
-use Rattle.pass.specs.declared.Pass.{Pass}
-use Rattle.recv.specs.Queue.{nextIn}
+use Rattle.recv.specs.Parts.{nextAt}
+use Rattle.pass.specs.declared.Tally.{Tally}
 
-unfoldable pub droppedOne : Pass → Pass
-droppedOne x = record { reliables = x .reliables; channels = x .channels; turn = x .turn; ready = x .ready; dropped = x .dropped + 1; full = x .full }
+unfoldable pub droppedOne : Tally → Tally
+droppedOne x = record { turn = x .turn; ready = x .ready; dropped = x .dropped + 1; full = x .full }
 
-unfoldable pub filledUp : Pass → Pass
-filledUp x = record { reliables = x .reliables; channels = x .channels; turn = x .turn; ready = x .ready; dropped = x .dropped; full = 1 }
+unfoldable pub filledUp : Tally → Tally
+filledUp x = record { turn = x .turn; ready = x .ready; dropped = x .dropped; full = 1 }
 
-unfoldable pub madeOne : Pass → Pass
-madeOne x = record { reliables = x .reliables; channels = x .channels; turn = x .turn + 1; ready = x .ready + 1; dropped = x .dropped; full = x .full }
+unfoldable pub madeOne : Tally → Tally
+madeOne x = record { turn = x .turn + 1; ready = x .ready + 1; dropped = x .dropped; full = x .full }
 
-unfoldable pub risen : ℕ → Pass → Pass
-risen c x = record { reliables = x .reliables; channels = set (x .channels) c (record { next = nextIn (x .channels) c + 1 }); turn = x .turn; ready = x .ready; dropped = x .dropped; full = x .full }
+unfoldable pub risen : ℕ → List ℕ → List ℕ
+risen c ns = set ns c (nextAt ns c + 1)
 
-unfoldable pub acceptedOne : ℕ → Pass → Pass
-acceptedOne n x = record { reliables = accept (x .reliables) n; channels = x .channels; turn = x .turn; ready = x .ready; dropped = x .dropped; full = x .full }
-
--- The arrays have their places, as their types say; n more messages can be made ready or dropped, and no number wraps.
-pub record Counts (n : ℕ) (x : Pass) : Type 0 where
-  pub reliables : Sized (x .reliables)
-  pub channels : length (x .channels) ≡ maxOrdChans
+-- n more messages can be made ready or dropped, and no number wraps
+pub record Counts (n : ℕ) (x : Tally) : Type 0 where
   pub turn : x .turn + n < 2 ^ 32
   pub ready : x .ready + n < 2 ^ 32
   pub dropped : x .dropped + n < 2 ^ 32
-  pub next : (c : ℕ) → nextIn (x .channels) c + n < 2 ^ 32
+
+-- there is a next for each channel, and each can rise by n
+pub record Rises (n : ℕ) (ns : List ℕ) : Type 0 where
+  pub long : length ns ≡ maxOrdChans
+  pub next : (c : ℕ) → nextAt ns c + n < 2 ^ 32

@@ -1,15 +1,12 @@
 -- A frame that stands in a datagram, and its row.
 use Prim.Native.Nat.{ℕ, _+_, _<_, _≤_}
 use mathlib.Core.Path.{_≡_}
-use mathlib.Core.Bool.{true, false, cond}
+use mathlib.Core.Bool.{true, cond}
 use mathlib.Core.List.{List}
 use lib.ListN.{length}
-use Rattle.base.specs.Limits.{numbers24, maxDatagram, windowPlaces}
+use Rattle.base.specs.Limits.{numbers24, maxDatagram}
 use Rattle.frame.specs.declared.Placed.{Placed}
-use Rattle.window.specs.declared.ReliableWindow.{ReliableWindow}
-use Rattle.window.specs.Window.{accepted}
-use Rattle.base.specs.Numbers.{distance}
-use Rattle.line.specs.Frame.{inLimits, carriesReliable}
+use Rattle.line.specs.Frame.{inLimits}
 use Rattle.rows.specs.declared.Row.{Row}
 use Rattle.recv.specs.Receive.{frameIn}
 
@@ -42,7 +39,3 @@ pub record Readable (p : Placed) : Type 0 where
 -- the frame is within step 2's limits, which do not look at its body
 abbrev pub Limited : Placed → Type 0
 Limited p = (d : List ℕ) → inLimits (frameIn d p) ≡ true
-
--- a reliable number that the frame carries, and that was not accepted before, is within reach: refusal 7 does not apply
-abbrev pub Reaches : ReliableWindow → Placed → Type 0
-Reaches w p = carriesReliable (p .frame .kind) ≡ true → accepted w (p .frame .reliable) ≡ false → distance (w .low) (p .frame .reliable) ≤ windowPlaces

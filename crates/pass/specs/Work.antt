@@ -1,22 +1,22 @@
--- What a datagram's working values and rows mean: the working state of the receiver with cells.
+-- What a datagram's counts, nexts and rows mean: the working state of the receiver with cells.
 use Prim.Native.Nat.{ℕ}
+use mathlib.Core.Bool.{Bool}
 use mathlib.Core.List.{List}
 use lib.Dec.{eqb}
-use Rattle.window.specs.Window.{accepted}
 use Rattle.cells.specs.Datagram.{Work, Fate, late, early, due, free}
 use Rattle.rows.specs.declared.Row.{Row}
 use Rattle.slots.specs.Slots.{slotsIn}
-use Rattle.recv.specs.Queue.{nextIn}
-use Rattle.pass.specs.declared.Pass.{Pass}
+use Rattle.recv.specs.Parts.{nextAt}
+use Rattle.pass.specs.declared.Tally.{Tally}
 use Rattle.pass.specs.declared.Course.{Course}
 use Rattle.pass.specs.declared.Course.the-variants.{Late, Early, Due, Free}
 
--- the bodies stand in the store, or in the datagram d
-unfoldable pub workOf : Pass → List Row → List ℕ → List ℕ → Work
-workOf x rs store d =
+-- a tells the reliable numbers accepted; the bodies stand in the store, or in the datagram d
+unfoldable pub workOf : (ℕ → Bool) → Tally → List ℕ → List Row → List ℕ → List ℕ → Work
+workOf a x ns rs store d =
     record {
-      accepted = accepted (x .reliables);
-      next = nextIn (x .channels);
+      accepted = a;
+      next = nextAt ns;
       slots = slotsIn rs store d;
       turn = x .turn;
       ready = x .ready;

@@ -32,12 +32,12 @@ use Rattle.recv.specs.Queue.{nextIn, nextOf, newQueue, soundQueue}
 use Rattle.recv.specs.Receive.{soundCall}
 use Rattle.recv.specs.Calls as recv
 use Rattle.recv.specs.Calls.{Call, Receiver, made, afterAll, handedOut, stillOut, Accepted, acceptedOf, framesRead, bareAnswers}
-use Rattle.recv.specs.Claim.{Start, begun, readBy, OneList, Claim}
+use Rattle.recv.specs.Claim.{Start, begun, readBy, AllBytes, OneList, Claim}
 use Rattle.recv.proofs.Queues.{new-good, good-sound}
 use Rattle.recv.proofs.Receives.{memoryOf, Sane, slots-fit}
-use Rattle.recv.proofs.Runs.{AllBytes, Run}
+use Rattle.recv.proofs.Runs.{Run}
 use Rattle.recv.proofs.Lists.{runs}
-use Rattle.recv.proofs.Drains.{drains}
+use Rattle.recv.proofs.Drains.{drains, gets-20}
 
 -- ---- a receiver just made
 every-same : (p : Cell → Bool) (c : Cell) (n : ℕ) → p c ≡ true → every p (replicate n c) ≡ true
@@ -129,6 +129,7 @@ module _ (s : Start) (cs : List Call) (bytes : AllBytes cs) where
   one-list =
       record {
         line = ap lineFor (sym read-is) ∙ (handed-out-is-the-line (s .cells) (run .inners) ∙ rw (handed-is, still-is));
+        until-20 = gets-20 (afterAll (begun s) cs) (run .sane);
         counts =
             answers-are (acceptedOf (begun s) cs) new
             (sym (ap (λ (y : Session). cells.countsOf y (run .inners)) (sym in-session) ∙ run .counts)

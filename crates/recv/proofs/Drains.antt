@@ -9,23 +9,26 @@ use native.Mathlib.Omega.{arith}
 use native.Mathlib.Nat.{suc-mul, le-trans, mul-le-mul-right}
 use lib.Dec.{eqb}
 use lib.ListN.{length, length-append, length-replicate}
+use Rattle.base.specs.Answer.{refused}
 use Rattle.base.specs.If.{ifTrue}
 use Rattle.base.specs.Limits.{cellBytes, maxFrags}
-use Rattle.base.specs.Lists.{option, find, any}
+use Rattle.base.specs.Lists.{option, find, any, countOf}
 use Rattle.base.proofs.Ifs.{true-yes}
 use Rattle.base.proofs.Choices.{cases, caseOption, neither}
 use Rattle.base.proofs.Lists.{find-some, find-none, any-true}
+use Rattle.base.proofs.Counts.{count-some, count-length}
 use Rattle.line.specs.Frame.{Message}
-use Rattle.cells.specs.Cell.{Cell, Slot, Key, readyAs, at, of, sits, isFree, join, messageOf, messageAt, freed}
+use Rattle.cells.specs.Cell.{Cell, Slot, Key, readyAs, at, of, sits, isFree, isReady, join, messageOf, messageAt, freed}
 use Rattle.cells.specs.Store.{cellSize, slotsOf, cellsOf}
 use Rattle.cells.specs.Take.{earliest, Taken, taking, drainIn}
 use Rattle.cells.proofs.Keys.{message-there}
 use Rattle.cells.proofs.Records.{any-cells}
+use Rattle.cells.proofs.Takes.{earliest-none, taken-freed}
 use Rattle.cells.proofs.Store.{Sized, AllSized, cells-slots, take-read}
 use Rattle.recv.specs.declared.RecvQueue.{RecvQueue}
 use Rattle.recv.specs.Receive.{soundCall}
 use Rattle.recv.specs.Take.{TakeResult, refuse, handed, takeOf}
-use Rattle.recv.specs.Calls.{Call, take-with, Receiver, after, tookOf, handedOut, zeros, longBuffer, takes}
+use Rattle.recv.specs.Calls.{Call, take-with, Receiver, after, afterAll, tookOf, handedOut, zeros, longBuffer, takes, drained}
 use Rattle.recv.proofs.Ways.{Found}
 use Rattle.recv.proofs.Receives.{Sane, counts-few, slots-fit, bodies-short, store-is}
 use Rattle.recv.proofs.Runs.{took-step}
@@ -116,15 +119,16 @@ long-take x v t e =
     (λ q g f. (rw f (g .hands ∙ ap (λ (z : Taken). z .message ∷ []) (sym (r .taken-is))), rw f (g .records ∙ ap (λ (z : Taken). cellsOf (z .slots)) (sym (r .taken-is)))))
     (r .takes-it)
 
--- Takes after none is ready hand out nothing.
-none-more : (x : Receiver) → Sane x → taking (slotsOf (x .records) (x .store)) ≡ none → (n : ℕ) → handedOut x (takes n) ≡ []
-unfolding handedOut takes
-none-more x v e zero = refl
+-- Takes after none is ready hand out nothing, and change nothing.
+none-more : (x : Receiver) → Sane x → taking (slotsOf (x .records) (x .store)) ≡ none → (n : ℕ) → (handedOut x (takes n) ≡ []) × (afterAll x (takes n) ≡ x)
+unfolding handedOut afterAll takes
+none-more x v e zero = (refl, refl)
 none-more x v e (suc n) =
     let q = take-none x v longBuffer e in
     let same : after x (take-with longBuffer) ≡ x = unfold after in rw q in
     let hands : tookOf (x .store) (takeOf (x .queue) (x .records) (x .store) longBuffer) ≡ [] = unfold tookOf in rw q in
-    rw (hands, same) (none-more x v e n)
+    let r = none-more x v e n in
+    (rw (hands, same) (r .0), ap (λ (y : Receiver). afterAll y (takes n)) same ∙ r .1)
 
 -- The receiver after a take that handed out a message.
 record After (x : Receiver) (t : Taken) : Type 0 where
@@ -150,9 +154,34 @@ pub drains : (n : ℕ) (x : Receiver) → Sane x → handedOut x (takes n) ≡ d
 unfolding handedOut takes drainIn
 drains zero x v = refl
 drains (suc n) x v = caseOption (taking (slotsOf (x .records) (x .store)))
-    (λ e. rw e (none-more x v e (suc n)))
+    (λ e. rw e (none-more x v e (suc n) .0))
     (λ t e.
     let a = after-take x v t e in
     let h : tookOf (x .store) (takeOf (x .queue) (x .records) (x .store) longBuffer) ≡ t .message ∷ [] = long-take x v t e .0 in
     let r : handedOut (after x (take-with longBuffer)) (takes n) ≡ drainIn n (t .slots) = drains n (after x (take-with longBuffer)) (a .sane) ∙ ap (drainIn n) (unfold after in a .slots) in
     rw (e, h) (ap {B = List Message} (λ l. t .message ∷ l) r))
+
+-- No record is ready.
+none-ready : (l : List Slot) → countOf isReady l ≤ 0 → taking l ≡ none
+unfolding taking
+none-ready l le = rw (earliest-none l (cases (any isReady l) (λ t. let s = count-some isReady l t in absurd (omega arith)) (λ t. t)))
+
+-- As many takes as records are ready leave none ready.
+runs-dry : (n : ℕ) (x : Receiver) → Sane x → countOf isReady (slotsOf (x .records) (x .store)) ≤ n → Sane (afterAll x (takes n)) × (taking (slotsOf (afterAll x (takes n) .records) (afterAll x (takes n) .store)) ≡ none)
+unfolding afterAll takes
+runs-dry zero x v le = (v, none-ready (slotsOf (x .records) (x .store)) le)
+runs-dry (suc n) x v le = caseOption (taking (slotsOf (x .records) (x .store)))
+    (λ e. subst (λ (y : Receiver). Sane y × (taking (slotsOf (y .records) (y .store)) ≡ none)) (sym (none-more x v e (suc n) .1)) (v, e))
+    (λ t e.
+    let a = after-take x v t e in
+    let f = taken-freed (slotsOf (x .records) (x .store)) t e in
+    runs-dry n (after x (take-with longBuffer)) (a .sane) (unfold after in (rw (a .slots) (let g = f .2 in omega arith))))
+
+-- The take after those that hand out all that is ready gets 20.
+pub gets-20 : (x : Receiver) → Sane x → (buffer : List ℕ) → takeOf (drained x .queue) (drained x .records) (drained x .store) buffer .answer ≡ refused 20
+unfolding drained
+gets-20 x v buffer =
+    let n = slots-fit (x .queue) (x .records) (x .store) (v .sound) .many in
+    let c = count-length isReady (slotsOf (x .records) (x .store)) in
+    let d = runs-dry (length (x .records)) x v (omega arith) in
+    ap (λ (r : TakeResult). r .answer) (take-none (afterAll x (takes (length (x .records)))) (d .0) buffer (d .1))

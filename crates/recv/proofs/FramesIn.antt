@@ -28,7 +28,7 @@ placed-read d by short p m =
     let w = frames-within d minDatagram p m in
     let n : length (take (p .len) (drop (p .start) d)) ≤ p .len = simp length-take (omega arith) in
     record {
-      ok = record { kind = s .0 .kind; sequence = s .0 .sequence; order = s .0 .order; body = omega arith };
+      ok = record { kind = s .0 .kind; sequence = s .0 .sequence; order = s .0 .order; id = s .0 .meta .id; body = omega arith };
       reliable = s .0 .reliable;
     }
 

@@ -1,4 +1,5 @@
 pub mod Keeps
+pub mod ByParts
 pub mod Accepting
 pub mod FramesIn
 pub mod Nexts

@@ -18,11 +18,12 @@ use Rattle.recv.specs.Take.{TakeResult, refuse, takeOf}
 use Rattle.recv.specs.Write.{sorted, emptied, writeUnsentOf, writeMissingOf}
 use Rattle.recv.specs.Calls as recv
 use Rattle.recv.specs.Calls.{Call, receive, take-with, write-unsent, write-missing, Receiver, after, afterAll, tookOf, handedOut, acceptedBy}
+use Rattle.recv.specs.Claim.{AllBytes}
 use Rattle.recv.proofs.Ways.{Accepted, receive-ways, Found, take-ways}
 use Rattle.recv.proofs.Receives as receives
 use Rattle.recv.proofs.Receives.{memoryOf, Sane, accepted-sane}
 use Rattle.recv.proofs.Hands.{Gave, handed-ways}
-use Rattle.recv.proofs.Runs.{AllBytes, Run, quiet, accepting, Taking, left, taking-one, Writing, write-ways, stays, empties}
+use Rattle.recv.proofs.Runs.{Run, quiet, accepting, Taking, left, taking-one, Writing, write-ways, stays, empties}
 
 -- the rest of a list, from any sane receiver
 abbrev Rest : List Call → Type 0

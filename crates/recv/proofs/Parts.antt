@@ -3,8 +3,8 @@
 use mathlib.Core.Path.{_≡_, _∙_, sym, ap}
 use mathlib.Core.Bool.{Bool, true, false, _&&_}
 use mathlib.Core.List.{List, [], _∷_, _++_, map}
-use Prim.Native.Nat.{ℕ, zero, suc, _+_, _-_, _<_, _≤_}
-use native.Mathlib.Nat.{sub-zero}
+use Prim.Native.Nat.{ℕ, zero, suc, _+_, _-_, _<_, _≤_, min}
+use native.Mathlib.Nat.{sub-zero, zero-min, min-zero, suc-min-suc}
 use native.Mathlib.Numerals.{add-one}
 use native.Mathlib.Omega.{arith}
 use lib.ListN.{length, getD, take, drop, set, drop-of-length-le, length-take, length-drop}
@@ -19,6 +19,12 @@ part-count m l h = sym (length-take-le m l h)
 -- a count within an array that is a field, of which the type tells the length
 pub within-field : (l : List ℕ) (i n : ℕ) → length (map (λ (x : ℕ). x) l) ≡ n → i ≤ n → i ≤ length l
 within-field l i n e h = let f : length l ≡ n = length-unmapped ℕ l n e in omega arith
+
+-- the first c, as far as there are so many
+pub take-min : (c : ℕ) (l : List ℕ) → take (min c (length l)) l ≡ take c l
+take-min zero l = rw zero-min
+take-min (suc c) [] = rw min-zero
+take-min (suc c) (a ∷ l) = rw suc-min-suc (ap (λ (t : List ℕ). a ∷ t) (take-min c l))
 
 pub part-within : (m r : ℕ) (l : List ℕ) → r ≤ length (take m l) → r ≤ m
 part-within m r l h = let e : length (take m l) ≤ m = simp length-take (omega arith) in omega arith

@@ -121,9 +121,6 @@ empties x h v = record { memory-is = unfold emptied nextOf in refl; sane = recor
         (and-both (soundQueue (emptied (x .queue))) _ (good-sound (emptied (x .queue)) (emptied-good (x .queue) (v .good)) nexts) cells-kept)
 
 -- ---- lists
-abbrev pub AllBytes : List Call → Type 0
-AllBytes cs = (d : List ℕ) → List·Memᴰ (receive d) cs → Bytes d
-
 abbrev countsOf : recv.Accepted → List ℕ
 countsOf a = a .ready ∷ a .dropped ∷ []
 

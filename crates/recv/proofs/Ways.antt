@@ -84,8 +84,8 @@ pub take-ways : (q : RecvQueue) (rs : List Cell) (st buffer : List ℕ) (P : Tak
 unfolding takeOf
 take-ways q rs st buffer P bad good =
     by-true P (soundCall q rs st)
-    (λ s. byOption P (earliest (slotsOf rs st)) (λ e. bad 20)
-    (λ t e. byOption P (messageAt (readyAs t) (slotsOf rs st)) (λ f. bad 20)
-    (λ m f. byOption P (find (at (readyAs t) 0) rs) (λ g. bad 20)
+    (λ s. byOption P (earliest (slotsOf rs st)) (λ e. bad _)
+    (λ t e. byOption P (messageAt (readyAs t) (slotsOf rs st)) (λ f. bad _)
+    (λ m f. byOption P (find (at (readyAs t) 0) rs) (λ g. bad _)
     (λ c g. good (record { turn = t; message = m; first = c; earliest-is = e; message-is = f; first-is = g })))))
-    (λ s. bad 9)
+    (λ s. bad _)

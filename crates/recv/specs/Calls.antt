@@ -78,9 +78,12 @@ unfoldable pub takes : ℕ → List Call
 takes zero = []
 takes (suc n) = take-with longBuffer ∷ takes n
 
--- as many takes as there are cells hand out all that is ready; each later one answers 20
+-- as many takes as there are cells hand out all that is ready (the claim says that the take after them gets 20): what they hand out, and what they leave
 unfoldable pub stillOut : Receiver → List Message
 stillOut x = handedOut x (takes (length (x .records)))
+
+unfoldable pub drained : Receiver → Receiver
+drained x = afterAll x (takes (length (x .records)))
 
 -- "A datagram is accepted when receive gives it no refusal number": the accepted datagrams' frames and answers, datagram by datagram
 pub record Accepted : Type 0 where

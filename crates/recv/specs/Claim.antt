@@ -1,14 +1,17 @@
 -- Demand 3, one claim over every two lists of calls, each from a receiver just made.
 use Prim.Native.Nat.{ℕ, _*_, _≤_}
 use mathlib.Core.Path.{_≡_}
-use mathlib.Core.List.{List, _++_}
+use mathlib.Core.List.{List, _++_, List·Memᴰ}
 use lib.ListN.{length}
+use Rattle.base.specs.Answer.{refused}
+use Rattle.base.specs.Bytes.{Bytes}
 use Rattle.base.specs.Limits.{maxCells, cellBytes}
 use Rattle.line.specs.Frame.{Frame, Message}
 use Rattle.line.specs.Bare.{new}
 use Rattle.line.specs.Book.{Book}
 use Rattle.line.specs.Order.{lineFor, lineOf, Within, HasArrived, InOrder}
-use Rattle.recv.specs.Calls.{Call, Receiver, made, afterAll, handedOut, stillOut, acceptedOf, framesRead, bareAnswers}
+use Rattle.recv.specs.Take.{takeOf}
+use Rattle.recv.specs.Calls.{Call, receive, Receiver, made, afterAll, handedOut, stillOut, drained, acceptedOf, framesRead, bareAnswers}
 
 -- a receiver just made: 1 to 4,096 cells, over any store of one cell for each
 pub record Start : Type 0 where
@@ -25,10 +28,21 @@ begun s = made (s .cells) (s .store)
 abbrev pub readBy : Start → List Call → List Frame
 readBy s cs = framesRead (acceptedOf (begun s) cs)
 
--- "book or no book, the bodies that a list's takes handed out, and would still hand out, are those in document 01's line for its accepted
--- datagrams, in its order" (with kind, channel and order number); "An accepted datagram's counts of ready and dropped are those that its frames gave here."
+-- The claim's premise on a list of calls: its datagrams are bytes, "may hold anything" that bytes can. (Lent to the code they are, by their type.)
+abbrev pub AllBytes : List Call → Type 0
+AllBytes cs = (d : List ℕ) → List·Memᴰ (receive d) cs → Bytes d
+
+-- the receiver that a list leaves when all that is ready was taken, too
+abbrev pub leftBy : Start → List Call → Receiver
+leftBy s cs = drained (afterAll (begun s) cs)
+
 pub record OneList (s : Start) (cs : List Call) : Type 0 where
+  -- "book or no book, the bodies that a list's takes handed out, and would still hand out, are those in document 01's line for its accepted
+  -- datagrams, in its order" (with kind, channel and order number)
   pub line : lineFor (readBy s cs) ≡ handedOut (begun s) cs ++ stillOut (afterAll (begun s) cs)
+  -- ".. would hand out until 20": the next take gets it, with whatever buffer
+  pub until-20 : (buffer : List ℕ) → takeOf (leftBy s cs .queue) (leftBy s cs .records) (leftBy s cs .store) buffer .answer ≡ refused 20
+  -- "An accepted datagram's counts of ready and dropped are those that its frames gave here."
   pub counts : acceptedOf (begun s) cs ≡ bareAnswers new (acceptedOf (begun s) cs)
 
 pub record Claim (s t : Start) (cs ds : List Call) : Type 1 where

@@ -1,4 +1,5 @@
 pub mod Queue
+pub mod Parts
 pub mod Receive
 pub mod Take
 pub mod Write

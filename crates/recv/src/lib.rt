@@ -17,3 +17,10 @@ pub struct RecvQueue {
     pub unsent: [u32; 1024],
     pub pending: u32,
 }
+
+// A receiver's own numbers, where its arrays are lent one by one: the lows of both windows, and how many numbers are unsent.
+pub struct Heads {
+    pub datagrams: u32,
+    pub reliables: u32,
+    pub pending: u32,
+}

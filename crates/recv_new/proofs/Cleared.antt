@@ -6,7 +6,7 @@ use mathlib.Core.List.{List, _∷_, _++_, append-nil}
 use lib.ListN.{length, set, getD, drop, replicate, length-append, length-drop, length-replicate}
 use lib.Seq.{drop-cons, drop-length, set-at}
 use Rattle.cells.specs.Cell.{Cell}
-use Rattle.slots.specs.Widths.{blank}
+use Rattle.slots.specs.First.{blank}
 use Rattle.recv_new.specs.New.{cleared}
 
 pub cleared-none : (rs : List Cell) → rs ≡ cleared rs 0

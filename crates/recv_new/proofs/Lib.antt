@@ -1,7 +1,4 @@
-pub mod Order
-pub mod Lent
 pub mod Offset
-pub mod Counting
 pub mod Puts
 pub mod Cleared
 pub mod Elements

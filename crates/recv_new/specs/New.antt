@@ -6,42 +6,41 @@ use Rattle.base.specs.Answer.{Answer, refused, gives}
 use Rattle.base.specs.If.{ifTrue}
 use Rattle.cells.specs.Cell.{Cell, emptyCell}
 use Rattle.cells.specs.Sound.{lengths}
-use Rattle.slots.specs.Widths.{blank}
+use Rattle.slots.specs.First.{blank}
 use Rattle.recv.specs.declared.RecvQueue.{RecvQueue}
 use Rattle.recv.specs.Queue.{newQueue}
 use Rattle.recv_new.specs.declared.MakeNew.{MakeNew}
 use Rattle.recv_new.specs.declared.MakeNew.the-variants.{BadLengths, Made}
-use Rattle.recv_new.specs.declared.NewReceiver.{NewReceiver}
 
--- the answer, the new receiver and what the call leaves of the records
+-- the answer, and what the call leaves of the receiver and of the records
 pub record MadeNew : Type 0 where
   pub answer : Answer (Unit {0})
   pub queue : RecvQueue
   pub records : List Cell
 
-unfoldable pub makeNewOf : List Cell → List ℕ → MadeNew
-makeNewOf rs st =
+unfoldable pub makeNewOf : RecvQueue → List Cell → List ℕ → MadeNew
+makeNewOf q rs st =
     ifTrue (lengths (length rs) (length st))
     (record { answer = gives tt; queue = newQueue; records = replicate (length rs) emptyCell })
-    (record { answer = refused 9; queue = newQueue; records = rs })
+    (record { answer = refused 9; queue = q; records = rs })
 
 -- the code's answer in document 01's numbers
 unfoldable pub newAnswer : MakeNew → Answer (Unit {0})
 newAnswer BadLengths = refused 9
 newAnswer Made = gives tt
 
--- a call's outcome, of what it returns and of the last value of the records
-unfoldable pub madeNew : NewReceiver → List Cell → MadeNew
-madeNew r rs = record { answer = newAnswer (r .answer); queue = r .queue; records = rs }
+-- a call's outcome, of what it returns and of the last values of receiver and records
+unfoldable pub madeNew : MakeNew → RecvQueue → List Cell → MadeNew
+madeNew r q rs = record { answer = newAnswer r; queue = q; records = rs }
 
 -- how many cells the new receiver has; none where the lengths do not fit
 unfoldable pub cellsMade : ℕ → ℕ → ℕ
 cellsMade records store = ifTrue (lengths records store) records 0
 
--- what is returned where it has so many
-unfoldable pub madeOf : ℕ → NewReceiver
-madeOf zero = record { answer = BadLengths; queue = newQueue }
-madeOf (suc n) = record { answer = Made; queue = newQueue }
+-- what is answered where it has so many
+unfoldable pub answerOf : ℕ → MakeNew
+answerOf zero = BadLengths
+answerOf (suc n) = Made
 
 -- the records cs of which the first n are cleared
 unfoldable pub cleared : List Cell → ℕ → List Cell

@@ -6,9 +6,9 @@ use window::ReliableWindow;
 ghost use mathlib.Core.Path.{_≡_};
 ghost use Prim.Native.Nat.{_<_, _≤_};
 ghost use lib.ListN.{length, set};
-ghost use Rattle.slots.specs.Widths.{blank};
+ghost use Rattle.slots.specs.First.{blank};
 ghost use Rattle.recv.specs.Queue.{newQueue};
-ghost use Rattle.recv_new.specs.New.{cellsMade, madeOf, madeNew, makeNewOf, cleared};
+ghost use Rattle.recv_new.specs.New.{cellsMade, answerOf, madeNew, makeNewOf, cleared};
 
 // BadLengths is document 01's 9.
 pub enum MakeNew {
@@ -16,19 +16,18 @@ pub enum MakeNew {
     Made,
 }
 
-// An enum can't hold the receiver, so it stands beside the answer.
-pub struct NewReceiver {
-    pub answer: MakeNew,
-    pub queue: RecvQueue,
-}
-
 // "old records aren't looked at, all become unused"
-pub fn make_new(records: &mut [CellRecord], store: &[u8]) -> NewReceiver
-    ensures { λ r. ⌜ madeNew r (now (records .exit)) ≡ makeNewOf (now (records .entry)) (now (store .entry)) ⌝ }
+pub fn make_new(queue: &mut RecvQueue, records: &mut [CellRecord], store: &[u8]) -> MakeNew
+    ensures { λ r. ⌜ madeNew r (now (queue .exit)) (now (records .exit))
+        ≡ makeNewOf (now (queue .entry)) (now (records .entry)) (now (store .entry)) ⌝ }
 {
     let n = cells_made(records.len(), store.len());
+    if n < 1 {
+        return answer_of(n);
+    }
     clear(records, n);
-    made_of(n)
+    *queue = new_queue();
+    answer_of(n)
 }
 
 // How many cells the new receiver has: one for each record, or none where the lengths do not fit.
@@ -42,23 +41,17 @@ fn cells_made(records: usize, store: usize) -> usize
 }
 
 // The answer where the new receiver has so many cells.
-fn made_of(cells: usize) -> NewReceiver
-    ensures { λ r. ⌜ r ≡ madeOf cells ⌝ }
+fn answer_of(cells: usize) -> MakeNew
+    ensures { λ r. ⌜ r ≡ answerOf cells ⌝ }
 {
-    if cells == 0 {
-        return NewReceiver {
-            answer: MakeNew::BadLengths,
-            queue: new_queue(),
-        };
+    if cells < 1 {
+        return MakeNew::BadLengths;
     }
-    NewReceiver {
-        answer: MakeNew::Made,
-        queue: new_queue(),
-    }
+    MakeNew::Made
 }
 
-// "At first each next is 0 and all else is empty."
-fn new_queue() -> RecvQueue
+// "At first each next is 0 and all else is empty." A caller has such a receiver to lend.
+pub fn new_queue() -> RecvQueue
     ensures { λ r. ⌜ r ≡ newQueue ⌝ }
 {
     RecvQueue {
@@ -83,7 +76,7 @@ fn clear(records: &mut [CellRecord], n: usize)
     }
 }
 
-fn unused() -> CellRecord
+pub fn unused() -> CellRecord
     ensures { λ r. ⌜ r ≡ blank ⌝ }
 {
     CellRecord {

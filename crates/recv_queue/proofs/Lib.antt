@@ -1,13 +1,11 @@
-pub mod Widths
 pub mod Words
 pub mod Loaded
 pub mod Saved
-pub mod Used
-pub mod Needs
-pub mod Round
-pub mod Refusals
+pub mod Freed
+pub mod Eights
+pub mod Written
 pub mod Receives
 pub mod Takes
 pub mod Elements
 pub mod Calls
-pub mod Local
+pub mod Zeros

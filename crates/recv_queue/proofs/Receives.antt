@@ -1,87 +1,102 @@
--- `receive` as a call that loads, works and saves (`Round.antt`).
+-- `receive` as a call that loads, works and saves.
 use mathlib.Core.Path.{_≡_, refl, sym, _∙_, ap, subst}
-use Prim.Native.Nat.{ℕ, _+_, _*_, _<_, _≤_}
+use Prim.Native.Nat.{ℕ, _*_, _≤_}
 use native.Mathlib.Omega.{arith}
-use mathlib.Core.Bool.{true, false}
-use mathlib.Core.List.{List, [], _++_}
-use lib.Dec.{ltb}
-use lib.ListN.{length, take, drop, length-drop, take-append-drop}
-use lib.Seq.{length-take-le, drop-length}
-use borrow.Author.Tests.{ltb-true, ltb-false}
-use Rattle.base.specs.Limits.{minDatagram}
-use Rattle.base.specs.Lists.{countOf}
-use Rattle.base.proofs.Choices.{cases}
-use Rattle.base.proofs.Ifs.{true-no}
-use Rattle.frame.specs.Frames.{framesOf}
+use mathlib.Core.List.{List, _++_, map}
+use lib.ListN.{length, take, drop, take-append-drop}
+use Rattle.base.specs.Answer.{Answer, refused, gives}
+use Rattle.base.specs.Limits.{cellBytes, maxCells}
 use Rattle.cells.specs.Cell.{Cell}
 use Rattle.cells.specs.Sound.{lengths}
-use Rattle.rows.specs.Rows.{rowWords}
-use Rattle.slots.specs.Widths.{FitTo}
+use Rattle.rows.specs.declared.Row.{Row}
+use Rattle.rows.specs.Rows.{rowWords, cellOf}
+use Rattle.slots.specs.First.{firstRows, afterRows, firstCells}
+use Rattle.slots.proofs.First.{first-cells-of, stored-cells}
 use Rattle.recv.specs.declared.RecvQueue.{RecvQueue}
-use Rattle.recv.specs.Receive.{refusedOf, receiveOf}
-use Rattle.recv.specs.Receive as Receive
-use Rattle.pass.specs.declared.ReceivedRows.{ReceivedRows}
-use Rattle.pass.specs.Outcome.{rowsSaved, outcome}
-use Rattle.recv_queue.specs.declared.receiving.Received.{Received}
-use Rattle.narrow.specs.First.{isUnused}
-use Rattle.narrow.specs.Receiving.{beside, receiveFirst}
+use Rattle.recv.specs.Receive.{Report, Received, refusedOf, acceptedOf, receiveOf}
+use Rattle.recv.proofs.Ways.{by-true, by-le, receive-ways}
+use Rattle.narrow.specs.Needs.{lastUsed, receiveNeeds}
+use Rattle.narrow.specs.Receiving.{withRest, beside, receiveFirst}
+use Rattle.narrow.proofs.Enough.{receive-enough}
+use Rattle.narrow.proofs.Used.{last-within}
+use Rattle.narrow.proofs.Needs.{receive-few}
+use Rattle.pass.specs.declared.Receive.{Receive}
+use Rattle.pass.specs.Outcome.{receiveAnswer, rowsAccepted, rowsByAnswer, rowsOutcome}
+use Rattle.recv_lent.specs.Calls.{ReceivedWith, receivedWith, receiveWithOf}
 use Rattle.recv_queue.specs.Records.{loaded, saved}
-use Rattle.recv_queue.specs.Call.{lastUsed, receiveNeeds}
-use Rattle.recv_queue.specs.Answers.{received, answerOf}
-use Rattle.narrow.proofs.ReceiveFirst.{receive-first}
-use Rattle.recv_queue.proofs.Used.{last-within, rest-unused, unused-count}
-use Rattle.recv_queue.proofs.Needs.{receive-none, receive-some, receive-few}
-use Rattle.recv_queue.proofs.Round as Round
-use Rattle.recv_queue.proofs.Refusals.{bad-lengths, saved-within}
+use Rattle.recv_queue.specs.Answers.{received, rowsWritten}
+use Rattle.recv_queue.proofs.Loaded.{loaded-cells}
+use Rattle.recv_queue.proofs.Saved.{saved-cells, saved-none}
 
 -- how many records a call works on
 abbrev pub Enough : List Cell → List ℕ → List ℕ → ℕ → Type 0
 Enough rs st d k = k ≡ receiveNeeds (lastUsed rs) (length rs) (length st) d
 
-pub enough-few : (rs : List Cell) (st d : List ℕ) (k : ℕ) → Enough rs st d k → (k ≤ length rs) × (k ≤ 4096)
+pub enough-few : (rs : List Cell) (st d : List ℕ) (k : ℕ) → Enough rs st d k → (k ≤ length rs) × (k ≤ maxCells)
 enough-few rs st d k is = receive-few (lastUsed rs) (length rs) (length st) d k is (last-within rs)
 
--- what the core promises, where it gets k rows of n in the words ws, the store st and the datagram d, answers r and leaves the words w and the store s
-abbrev pub CoreSays : RecvQueue → ℕ → ℕ → List ℕ → List ℕ → List ℕ → ReceivedRows → List ℕ → List ℕ → Type 0
-CoreSays q n k ws st d r w s = Round.CoreSays (λ cs. outcome r cs s) beside (λ cs. receiveFirst q n cs st d) (r .rows) (rowsSaved (r .answer)) k ws w
+-- what the core promises of the receiver q, where it gets k rows of c in the words ws, the store st and the datagram d, answers r and leaves the receiver h, the words w and the store s
+abbrev pub CoreSays : RecvQueue → ℕ → ℕ → List ℕ → List ℕ → List ℕ → Receive → RecvQueue → List ℕ → List ℕ → Type 0
+CoreSays q c k ws st d r h w s = receivedWith r h (firstRows k w) (afterRows k w) s ≡ receiveWithOf q k c ws st d
 
 -- what the call promises
-abbrev pub CallSays : RecvQueue → List Cell → List ℕ → List ℕ → Received → List Cell → List ℕ → Type 0
-CallSays q rs st d a zs s = received a zs s ≡ receiveOf q rs st d
+abbrev pub CallSays : RecvQueue → List Cell → List ℕ → List ℕ → Receive → RecvQueue → List Cell → List ℕ → Type 0
+CallSays q rs st d a h zs s = received a h zs s ≡ receiveOf q rs st d
+
+-- ---- a refusal leaves the records as they were
+abbrev Leaves : List Cell → Received → Type 0
+Leaves cs x = (number : ℕ) → x .answer ≡ refused number → x .records ≡ cs
+
+given-not : (x : Report) (number : ℕ) → gives x ≡ refused number → ⊥
+given-not x number e = subst (λ (a : Answer Report). unless a) e tt
+  where
+    unless : Answer Report → Type 0
+    unless (refused n) = ⊥
+    unless (gives y) = Unit {0}
+
+call-leaves : (q : RecvQueue) (cs : List Cell) (st d : List ℕ) → Leaves cs (receiveOf q cs st d)
+unfolding refusedOf acceptedOf
+call-leaves q cs st d = receive-ways q cs st d (Leaves cs) (λ n m e. refl) (λ a m e. absurd (given-not _ m e))
+
+first-leaves : (q : RecvQueue) (n : ℕ) (cs : List Cell) (st d : List ℕ) → Leaves cs (receiveFirst q n cs st d)
+unfolding receiveFirst refusedOf withRest
+first-leaves q n cs st d =
+    by-true (Leaves cs) (lengths n (length st)) (λ t. by-le (Leaves cs) (length cs) n (λ l. call-leaves q cs (take (cellBytes * length cs) st) d) (λ l m e. refl)) (λ t m e. refl)
+
+-- ---- the records that are saved
+module _ (q : RecvQueue) (rs : List Cell) (k : ℕ) (w : List ℕ) (room : rowWords * k ≤ length w) (rows : List Row) (after : List ℕ) (x : Received) (leaves : Leaves (take k rs) x) where
+  saved-by : (a : Answer Report) → a ≡ x .answer → firstRows k w ≡ rowsByAnswer a q rows after x .rows → saved rs (rowsWritten a k) w ≡ x .records ++ drop k rs
+  unfolding rowsWritten rowsByAnswer rowsAccepted
+  saved-by (refused number) e is = sym (saved-none rs w) ∙ (sym (take-append-drop k rs) ∙ ap (λ (cs : List Cell). cs ++ drop k rs) (sym (leaves number (sym e))))
+  saved-by (gives report) e is =
+      let cells : firstCells k w ≡ x .records = first-cells-of k w ∙ (ap (map cellOf) is ∙ stored-cells (x .records)) in
+      saved-cells rs w k room ∙ ap (λ (cs : List Cell). cs ++ drop k rs) cells
 
 module _ (q : RecvQueue) (rs : List Cell) (st d : List ℕ) (k : ℕ) (is : Enough rs st d k) where
   few : k ≤ length rs
   few = enough-few rs st d k is .0
 
-  first-long : length (take k rs) ≡ k
-  first-long = length-take-le k rs few
+  -- the first k records decide
+  abbrev first : Received
+  first = receiveFirst q (length rs) (take k rs) st d
 
-  -- of that many records the definition asks no more than of all
-  on-first : lengths (length rs) (length st) ≡ true → receiveOf q rs st d ≡ beside (drop k rs) (receiveFirst q (length rs) (take k rs) st d)
-  on-first t =
-      let long = first-long in
-      let some : (1 ≤ k) × (lastUsed rs ≤ k) × (k ≤ length rs) × (k < length rs → lastUsed rs + length (framesOf d minDatagram) < k) = receive-some (lastUsed rs) (length rs) (length st) d k is t (last-within rs) in
-      let room : (drop k rs ≡ [] → ⊥) → length (framesOf d minDatagram) ≤ countOf isUnused (take k rs) = λ more. cases (ltb k (length rs))
-      (λ s. let l : lastUsed rs + length (framesOf d minDatagram) < k = some .3 (ltb-true k (length rs) s) in omega (arith, unused-count rs k few))
-      (λ s. absurd (more (let e : k ≡ length rs = omega (arith, ltb-false k (length rs) s, few) in ap (λ (n : ℕ). drop n rs) e ∙ drop-length rs)))
+  received-of : (r : Receive) (h : RecvQueue) (w s : List ℕ) (rows : List Row) (after : List ℕ) → rowWords * k ≤ length w
+      → receiveAnswer r ≡ first .answer → h ≡ first .queue → firstRows k w ≡ rowsOutcome q rows after first .rows → s ≡ first .store → CallSays q rs st d r h (saved rs (rowsWritten (receiveAnswer r) k) w) s
+  unfolding received beside rowsOutcome
+  received-of r h w s rows after room answer queue left store =
+      let zs : saved rs (rowsWritten (receiveAnswer r) k) w ≡ first .records ++ drop k rs =
+      saved-by q rs k w room rows after first (first-leaves q (length rs) (take k rs) st d) (receiveAnswer r) answer (left ∙ ap (λ (a : Answer Report). rowsByAnswer a q rows after first .rows) (sym answer))
       in
-      let law : receiveOf q (take k rs ++ drop k rs) st d ≡ beside (drop k rs) (receiveFirst q (length (take k rs) + length (drop k rs)) (take k rs) st d) = receive-first q (take k rs) (drop k rs) st d (rest-unused rs k (some .1)) (omega (arith, some .0)) room in
-      let all : length (take k rs) + length (drop k rs) ≡ length rs = omega (arith, length-drop k rs, few) in
-      subst (λ (n : ℕ). receiveOf q rs st d ≡ beside (drop k rs) (receiveFirst q n (take k rs) st d)) all
-      (subst (λ (cs : List Cell). receiveOf q cs st d ≡ beside (drop k rs) (receiveFirst q (length (take k rs) + length (drop k rs)) (take k rs) st d)) (take-append-drop k rs) law)
-
-  -- and where the lengths do not fit both refuse
-  on-none : lengths (length rs) (length st) ≡ false → receiveOf q rs st d ≡ beside (drop k rs) (receiveFirst q (length rs) (take k rs) st d)
-  unfolding receiveFirst beside refusedOf
-  on-none t =
-      let e : refusedOf q (take k rs) st 9 ≡ receiveFirst q (length rs) (take k rs) st d = true-no _ _ _ _ t refl in
-      bad-lengths q rs st d t ∙ ap (λ (cs : List Cell). refusedOf q cs st 9) (sym (take-append-drop k rs)) ∙ ap (beside (drop k rs)) e
-
-  pub on-enough : receiveOf q rs st d ≡ beside (drop k rs) (receiveFirst q (length rs) (take k rs) st d)
-  on-enough = cases (lengths (length rs) (length st)) on-first on-none
+      let e : received r h (saved rs (rowsWritten (receiveAnswer r) k) w) s ≡ beside (drop k rs) first = rw (zs, answer, queue, store) in
+      e ∙ sym (receive-enough q rs st d k is)
 
   -- The call's promise, of what its body does.
-  pub received-in : (ws : List ℕ) (r : ReceivedRows) (w s : List ℕ) → rowWords * k ≤ length ws → FitTo k rs → length w ≡ length ws → CoreSays q (length rs) k (loaded rs k ws) st d r w s → CallSays q rs st d (answerOf r) (saved rs (r .rows) w) s
-  unfolding received outcome beside
-  received-in ws r w s room fit len said =
-      Round.round (λ cs. outcome r cs s) beside (λ cs. receiveFirst q (length rs) cs st d) (r .rows) (rowsSaved (r .answer)) rs ws w k (saved-within (r .answer)) (λ cs rest. refl) few room fit len said ∙ sym on-enough
+  pub received-in : (ws : List ℕ) (r : Receive) (h : RecvQueue) (w s : List ℕ) → rowWords * k ≤ length ws → length w ≡ length ws → CoreSays q (length rs) k (loaded rs k ws) st d r h w s
+      → CallSays q rs st d r h (saved rs (rowsWritten (receiveAnswer r) k) w) s
+  unfolding receivedWith receiveWithOf
+  received-in ws r h w s room len said =
+      let ls : List ℕ = loaded rs k ws in
+      let cells : firstCells k ls ≡ take k rs = loaded-cells rs ws k few room in
+      let of : Received → ReceivedWith = λ x. record { answer = x .answer; queue = x .queue; rows = rowsOutcome q (firstRows k ls) (afterRows k ls) x .rows; after = rowsOutcome q (firstRows k ls) (afterRows k ls) x .after; store = x .store } in
+      let e : receivedWith r h (firstRows k w) (afterRows k w) s ≡ of first = said ∙ ap (λ (cs : List Cell). of (receiveFirst q (length rs) cs st d)) cells in
+      received-of r h w s (firstRows k ls) (afterRows k ls) (omega arith) (ap (λ (x : ReceivedWith). x .answer) e) (ap (λ (x : ReceivedWith). x .queue) e) (ap (λ (x : ReceivedWith). x .rows) e) (ap (λ (x : ReceivedWith). x .store) e)

@@ -9,7 +9,7 @@ use Rattle.rows.specs.declared.Row.{Row}
 use Rattle.rows.specs.Rows.{rowWords, field, rowAt, listed, rowCount, rowsOf}
 use Rattle.rows.specs.Whole.{rest}
 use Rattle.rows.proofs.Stores as Stores
-use Rattle.slots.proofs.Widths.{listed-ext, row-same}
+use Rattle.slots.proofs.First.{listed-ext, row-same}
 use Rattle.recv_queue.specs.Records.{wordsIn, wordsOf, putRow}
 
 -- the first n elements of a list, by index

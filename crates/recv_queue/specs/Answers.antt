@@ -1,16 +1,18 @@
--- What a receive returns and leaves, as its definition has it.
+-- What a receive returns and leaves, as its definition has it; and how many records a call writes.
 use Prim.Native.Nat.{ℕ}
 use mathlib.Core.List.{List}
+use Rattle.base.specs.Answer.{Answer, refused, gives}
 use Rattle.cells.specs.Cell.{Cell}
-use Rattle.recv.specs.Receive as Receive
-use Rattle.pass.specs.declared.ReceivedRows.{ReceivedRows}
+use Rattle.recv.specs.declared.RecvQueue.{RecvQueue}
+use Rattle.recv.specs.Receive.{Received}
+use Rattle.pass.specs.declared.Receive.{Receive}
 use Rattle.pass.specs.Outcome.{receiveAnswer}
-use Rattle.recv_queue.specs.declared.receiving.Received.{Received}
 
--- a receive's outcome, of what it returns and of the last values of records and store
-unfoldable pub received : Received → List Cell → List ℕ → Receive.Received
-received r rs st = record { answer = receiveAnswer (r .answer); queue = r .queue; records = rs; store = st }
+-- a receive's outcome, of what it returns and of the last values of receiver, records and store
+unfoldable pub received : Receive → RecvQueue → List Cell → List ℕ → Received
+received r q rs st = record { answer = receiveAnswer r; queue = q; records = rs; store = st }
 
--- what the core returns, without its count of rows
-abbrev pub answerOf : ReceivedRows → Received
-answerOf r = record { answer = r .answer; queue = r .queue }
+-- how many of k records a call with this answer writes: a refusal writes none
+unfoldable pub rowsWritten : {A : Type 0} → Answer A → ℕ → ℕ
+rowsWritten (refused number) k = 0
+rowsWritten (gives x) k = k

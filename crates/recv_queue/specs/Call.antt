@@ -1,35 +1,18 @@
--- The calls over lent records: how many of the records a call works on. It leaves those after them, all unused, alone.
-use Prim.Native.Nat.{ℕ, zero, suc, _+_, min}
-use mathlib.Core.Bool.{cond}
-use mathlib.Core.List.{List}
-use lib.ListN.{length, getD}
-use Rattle.base.specs.If.{ifTrue, ifLt}
-use Rattle.base.specs.Limits.{minDatagram}
-use Rattle.frame.specs.Frames.{framesOf}
-use Rattle.cells.specs.Cell.{Cell}
-use Rattle.cells.specs.Sound.{lengths}
-use Rattle.slots.specs.Widths.{blank}
-use Rattle.narrow.specs.First.{isUnused}
+-- Up to so many records a call makes its words for these alone.
+use Prim.Native.Nat.{ℕ}
+use Rattle.base.specs.Limits.{maxCells}
 
--- of the first n records, how many there are up to the last used one
-unfoldable pub usedIn : List Cell → ℕ → ℕ
-usedIn rs zero = 0
-usedIn rs (suc n) = cond (isUnused (getD rs n blank)) (usedIn rs n) (suc n)
+abbrev pub fewCells : ℕ
+fewCells = 8
 
-unfoldable pub lastUsed : List Cell → ℕ
-lastUsed rs = usedIn rs (length rs)
-
--- a receive: those up to the last used one, and one for each frame, and one, as far as there are so many; none where the lengths do not fit
-unfoldable pub receiveNeeds : ℕ → ℕ → ℕ → List ℕ → ℕ
-receiveNeeds used cells store d = ifTrue (lengths cells store) (min cells (used + length (framesOf d minDatagram) + 1)) 0
-
--- a take: those up to the last used one, and at least one
-unfoldable pub takeNeeds : ℕ → ℕ → ℕ → ℕ
-takeNeeds used cells store = ifTrue (lengths cells store) (ifLt used 1 1 used) 0
-
--- up to so many records a call makes its words for these alone
 abbrev pub smallCells : ℕ
 smallCells = 32
 
 abbrev pub middleCells : ℕ
 middleCells = 256
+
+abbrev pub manyCells : ℕ
+manyCells = 1024
+
+abbrev pub mostCells : ℕ
+mostCells = maxCells

@@ -1,19 +1,15 @@
--- The cells' records as rows of words, and back: what is loaded into words before a call works on them, and saved afterwards.
-use Prim.Native.Nat.{ℕ, _*_, _%_}
+-- The cells' records as rows of words, and back: what is loaded into words before a call works on them, and saved afterwards; the records
+-- that a take leaves; and whether one of eight is used.
+use Prim.Native.Nat.{ℕ, _+_, _*_}
+use mathlib.Core.Bool.{Bool, cond, _||_}
 use mathlib.Core.List.{List, [], _∷_, _++_, map}
-use lib.ListN.{take, drop}
+use lib.Dec.{ltb}
+use lib.ListN.{getD, take, drop}
 use lib.Seq.{sets}
-use Rattle.cells.specs.Cell.{Cell}
+use Rattle.cells.specs.Cell.{Cell, bears, readyAs, emptyCell}
 use Rattle.rows.specs.declared.Row.{Row}
-use Rattle.rows.specs.Rows.{rowWords, rowAt, listed}
-
--- a record's row: its body stands in the store
-unfoldable pub rowOf : Cell → Row
-rowOf c = record { used = c .used; kind = c .kind; channel = c .channel; id = c .id; index = c .index; count = c .count; length = c .length; sequence = c .sequence; order = c .order; turn = c .turn; place = 0 }
-
--- the record that a row stands for, each number cut to its width in a record
-unfoldable pub cut : Row → Cell
-cut r = record { used = r .used % 256; kind = r .kind % 256; channel = r .channel % 256; id = r .id % 65536; index = r .index % 65536; count = r .count % 65536; length = r .length % 65536; sequence = r .sequence; order = r .order; turn = r .turn }
+use Rattle.rows.specs.Rows.{rowWords, rowAt, listed, cellOf}
+use Rattle.slots.specs.First.{blank, storedRow}
 
 -- the words of a row, and of rows
 abbrev pub wordsIn : Row → List ℕ
@@ -29,8 +25,25 @@ putRow ws i r = sets ws (rowWords * i) (wordsIn r)
 
 -- the words ws with the first n records as their first rows
 unfoldable pub loaded : List Cell → ℕ → List ℕ → List ℕ
-loaded cs n ws = wordsOf (map rowOf (take n cs)) ++ drop (rowWords * n) ws
+loaded cs n ws = wordsOf (map storedRow (take n cs)) ++ drop (rowWords * n) ws
 
 -- the records cs of which the first n are read from the words' first rows
 unfoldable pub saved : List Cell → ℕ → List ℕ → List Cell
-saved cs n ws = listed (λ i. cut (rowAt ws i)) n ++ drop n cs
+saved cs n ws = listed (λ i. cellOf (rowAt ws i)) n ++ drop n cs
+
+-- what a take of the ready message of that turn leaves of a record
+unfoldable pub leftBy : ℕ → Cell → Cell
+leftBy turn c = cond (bears (readyAs turn) c) emptyCell c
+
+-- the records cs of which the first n are left by it so
+unfoldable pub freedTo : List Cell → ℕ → ℕ → List Cell
+freedTo cs n turn = map (leftBy turn) (take n cs) ++ drop n cs
+
+-- is one of eight uses other than 0? and of the eight records from i on?
+unfoldable pub anyUsed : ℕ → ℕ → ℕ → ℕ → ℕ → ℕ → ℕ → ℕ → Bool
+anyUsed a b c d e f g h = ((ltb 0 a || ltb 0 b) || (ltb 0 c || ltb 0 d)) || ((ltb 0 e || ltb 0 f) || (ltb 0 g || ltb 0 h))
+
+unfoldable pub eightUsed : List Cell → ℕ → Bool
+eightUsed cs i =
+    let u : ℕ → ℕ = λ k. getD cs (i + k) blank .used in
+    anyUsed (getD cs i blank .used) (u 1) (u 2) (u 3) (u 4) (u 5) (u 6) (u 7)

@@ -1,30 +1,16 @@
 // Receive: the records that it may need are loaded as rows, the core works on these, and where it accepts the datagram they are saved.
 use cells::CellRecord;
 use pass::Receive;
-use pass::ReceivedRows;
 use recv::RecvQueue;
 ghost use mathlib.Core.Path.{_≡_};
 ghost use Prim.Native.Nat.{_≤_, _+_, _*_, min};
 ghost use lib.ListN.{length};
 ghost use Rattle.rows.specs.Rows.{rowWords};
 ghost use Rattle.recv.specs.Receive.{receiveOf};
-ghost use Rattle.recv_queue.specs.Call.{lastUsed, receiveNeeds, smallCells, middleCells};
-ghost use Rattle.recv_queue.specs.Answers.{received, answerOf};
-
-// An enum can't hold the receiver, so it stands beside the answer.
-pub struct Received {
-    pub answer: Receive,
-    pub queue: RecvQueue,
-}
-
-// The core's answer without its count of rows.
-fn answer_of(r: ReceivedRows) -> Received
-    ensures { λ a. ⌜ a ≡ answerOf r ⌝ }
-{
-    let answer = r.answer;
-    let queue = r.queue;
-    Received { answer, queue }
-}
+ghost use Rattle.narrow.specs.Needs.{lastUsed, receiveNeeds};
+ghost use Rattle.pass.specs.Outcome.{receiveAnswer};
+ghost use Rattle.recv_queue.specs.Call.{fewCells, smallCells, middleCells, manyCells, mostCells};
+ghost use Rattle.recv_queue.specs.Answers.{received, rowsWritten};
 
 // How many records a call works on, where so many of all cells go up to the last used one, and the store has so many bytes.
 fn needed(used: usize, cells: usize, store: usize, datagram: &[u8]) -> usize
@@ -50,82 +36,162 @@ fn with_room(used: usize, frames: usize, cells: usize) -> usize
     used + frames + 1
 }
 
+// How many of k records are saved: all where the datagram is accepted, else none.
+fn rows_saved(answer: Receive, k: usize) -> usize
+    ensures { λ r. ⌜ r ≡ rowsWritten (receiveAnswer answer) k ⌝ }
+{
+    match answer {
+        Receive::Accepted {
+            ready: _,
+            dropped: _,
+            left: _,
+        } => k,
+        _ => 0,
+    }
+}
+
 // The call on the first k records, where the words are lent too and have room for them.
 fn receive_in(
-    queue: RecvQueue,
+    queue: &mut RecvQueue,
     records: &mut [CellRecord],
     words: &mut [u32],
     k: usize,
     store: &mut [u8],
     datagram: &[u8],
-) -> Received
-    requires { ⌜ (k ≡ receiveNeeds (lastUsed (now records)) (length (now records)) (length (now store)) (now datagram)) × (rowWords * k ≤ length (now words)) ⌝ }
-    ensures { λ r. ⌜ received r (now (records .exit)) (now (store .exit)) ≡ receiveOf queue (now (records .entry)) (now (store .entry)) (now (datagram .entry)) ⌝ }
+) -> Receive
+    requires { ⌜ (k ≡ receiveNeeds (lastUsed (now records)) (length (now records)) (length (now store)) (now datagram))
+        × (rowWords * k ≤ length (now words)) ⌝ }
+    ensures { λ r. ⌜ received r (now (queue .exit)) (now (records .exit)) (now (store .exit))
+        ≡ receiveOf (now (queue .entry)) (now (records .entry)) (now (store .entry)) (now (datagram .entry)) ⌝ }
 {
     super::load(records, words, k);
-    let r = narrow::receive_first(queue, words, k, records.len(), store, datagram);
-    let m = r.rows;
+    let r = recv_lent::receive_with(queue, words, k, records.len(), store, datagram);
+    let m = rows_saved(r, k);
     super::save(records, words, m);
-    answer_of(r)
+    r
 }
 
-fn receive_small(
-    queue: RecvQueue,
+fn receive_few(
+    queue: &mut RecvQueue,
     records: &mut [CellRecord],
     k: usize,
     store: &mut [u8],
     datagram: &[u8],
-) -> Received
-    requires { ⌜ (k ≡ receiveNeeds (lastUsed (now records)) (length (now records)) (length (now store)) (now datagram)) × (k ≤ smallCells) ⌝ }
-    ensures { λ r. ⌜ received r (now (records .exit)) (now (store .exit)) ≡ receiveOf queue (now (records .entry)) (now (store .entry)) (now (datagram .entry)) ⌝ }
+) -> Receive
+    requires { ⌜ (k ≡ receiveNeeds (lastUsed (now records)) (length (now records)) (length (now store)) (now datagram)) × (k ≤ fewCells) ⌝ }
+    ensures { λ r. ⌜ received r (now (queue .exit)) (now (records .exit)) (now (store .exit))
+        ≡ receiveOf (now (queue .entry)) (now (records .entry)) (now (store .entry)) (now (datagram .entry)) ⌝ }
+{
+    let mut words: [u32; super::FEW_WORDS] = [0; super::FEW_WORDS];
+    receive_in(queue, records, &mut words, k, store, datagram)
+}
+
+fn receive_small(
+    queue: &mut RecvQueue,
+    records: &mut [CellRecord],
+    k: usize,
+    store: &mut [u8],
+    datagram: &[u8],
+) -> Receive
+    requires { ⌜ (k ≡ receiveNeeds (lastUsed (now records)) (length (now records)) (length (now store)) (now datagram))
+        × (k ≤ smallCells) ⌝ }
+    ensures { λ r. ⌜ received r (now (queue .exit)) (now (records .exit)) (now (store .exit))
+        ≡ receiveOf (now (queue .entry)) (now (records .entry)) (now (store .entry)) (now (datagram .entry)) ⌝ }
 {
     let mut words: [u32; super::SMALL_WORDS] = [0; super::SMALL_WORDS];
     receive_in(queue, records, &mut words, k, store, datagram)
 }
 
 fn receive_middle(
-    queue: RecvQueue,
+    queue: &mut RecvQueue,
     records: &mut [CellRecord],
     k: usize,
     store: &mut [u8],
     datagram: &[u8],
-) -> Received
-    requires { ⌜ (k ≡ receiveNeeds (lastUsed (now records)) (length (now records)) (length (now store)) (now datagram)) × (k ≤ middleCells) ⌝ }
-    ensures { λ r. ⌜ received r (now (records .exit)) (now (store .exit)) ≡ receiveOf queue (now (records .entry)) (now (store .entry)) (now (datagram .entry)) ⌝ }
+) -> Receive
+    requires { ⌜ (k ≡ receiveNeeds (lastUsed (now records)) (length (now records)) (length (now store)) (now datagram))
+        × (k ≤ middleCells) ⌝ }
+    ensures { λ r. ⌜ received r (now (queue .exit)) (now (records .exit)) (now (store .exit))
+        ≡ receiveOf (now (queue .entry)) (now (records .entry)) (now (store .entry)) (now (datagram .entry)) ⌝ }
 {
     let mut words: [u32; super::MIDDLE_WORDS] = [0; super::MIDDLE_WORDS];
     receive_in(queue, records, &mut words, k, store, datagram)
 }
 
-fn receive_large(
-    queue: RecvQueue,
+fn receive_many(
+    queue: &mut RecvQueue,
     records: &mut [CellRecord],
     k: usize,
     store: &mut [u8],
     datagram: &[u8],
-) -> Received
-    requires { ⌜ k ≡ receiveNeeds (lastUsed (now records)) (length (now records)) (length (now store)) (now datagram) ⌝ }
-    ensures { λ r. ⌜ received r (now (records .exit)) (now (store .exit)) ≡ receiveOf queue (now (records .entry)) (now (store .entry)) (now (datagram .entry)) ⌝ }
+) -> Receive
+    requires { ⌜ (k ≡ receiveNeeds (lastUsed (now records)) (length (now records)) (length (now store)) (now datagram))
+        × (k ≤ manyCells) ⌝ }
+    ensures { λ r. ⌜ received r (now (queue .exit)) (now (records .exit)) (now (store .exit))
+        ≡ receiveOf (now (queue .entry)) (now (records .entry)) (now (store .entry)) (now (datagram .entry)) ⌝ }
 {
-    let mut words: [u32; super::MAX_WORDS] = [0; super::MAX_WORDS];
+    let mut words: [u32; super::MANY_WORDS] = [0; super::MANY_WORDS];
     receive_in(queue, records, &mut words, k, store, datagram)
 }
 
+fn receive_large(
+    queue: &mut RecvQueue,
+    records: &mut [CellRecord],
+    k: usize,
+    store: &mut [u8],
+    datagram: &[u8],
+) -> Receive
+    requires { ⌜ (k ≡ receiveNeeds (lastUsed (now records)) (length (now records)) (length (now store)) (now datagram))
+        × (k ≤ mostCells) ⌝ }
+    ensures { λ r. ⌜ received r (now (queue .exit)) (now (records .exit)) (now (store .exit))
+        ≡ receiveOf (now (queue .entry)) (now (records .entry)) (now (store .entry)) (now (datagram .entry)) ⌝ }
+{
+    let mut words: [u32; super::MOST_WORDS] = [0; super::MOST_WORDS];
+    receive_in(queue, records, &mut words, k, store, datagram)
+}
+
+// The larger sizes. They stand in one function, which two places call: so the compiler keeps its arrays out of the frame of every call.
+fn receive_more(
+    queue: &mut RecvQueue,
+    records: &mut [CellRecord],
+    k: usize,
+    store: &mut [u8],
+    datagram: &[u8],
+    size: usize,
+) -> Receive
+    requires { ⌜ (k ≡ receiveNeeds (lastUsed (now records)) (length (now records)) (length (now store)) (now datagram)) × (k ≤ size) ⌝ }
+    ensures { λ r. ⌜ received r (now (queue .exit)) (now (records .exit)) (now (store .exit))
+        ≡ receiveOf (now (queue .entry)) (now (records .entry)) (now (store .entry)) (now (datagram .entry)) ⌝ }
+{
+    if size <= super::MIDDLE_CELLS {
+        return receive_middle(queue, records, k, store, datagram);
+    }
+    if size <= super::MANY_CELLS {
+        return receive_many(queue, records, k, store, datagram);
+    }
+    receive_large(queue, records, k, store, datagram)
+}
+
 pub fn receive(
-    queue: RecvQueue,
+    queue: &mut RecvQueue,
     records: &mut [CellRecord],
     store: &mut [u8],
     datagram: &[u8],
-) -> Received
-    ensures { λ r. ⌜ received r (now (records .exit)) (now (store .exit)) ≡ receiveOf queue (now (records .entry)) (now (store .entry)) (now (datagram .entry)) ⌝ }
+) -> Receive
+    ensures { λ r. ⌜ received r (now (queue .exit)) (now (records .exit)) (now (store .exit))
+        ≡ receiveOf (now (queue .entry)) (now (records .entry)) (now (store .entry)) (now (datagram .entry)) ⌝ }
 {
     let used = super::last_used(records);
-    let k = needed(used, records.len(), store.len(), datagram);
+    let cells = records.len();
+    let k = needed(used, cells, store.len(), datagram);
+    if k <= super::FEW_CELLS {
+        return receive_few(queue, records, k, store, datagram);
+    }
     if k <= super::SMALL_CELLS {
         return receive_small(queue, records, k, store, datagram);
     }
-    if k <= super::MIDDLE_CELLS {
-        return receive_middle(queue, records, k, store, datagram);
+    if k < cells {
+        return receive_more(queue, records, k, store, datagram, k);
     }
-    receive_large(queue, records, k, store, datagram)
+    receive_more(queue, records, k, store, datagram, cells)
 }

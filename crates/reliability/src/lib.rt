@@ -1,6 +1,5 @@
 // One table of eight rows gives each kind's fields. Kinds 0 to 7 are those of the Rust's `Reliability`.
 ghost use mathlib.Core.Path.{_≡_};
-ghost use Prim.Native.Nat.{_≤_};
 ghost use Rattle.reliability.specs.Kinds.{fieldsOf, hasReliable, Small};
 
 // What a frame of a kind carries: for each field the place in the header, counted from the frame's first byte, or 0 where the kind lacks it;
@@ -80,14 +79,21 @@ const KINDS: [KindFields; 8] = [
     },
 ];
 
-// The row of kind `k`, taken modulo 8.
+// The row of kind `k`, taken modulo 8. Each arm names its row, so that a call does not write out the whole table to index it.
 pub fn fields(k: u8) -> KindFields
     ensures is { λ r. ⌜ r ≡ fieldsOf k ⌝ }
     ensures small { λ r. ⌜ Small r ⌝ }
 {
-    let i = (k % 8) as usize;
-    let f = KINDS[i];
-    f
+    match k % 8 {
+        1 => KINDS[1],
+        2 => KINDS[2],
+        3 => KINDS[3],
+        4 => KINDS[4],
+        5 => KINDS[5],
+        6 => KINDS[6],
+        7 => KINDS[7],
+        _ => KINDS[0],
+    }
 }
 
 // Has a frame of kind `k` a reliable number? None has where `k` is no kind.

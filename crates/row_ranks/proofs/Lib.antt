@@ -1,1 +1,3 @@
 pub mod Renumbering
+pub mod Gapless
+pub mod Surveys

@@ -1,2 +1,2 @@
 pub mod Scans
-pub mod LeastTurn
+pub mod Ready

@@ -1,1 +1,1 @@
-pub mod Earliest
+pub mod Ready

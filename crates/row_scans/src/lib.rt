@@ -4,21 +4,9 @@ use rows::Row;
 ghost use mathlib.Core.Path.{_≡_};
 ghost use Rattle.base.specs.Lists.{any, countOf};
 ghost use Rattle.cells.specs.Cell.{openAs, heldAs, readyAs, bears, at};
-ghost use Rattle.cells.specs.Records.{unusedAt, clashes, firstCell, earliestCell, indexOf};
+ghost use Rattle.cells.specs.Records.{unusedAt, clashes, firstCell, indexOf};
 ghost use Rattle.rows.specs.Rows.{cellOf, cellsIn};
-ghost use Rattle.row_scans.specs.Earliest.{orEarlier, bestOption, earliestOption};
-
-// The turn of the message that a take would hand out.
-pub enum Earliest {
-    Turn(u32),
-    Nothing,
-}
-
-// The least turn so far, where any is not 0. Two words of one width: a struct with padding is copied byte by byte in each turn of a loop.
-struct Best {
-    any: u32,
-    turn: u32,
-}
+ghost use Rattle.row_scans.specs.Ready.{firstReady};
 
 // The lowest-numbered unused cell; as many as there are rows where none is.
 pub fn first_unused(words: &[u32]) -> usize
@@ -112,33 +100,21 @@ pub fn count_first(words: &[u32]) -> usize
     k
 }
 
-// A step of the scan. The branch stands here, so the loop has none.
-fn earlier(best: Best, r: Row) -> Best
-    ensures { λ q. ⌜ bestOption q ≡ orEarlier (cellOf r) (bestOption best) ⌝ }
-{
-    if (r.used == 3) & ((best.any == 0) | !(best.turn < r.turn)) {
-        Best {
-            any: 1,
-            turn: r.turn,
-        }
-    } else {
-        best
-    }
-}
-
-// The least turn of the ready cells.
-pub fn earliest_ready(words: &[u32]) -> Earliest
-    ensures { λ r. ⌜ earliestOption r ≡ earliestCell (cellsIn (now (words .entry))) ⌝ }
+// The first cell of the ready message with the least turn; as many as there are rows where none is ready.
+pub fn first_ready(words: &[u32]) -> usize
+    ensures { λ r. ⌜ r ≡ firstReady (cellsIn (now (words .entry))) ⌝ }
 {
     let n = words.len() / ROW;
-    let mut best = Best { any: 0, turn: 0 };
+    let mut at = n;
+    let mut least: u32 = 0;
     let mut i = 0;
     while i < n {
-        best = earlier(best, rows::whole_row(words, i));
+        let r = rows::whole_row(words, i);
+        if row_tests::is_first(r) & ((at == n) | (r.turn < least)) {
+            at = i;
+            least = r.turn;
+        }
         i += 1;
     }
-    if best.any == 0 {
-        return Earliest::Nothing;
-    }
-    Earliest::Turn(best.turn)
+    at
 }

@@ -2,18 +2,20 @@
 -- Assumes nothing.
 use Prim.Native.Nat.{ℕ, zero, suc, _+_, _<_, _≤_}
 use mathlib.Core.Path.{_≡_, refl, sym, ap, _∙_}
-use mathlib.Core.Bool.{Bool, true, false}
+use mathlib.Core.Bool.{Bool, true, false, _||_}
 use mathlib.Core.List.{List, [], _∷_, _++_, map, append-nil}
 use native.Mathlib.Numerals.{add-one}
 use native.Mathlib.Omega.{arith}
 use lib.ListN.{length, getD, take, drop, set, length-map}
 use lib.Seq.{take-suc, drop-cons, drop-length, take-length, length-take-le, set-at, getD-at, append-snoc}
+use Rattle.base.specs.Lists.{any}
 use Rattle.cells.specs.Cell.{Cell}
 use Rattle.rows.specs.declared.Row.{Row}
-use Rattle.rows.specs.Rows.{rowCount, rowsOf, cellOf, blankRow, changeRow, changeRows}
+use Rattle.rows.specs.Rows.{rowAt, rowCount, rowsOf, cellOf, cellsIn, blankRow, changeRow, changeRows}
 use Rattle.rows.specs.Whole.{wholeRow, rest}
-use Rattle.rows.proofs.ForBase.{map-append}
-use Rattle.rows.proofs.Rows.{rows-length}
+use Rattle.rows.proofs.ForBase.{map-append, any-append}
+use Rattle.rows.proofs.Rows.{rows-length, whole-is}
+use Rattle.rows.proofs.Below.{cellsBelow, below-all, below-none, below-more}
 
 -- ---- one row
 
@@ -39,6 +41,10 @@ module _ (p : Cell → Bool) (g : Row → Row) (ws : List ℕ) (i : ℕ) {r : Ro
 
   pub stays : b ≡ false → (rowsOf ws ≡ set (rowsOf ws) i (changeRow p g (wholeRow ws i))) × (rest ws ≡ rest ws)
   stays y = row-left (changeRow p g) ws i a (unfold changeRow in rw (← t, y))
+
+-- What a test gave of r, which is row q.
+pub tells : (p : Cell → Bool) {q r : Row} {b v : Bool} → r ≡ q → b ≡ p (cellOf r) → b ≡ v → v ≡ p (cellOf q)
+tells p a t y = sym y ∙ t ∙ ap (λ (x : Row). p (cellOf x)) a
 
 -- g applied to the first i of the rows
 unfoldable pub upTo : (Row → Row) → ℕ → List Row → List Row
@@ -91,6 +97,29 @@ sweep-goes {g} {ws₀} {ws} {i} {new} s l n p =
   where
     inside : i < length (rowsOf ws₀)
     inside = omega (arith, rows-length ws₀)
+
+-- The row that comes next is as it was.
+pub sweep-here : {g : Row → Row} {ws₀ ws : List ℕ} {i : ℕ} → Sweeping g ws₀ ws i → i < rowCount ws₀ → wholeRow ws i ≡ wholeRow ws₀ i
+unfolding wholeRow
+sweep-here {g} {ws₀} {ws} {i} s l = rw (s .rows) (up-to-at g (rowsOf ws₀) i blankRow (omega (arith, rows-length ws₀)))
+
+-- Whether any row so far passed a test, of the rows as they were: it is asked of each row before that is changed.
+pub any-starts : (p : Cell → Bool) (ws : List ℕ) → false ≡ any p (cellsBelow ws 0)
+unfolding any
+any-starts p ws = rw (below-none ws)
+
+pub any-goes : (p : Cell → Bool) {g : Row → Row} {ws₀ ws : List ℕ} {i : ℕ} {a b : Bool} → Sweeping g ws₀ ws i → i < rowCount ws₀
+    → a ≡ any p (cellsBelow ws₀ i) → b ≡ p (cellOf (wholeRow ws i)) → (a || b) ≡ any p (cellsBelow ws₀ (i + 1))
+unfolding any
+any-goes p {g} {ws₀} {ws} {i} {a} {b} s l e t =
+    rw (below-more ws₀ i, any-append p (cellsBelow ws₀ i) (cellOf (rowAt ws₀ i) ∷ []), ← e, ← (sweep-here s l ∙ whole-is ws₀ i l), ← t) (or-none a b)
+  where
+    or-none : (x y : Bool) → (x || y) ≡ (x || (y || false))
+    or-none x true = refl
+    or-none x false = refl
+
+pub any-ends : (p : Cell → Bool) {g : Row → Row} {ws₀ ws : List ℕ} {i : ℕ} {a : Bool} → Sweeping g ws₀ ws i → rowCount ws₀ ≤ i → a ≡ any p (cellsBelow ws₀ i) → a ≡ any p (cellsIn ws₀)
+any-ends p {g} {ws₀} {ws} {i} s l e = let q : i ≡ rowCount ws₀ = omega (arith, s .within) in e ∙ ap (λ (j : ℕ). any p (cellsBelow ws₀ j)) q ∙ ap (any p) (below-all ws₀)
 
 pub sweep-all : {g : Row → Row} {ws₀ ws : List ℕ} {i : ℕ} → Sweeping g ws₀ ws i → rowCount ws₀ ≤ i → (rowsOf ws ≡ map g (rowsOf ws₀)) × (rest ws ≡ rest ws₀)
 sweep-all {g} {ws₀} {ws} {i} s l =

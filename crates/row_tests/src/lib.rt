@@ -26,13 +26,6 @@ pub fn is_held(r: Row, channel: u32, order: u32) -> bool
     (r.used == 2) & ((r.channel == channel) & (r.order == order))
 }
 
-// A cell of the ready message of this turn.
-pub fn is_ready(r: Row, turn: u32) -> bool
-    ensures { λ b. ⌜ b ≡ bears (readyAs turn) (cellOf r) ⌝ }
-{
-    (r.used == 3) & (r.turn == turn)
-}
-
 // The ready message's cell of this index.
 pub fn is_ready_at(r: Row, turn: u32, index: u32) -> bool
     ensures { λ b. ⌜ b ≡ at (readyAs turn) index (cellOf r) ⌝ }

@@ -2,10 +2,10 @@
 -- Assumes nothing.
 use Prim.Native.Nat.{suc, _+_}
 use mathlib.Core.Path.{_≡_, refl, ap}
-use mathlib.Core.Bool.{Bool, true, false, cond, _||_}
+use mathlib.Core.Bool.{Bool, true, false, cond, _&&_, _||_}
 use mathlib.Core.List.{List, [], _∷_, _++_, map}
 use native.Mathlib.Omega.{arith}
-use Rattle.base.specs.Lists.{any, countOf}
+use Rattle.base.specs.Lists.{any, every, countOf}
 
 module _ {A : Type 0} (p : A → Bool) where
   pub count-append : (xs ys : List A) → countOf p (xs ++ ys) ≡ countOf p xs + countOf p ys
@@ -25,6 +25,15 @@ module _ {A : Type 0} (p : A → Bool) where
       found : (t : Bool) → any p (xs ++ ys) ≡ (any p xs || any p ys) → (t || any p (xs ++ ys)) ≡ (t || any p xs || any p ys)
       found true e = refl
       found false e = e
+
+  pub every-append : (xs ys : List A) → every p (xs ++ ys) ≡ (every p xs && every p ys)
+  unfolding every
+  every-append [] ys = refl
+  every-append (x ∷ xs) ys = passed (p x) (every-append xs ys)
+    where
+      passed : (t : Bool) → every p (xs ++ ys) ≡ (every p xs && every p ys) → (t && every p (xs ++ ys)) ≡ ((t && every p xs) && every p ys)
+      passed true e = e
+      passed false e = refl
 
 pub map-append : {A B : Type 0} (g : A → B) (xs ys : List A) → map g (xs ++ ys) ≡ map g xs ++ map g ys
 map-append g [] ys = refl

@@ -7,5 +7,5 @@ pub mod Complete
 pub mod Fitting
 pub mod Stored
 pub mod Copying
-pub mod Widths
+pub mod First
 pub mod Examples

@@ -1,2 +1,2 @@
 pub mod Slots
-pub mod Widths
+pub mod First

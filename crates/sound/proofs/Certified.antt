@@ -1,95 +1,35 @@
 -- What the tests of the entries tell: the cells are sound (`certified-sound`).
 -- Assumes nothing.
-use Prim.Native.Nat.{ℕ, zero, suc, _+_, _*_, _/_, _%_, _<_, _≤_}
-use mathlib.Core.Path.{_≡_, refl, sym, _∙_, ap}
-use mathlib.Core.Bool.{Bool, true, false, cond, not, _&&_, _||_}
+use Prim.Native.Nat.{ℕ, _+_, _<_, _≤_}
+use mathlib.Core.Path.{_≡_, sym, _∙_, ap}
+use mathlib.Core.Bool.{true, false, not, _&&_}
 use mathlib.Core.List.{List}
 use mathlib.Core.Logic.{⊎-elim}
-use native.Mathlib.Nat.{not-suc-le-zero, eq-or-lt-of-le, le-of-suc-le-suc}
-use native.Mathlib.Numerals.{add-one}
+use native.Mathlib.Nat.{eq-or-lt-of-le}
 use native.Mathlib.Omega.{arith}
 use lib.Dec.{ltb, leb, eqb}
 use lib.ListN.{length, getD}
-use borrow.Author.Tests.{ltb-true, ltb-false, leb-true, eqb-true, eqb-false, eq-eqb, ne-eqb, not-true}
-use Rattle.base.specs.Limits.{maxCells, maxFrags}
-use Rattle.base.specs.Lists.{every, countOf, below}
-use Rattle.base.proofs.Choices.{cases, neither, and-left, and-right, and-both}
+use borrow.Author.Tests.{ltb-true, ltb-false, leb-true, eqb-true, eqb-false, eq-eqb, not-true}
+use Rattle.base.specs.Lists.{below}
+use Rattle.base.proofs.Choices.{cases, neither, and-left, and-right}
 use Rattle.base.proofs.Lists.{below-at}
-use Rattle.cells.specs.Cell.{Cell, Key, openAs, heldAs, readyAs, bears, at}
-use Rattle.cells.specs.Sound.{keyOf, limits, agree, soundCells}
+use Rattle.cells.specs.Cell.{Cell}
+use Rattle.cells.specs.Sound.{limits, agree, soundCells}
 use Rattle.rows.specs.Rows.{rowCount, cellsIn}
-use Rattle.sound.specs.Counted.{mate, twin, unlike, whole, ahead, countedCell}
+use Rattle.sound.specs.Counted.{mate, twin, ahead}
 use Rattle.sound.specs.Sorted.{cellAt, keyPart, upperPart, upperAt, keyAt, rowNumberAt, rises, isOwn, isLed, isPlaced, tallied, isDue}
-use Rattle.sound.proofs.Counting.{same-truth, bears-used, bears-key, counted-sound}
-use Rattle.sound.proofs.Numbered.{countBelow, count-no-number, count-one-number, count-same, count-rows, every-row}
+use Rattle.sound.proofs.Counting.{same-truth}
+use Rattle.sound.proofs.Numbered.{climb, countBelow, count-same}
+use Rattle.sound.proofs.RowsSound.{mate-key, mate-used, twin-mate, twin-index, same-key-mate, agree-through, Passing, rows-sound}
 use Rattle.sound.proofs.Tallies.{tallied-at}
 
--- A step up at each place below k is a way up between any two.
-climb : (f : ℕ → ℕ) (k : ℕ) → ((t : ℕ) → t < k → f t < f (t + 1)) → (s t : ℕ) → s < t → t ≤ k → f s < f t
-climb f k up s zero l h = absurd (not-suc-le-zero l)
-climb f k up s (suc t) l h =
-    let e : f t < f (suc t) = rw (add-one t) at (up t (omega arith)) in
-    ⊎-elim (λ q. rw q e) (λ lt. let r : f s < f t = climb f k up s t lt (omega arith) in omega arith) (eq-or-lt-of-le (le-of-suc-le-suc l))
+mate-part : (c d : Cell) → mate c d ≡ true → keyPart d ≡ keyPart c
+unfolding keyPart
+mate-part c d e = rw (mate-key c d e)
 
--- Cells of one message.
-module _ (c d : Cell) where
-  pub mate-key : mate c d ≡ true → keyOf d ≡ keyOf c
-  unfolding mate
-  mate-key e = bears-key (keyOf c) d e
-
-  mate-used : mate c d ≡ true → eqb (d .used) 0 ≡ false
-  unfolding mate
-  mate-used e = bears-used (keyOf c) d e
-
-  mate-part : mate c d ≡ true → keyPart d ≡ keyPart c
-  unfolding keyPart
-  mate-part e = rw (mate-key e)
-
-  twin-mate : twin c d ≡ true → mate c d ≡ true
-  unfolding twin mate at
-  twin-mate e = and-left (bears (keyOf c) d) _ e
-
-  twin-part : twin c d ≡ true → upperPart d ≡ upperPart c
-  unfolding upperPart twin at
-  twin-part e = rw (mate-part (twin-mate e), eqb-true (d .index) (c .index) (and-right (bears (keyOf c) d) _ e))
-
-own-key : (c : Cell) → eqb (c .used) 0 ≡ false → limits c ≡ true → bears (keyOf c) c ≡ true
-unfolding keyOf bears limits
-own-key c e f =
-    let le : c .used ≤ 3 = leb-true _ _ (and-left (leb (c .used) 3) _ f) in
-    let n : c .used ≡ 0 → ⊥ = eqb-false _ _ e in
-    cases (eqb (c .used) 1)
-    (λ y. rw y (and-both _ _ y (eq-eqb (c .id) _ refl)))
-    (λ y. cases (eqb (c .used) 2)
-    (λ z. rw (y, z) (and-both _ _ z (and-both _ _ (eq-eqb (c .channel) _ refl) (eq-eqb (c .order) _ refl))))
-    (λ z. rw (y, z) (let a : c .used ≡ 1 → ⊥ = eqb-false _ _ y in let b : c .used ≡ 2 → ⊥ = eqb-false _ _ z in and-both _ _ (eq-eqb (c .used) 3 (omega arith)) (eq-eqb (c .turn) _ refl))))
-
-own-twin : (c : Cell) → eqb (c .used) 0 ≡ false → limits c ≡ true → twin c c ≡ true
-unfolding twin at
-own-twin c e f = and-both _ _ (own-key c e f) (eq-eqb (c .index) _ refl)
-
-same-key-mate : (c d : Cell) → eqb (d .used) 0 ≡ false → limits d ≡ true → keyOf d ≡ keyOf c → mate c d ≡ true
-unfolding mate
-same-key-mate c d u l e = rw (← e) (own-key d u l)
-
--- Cells that agree with one cell agree.
-agree-through : (c d e : Cell) → agree c e ≡ true → agree d e ≡ true → agree c d ≡ true
-unfolding agree
-agree-through c d e p q =
-    let p₁ = and-right (eqb (c .count) (e .count)) _ p in
-    let p₂ = and-right (eqb (c .kind) (e .kind)) _ p₁ in
-    let p₃ = and-right (eqb (c .sequence) (e .sequence)) _ p₂ in
-    let q₁ = and-right (eqb (d .count) (e .count)) _ q in
-    let q₂ = and-right (eqb (d .kind) (e .kind)) _ q₁ in
-    let q₃ = and-right (eqb (d .sequence) (e .sequence)) _ q₂ in
-    and-both _ _ (through (c .count) (d .count) (e .count) (and-left (eqb (c .count) (e .count)) _ p) (and-left (eqb (d .count) (e .count)) _ q))
-    (and-both _ _ (through (c .kind) (d .kind) (e .kind) (and-left (eqb (c .kind) (e .kind)) _ p₁) (and-left (eqb (d .kind) (e .kind)) _ q₁))
-    (and-both _ _ (through (c .sequence) (d .sequence) (e .sequence) (and-left (eqb (c .sequence) (e .sequence)) _ p₂) (and-left (eqb (d .sequence) (e .sequence)) _ q₂))
-    (and-both _ _ (through (c .order) (d .order) (e .order) (and-left (eqb (c .order) (e .order)) _ p₃) (and-left (eqb (d .order) (e .order)) _ q₃))
-    (through (c .channel) (d .channel) (e .channel) (and-right (eqb (c .order) (e .order)) _ p₃) (and-right (eqb (d .order) (e .order)) _ q₃)))))
-  where
-    through : (a b x : ℕ) → eqb a x ≡ true → eqb b x ≡ true → eqb a b ≡ true
-    through a b x s t = eq-eqb a b (eqb-true _ _ s ∙ sym (eqb-true _ _ t))
+twin-part : (c d : Cell) → twin c d ≡ true → upperPart d ≡ upperPart c
+unfolding upperPart
+twin-part c d e = rw (mate-part c d (twin-mate c d e), twin-index c d e)
 
 module _ (ws : List ℕ) (next : ℕ → ℕ) (es ranks leads : List ℕ) (k : ℕ) where
   -- What the tests say of the used cell of row i, with the places noted for it.
@@ -136,7 +76,7 @@ module _ (ws : List ℕ) (next : ℕ → ℕ) (es ranks leads : List ℕ) (k : �
 
   module _ (up : below k (rises es) ≡ true) where
     rise : (s t : ℕ) → s < t → t ≤ k → upperAt es s < upperAt es t
-    rise = climb (upperAt es) k (λ t l. ltb-true _ _ (below-at k (rises es) up t l))
+    rise s t l h = climb (upperAt es) 0 k (λ i g. λ l. ltb-true _ _ (below-at k (rises es) up i l)) s t (omega arith) l h
 
     key-rise : (s t : ℕ) → s ≤ t → t ≤ k → keyAt es s ≤ keyAt es t
     key-rise s t l h = ⊎-elim (λ q. rw q (omega arith)) (λ lt. let r = rise s t lt h in omega arith) (eq-or-lt-of-le l)
@@ -174,24 +114,17 @@ module _ (ws : List ℕ) (next : ℕ → ℕ) (es ranks leads : List ℕ) (k : �
             let b = used-placed j h (mate-used (cellAt ws i) (cellAt ws j) e) in
             (b, same-lead j i b mine (mate-part (cellAt ws i) (cellAt ws j) e))
 
-        alone : countOf (twin (cellAt ws i)) (cellsIn ws) ≡ 1
-        alone = count-rows ws (twin (cellAt ws i)) ∙ count-one-number (λ j. twin (cellAt ws i) (cellAt ws j)) i (rowCount ws) l (own-twin (cellAt ws i) u (mine .limit)) (λ j h e.
+        alone : (j : ℕ) → j < rowCount ws → twin (cellAt ws i) (cellAt ws j) ≡ true → j ≡ i
+        alone j h e =
             let b = other j h (twin-mate (cellAt ws i) (cellAt ws j) e) .0 in
             let q = same-place (getD ranks j 0) (getD ranks i 0) (b .low) (mine .low) (b .own ∙ twin-part (cellAt ws i) (cellAt ws j) e ∙ sym (mine .own)) in
-            sym (b .self) ∙ ap (rowNumberAt es) q ∙ mine .self)
+            sym (b .self) ∙ ap (rowNumberAt es) q ∙ mine .self
 
-        like-other : (j : ℕ) → j < rowCount ws → bears (keyOf (cellAt ws i)) (cellAt ws j) ≡ true → agree (cellAt ws i) (cellAt ws j) ≡ true
-        unfolding mate
+        like-other : (j : ℕ) → j < rowCount ws → mate (cellAt ws i) (cellAt ws j) ≡ true → agree (cellAt ws i) (cellAt ws j) ≡ true
         like-other j h e =
             let b = other j h e in
             let like : agree (cellAt ws j) (cellAt ws (rowNumberAt es (getD leads i 0 + 1))) ≡ true = rw (b .1) at (b .0 .like) in
             agree-through (cellAt ws i) (cellAt ws j) (cellAt ws (rowNumberAt es (getD leads i 0 + 1))) (mine .like) like
-
-        none-unlike : countOf (unlike (cellAt ws i)) (cellsIn ws) ≡ 0
-        unfolding unlike
-        none-unlike = count-rows ws (unlike (cellAt ws i)) ∙ count-no-number (λ j. unlike (cellAt ws i) (cellAt ws j)) (rowCount ws) (λ j h. cases (bears (keyOf (cellAt ws i)) (cellAt ws j))
-            (λ e. rw (e, like-other j h e))
-            (λ e. rw e))
 
         -- A used row's cell is of this message exactly when it is led from the same place.
         mate-lead : (j : ℕ) → j < rowCount ws → mate (cellAt ws i) (cellAt ws j) ≡ (not (eqb (cellAt ws j .used) 0) && eqb (getD leads j 0) (getD leads i 0))
@@ -206,22 +139,15 @@ module _ (ws : List ℕ) (next : ℕ → ℕ) (es ranks leads : List ℕ) (k : �
             same-key-mate (cellAt ws i) (cellAt ws j) y (b .limit) (sym (mate-key (cellAt ws j) (cellAt ws (rowNumberAt es (getD leads i 0 + 1))) m) ∙ mate-key (cellAt ws i) (cellAt ws (rowNumberAt es (getD leads i 0 + 1))) (mine .mated))))
 
         module _ (counts : List ℕ) (none : (g : ℕ) → getD counts g 0 ≡ 0) (room : k ≤ length counts) where
-          mates-counted : countOf (mate (cellAt ws i)) (cellsIn ws) ≡ getD (tallied ws leads counts (rowCount ws)) (getD leads i 0) 0
+          mates-counted : countBelow (λ j. mate (cellAt ws i) (cellAt ws j)) (rowCount ws) ≡ getD (tallied ws leads counts (rowCount ws)) (getD leads i 0) 0
           mates-counted =
-              count-rows ws (mate (cellAt ws i))
-              ∙ count-same (λ j. mate (cellAt ws i) (cellAt ws j)) (λ j. not (eqb (cellAt ws j .used) 0) && eqb (getD leads j 0) (getD leads i 0)) (rowCount ws) mate-lead
+              count-same (λ j. mate (cellAt ws i) (cellAt ws j)) (λ j. not (eqb (cellAt ws j .used) 0) && eqb (getD leads j 0) (getD leads i 0)) (rowCount ws) mate-lead
               ∙ sym (tallied-at ws leads counts none (rowCount ws) (getD leads i 0) (let h = mine .led in omega arith))
 
-          passes : isDue ws leads (tallied ws leads counts (rowCount ws)) i ≡ true → countedCell (cellsIn ws) next (cellAt ws i) ≡ true
-          unfolding countedCell whole isDue
-          passes e = rw (u, mine .limit, alone, none-unlike, mine .over, mates-counted, eq-eqb 1 1 refl, eq-eqb 0 0 refl) (and-both _ _ (rw u at e) refl)
-
-      unused-counted : (i : ℕ) → eqb (cellAt ws i .used) 0 ≡ true → countedCell (cellsIn ws) next (cellAt ws i) ≡ true
-      unfolding countedCell
-      unused-counted i y = rw y
+          passes : isDue ws leads (tallied ws leads counts (rowCount ws)) i ≡ true → Passing ws next i
+          unfolding isDue
+          passes e = record { limit = mine .limit; over = mine .over; alone = alone; like = like-other; mates = _; counted = mates-counted; due = rw u at e }
 
       -- Entries that rise, rows that are placed, and messages of as many cells as they must have: then the cells are sound.
       pub certified-sound : (counts : List ℕ) → ((g : ℕ) → getD counts g 0 ≡ 0) → k ≤ length counts → below (rowCount ws) (isDue ws leads (tallied ws leads counts (rowCount ws))) ≡ true → soundCells (cellsIn ws) next ≡ true
-      certified-sound counts none room due = sym (counted-sound (cellsIn ws) next) ∙ every-row ws (countedCell (cellsIn ws) next) (λ i l. cases (eqb (cellAt ws i .used) 0)
-          (λ y. unused-counted i y)
-          (λ y. passes i l y counts none room (below-at (rowCount ws) (isDue ws leads (tallied ws leads counts (rowCount ws))) due i l)))
+      certified-sound counts none room due = rows-sound ws next (λ i l u. passes i l u counts none room (below-at (rowCount ws) (isDue ws leads (tallied ws leads counts (rowCount ws))) due i l))

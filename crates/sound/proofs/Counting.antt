@@ -6,10 +6,10 @@ use mathlib.Core.Bool.{Bool, true, false, cond, not, _&&_, _||_}
 use mathlib.Core.List.{List, [], _∷_, List·Memᴰ}
 use native.Mathlib.Omega.{arith}
 use lib.Dec.{ltb, leb, eqb}
-use borrow.Author.Tests.{ltb-true, leb-true, eqb-true, eqb-false, eq-eqb, ne-eqb}
+use borrow.Author.Tests.{ltb-true, eqb-true, eq-eqb, ne-eqb}
 use Rattle.base.specs.Limits.{numbers24, maxOrdChans, maxFrags}
 use Rattle.base.specs.Lists.{any, every, countOf}
-use Rattle.base.proofs.Choices.{cases, neither, and-left, and-right, and-both, or-implied}
+use Rattle.base.proofs.Choices.{cases, and-left, and-right, or-implied}
 use Rattle.base.proofs.Lists.{any-true, every-mem, every-all}
 use Rattle.base.proofs.Counts.{count-none}
 use Rattle.base.proofs.Indices.{indices-all}

@@ -3,5 +3,9 @@ pub mod Tests
 pub mod Scans
 pub mod Numbered
 pub mod Tallies
+pub mod RowsSound
 pub mod Certified
 pub mod EntryCases
+pub mod Seen
+pub mod Ordered
+pub mod OrderCases

@@ -1,23 +1,31 @@
 -- Numbers below n that pass a test, and the records of rows by their numbers.
 -- Assumes nothing.
-use Prim.Native.Nat.{ℕ, zero, suc, _+_, _<_, _≤_}
+use Prim.Native.Nat.{ℕ, zero, suc, _+_, _-_, _<_, _≤_}
 use mathlib.Core.Path.{_≡_, refl, sym, _∙_, ap}
 use mathlib.Core.Bool.{Bool, true, false, cond, _&&_}
 use mathlib.Core.List.{List, [], _∷_, _++_}
+use mathlib.Core.Logic.{⊎-elim}
+use native.Mathlib.Nat.{not-suc-le-zero, eq-or-lt-of-le, le-of-suc-le-suc}
 use native.Mathlib.Numerals.{add-one}
 use native.Mathlib.Omega.{arith}
-use lib.Dec.{eqb}
-use borrow.Author.Tests.{eqb-true, eqb-false}
+use lib.Dec.{leb, eqb}
+use borrow.Author.Tests.{leb-true, leb-false, eqb-true, eqb-false}
 use Rattle.base.specs.Lists.{every, countOf, below}
 use Rattle.base.proofs.Choices.{cases, neither}
 use Rattle.base.proofs.Lists.{below-at}
 use Rattle.cells.specs.Cell.{Cell}
 use Rattle.rows.specs.Rows.{rowCount, cellsIn}
-use Rattle.rows.proofs.ForBase.{count-append}
+use Rattle.rows.proofs.ForBase.{count-append, every-append}
 use Rattle.rows.proofs.Rows.{whole-is}
 use Rattle.rows.proofs.Below.{cellsBelow, below-all, below-none, below-more}
 use Rattle.sound.specs.Sorted.{cellAt}
-use Rattle.sound.proofs.Scans.{every-append}
+
+-- A step up at each place from low to k is a way up between any two.
+pub climb : (f : ℕ → ℕ) (low k : ℕ) → ((t : ℕ) → low ≤ t → t < k → f t < f (t + 1)) → (s t : ℕ) → low ≤ s → s < t → t ≤ k → f s < f t
+climb f low k up s zero m l h = absurd (not-suc-le-zero l)
+climb f low k up s (suc t) m l h =
+    let e : f t < f (suc t) = rw (add-one t) at (up t (omega arith) (omega arith)) in
+    ⊎-elim (λ q. rw q e) (λ lt. let r : f s < f t = climb f low k up s t m lt (omega arith) in omega arith) (eq-or-lt-of-le (le-of-suc-le-suc l))
 
 -- How many numbers below n pass.
 unfoldable pub countBelow : (ℕ → Bool) → ℕ → ℕ
@@ -65,6 +73,27 @@ module _ (p : ℕ → Bool) where
   count-within (suc n) = cases (p n)
       (λ t. let r = count-within n in rw t (omega arith))
       (λ t. let r = count-within n in rw t (omega arith))
+
+  -- Those from a to b pass, and no others.
+  pub count-span : (a b n : ℕ) → a ≤ b → b ≤ n → ((i : ℕ) → a ≤ i → i < b → p i ≡ true) → ((i : ℕ) → i < n → p i ≡ true → (a ≤ i) × (i < b)) → countBelow p n ≡ b - a
+  unfolding countBelow
+  count-span a b zero l h here only = omega arith
+  count-span a b (suc n) l h here only = cases (p n)
+      (λ t. let r = only n (omega arith) t in
+      let k = count-span a n n (r .0) (omega arith) (λ i g f. here i g (omega (arith, r .1))) (λ i g y. (only i (omega arith) y .0, g)) in
+      rw t (omega (arith, k, r .0, r .1)))
+      (λ t. cases (leb b n)
+      (λ s. rw t (count-span a b n l (leb-true b n s) here (λ i g. only i (omega arith))))
+      (λ s. let e : n < b = leb-false b n s in
+      cases (leb a n)
+      (λ u. neither (p n) (here n (leb-true a n u) e) t)
+      (λ u. let f : n < a = leb-false a n u in
+      rw (
+        t,
+        count-no-number n (λ i g. cases (p i)
+            (λ y. absurd (omega (arith, only i (omega arith) y .0)))
+            (λ y. y)),
+      ) (omega arith))))
 
 pub count-same : (p q : ℕ → Bool) (n : ℕ) → ((i : ℕ) → i < n → p i ≡ q i) → countBelow p n ≡ countBelow q n
 unfolding countBelow

@@ -13,21 +13,12 @@ use Rattle.rows.specs.declared.Row.{Row}
 use Rattle.rows.specs.Rows.{rowAt, rowCount, cellOf, cellsIn}
 use Rattle.rows.specs.Whole.{wholeRow}
 use Rattle.rows.proofs.Rows.{whole-is}
-use Rattle.rows.proofs.ForBase.{count-append}
+use Rattle.rows.proofs.ForBase.{count-append, every-append}
 use Rattle.rows.proofs.Below.{cellsBelow, below-all, below-none, below-more, below-length, below-split}
 use Rattle.sound.specs.declared.Tally.{Tally}
 use Rattle.sound.specs.Counted.{mate, twin, unlike, tallyOf, countedCell}
 use Rattle.row_scans.proofs.Scans.{at-end}
 use Rattle.sound.proofs.Counting.{counted-sound}
-
-pub every-append : {A : Type 0} (p : A → Bool) (xs ys : List A) → every p (xs ++ ys) ≡ (every p xs && every p ys)
-unfolding every
-every-append p [] ys = refl
-every-append p (x ∷ xs) ys = passed (p x) (every-append p xs ys)
-  where
-    passed : (t : Bool) → every p (xs ++ ys) ≡ (every p xs && every p ys) → (t && every p (xs ++ ys)) ≡ ((t && every p xs) && every p ys)
-    passed true e = e
-    passed false e = refl
 
 -- As many as were passed, and no more.
 pub count-within : (p : Cell → Bool) (ws : List ℕ) (i : ℕ) → countOf p (cellsBelow ws i) ≤ i

@@ -1,12 +1,11 @@
 -- What the code's tests of two rows say of their records.
 -- Assumes nothing.
-use Prim.Native.Nat.{ℕ, _<_}
-use mathlib.Core.Path.{_≡_, refl, sym, _∙_, ap}
+use Prim.Native.Nat.{ℕ}
+use mathlib.Core.Path.{_≡_, refl, sym, _∙_}
 use mathlib.Core.Bool.{Bool, true, false, cond, not, _&&_, _||_}
 use mathlib.Core.List.{List}
-use lib.Dec.{ltb, leb, eqb}
-use borrow.Author.Tests.{ltb-true, eq-eqb, ne-eqb}
-use Rattle.base.specs.Limits.{maxOrdChans}
+use lib.Dec.{ltb, eqb}
+use borrow.Author.Tests.{eq-eqb, ne-eqb}
 use Rattle.base.specs.Lists.{countOf}
 use Rattle.base.proofs.Choices.{and-left, and-right}
 use Rattle.cells.specs.Cell.{Cell, bears, at}
@@ -36,13 +35,6 @@ module _ (a d : Row) where
   pub unlike-is : {m l : Bool} → m ≡ mate (cellOf a) (cellOf d) → l ≡ agree (cellOf a) (cellOf d) → (m && not l) ≡ unlike (cellOf a) (cellOf d)
   unfolding unlike mate
   unlike-is e f = rw (e, f)
-
-pub channel-within : (r : Row) {b : Bool} → b ≡ limits (cellOf r) → b ≡ true → r .channel < maxOrdChans
-unfolding limits cellOf
-channel-within r e f =
-    let e₁ = and-right (leb (r .used) 3) _ (sym e ∙ f) in
-    let e₂ = and-right (leb (r .kind) 7) _ e₁ in
-    ltb-true _ _ (and-left (ltb (r .channel) maxOrdChans) _ e₂)
 
 -- What is asked of a cell alone, in the code's three ways.
 module _ (next : ℕ → ℕ) (r : Row) {b : Bool} (e : b ≡ limits (cellOf r)) where

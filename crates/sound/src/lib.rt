@@ -1,23 +1,35 @@
 // Whether the cells' records are sound (document 01, "Calls and their numbers", 9).
-use recv::Channel;
 use rows::ROW;
 use rows::Row;
 ghost use mathlib.Core.Path.{_≡_};
 ghost use Prim.Native.Nat.{_≤_, _<_};
 ghost use mathlib.Core.Bool.{cond, not, _&&_};
-ghost use Rattle.base.specs.Limits.{maxOrdChans};
+ghost use lib.ListN.{getD};
 ghost use Rattle.cells.specs.Sound.{limits, agree, soundCells};
 ghost use Rattle.rows.specs.Rows.{cellOf, cellsIn};
-ghost use Rattle.recv.specs.Queue.{nextIn};
+ghost use Rattle.recv.specs.Parts.{nextAt};
 ghost use Rattle.sound.specs.Counted.{mate, ahead, countedCell, tallyOf};
+ghost use Rattle.sound.specs.Sorted.{keyPart};
 
-mod entries;
+mod order;
 
-pub use entries::sound_cells;
+pub use order::sound_cells;
 
 const MAX_USE: u32 = 3;
 
 const MAX_KIND: u32 = 7;
+
+// More than any key of a row as a number.
+const KEYS: u64 = 4398046511104;
+
+// Up to so many rows the test by pairs is quicker than sorted entries, as measured with all rows in use; up to so many, short lists are enough.
+const PAIRS: usize = 4;
+
+const SMALL: usize = 32;
+
+const FEW: usize = 256;
+
+const SOME: usize = 1024;
 
 fn in_limits(r: Row) -> bool
     ensures { λ b. ⌜ b ≡ limits (cellOf r) ⌝ }
@@ -30,7 +42,8 @@ fn in_limits(r: Row) -> bool
                         & ((1 <= r.count)
                             & ((r.count <= base::MAX_FRAGS)
                                 & ((r.index < r.count)
-                                    & (r.length <= base::CELL_BYTES as u32))))))))
+                                    & ((r.length <= base::CELL_BYTES as u32)
+                                        & (r.id < base::NUMBERS_16)))))))))
 }
 
 // Is d a cell of a's message?
@@ -44,6 +57,29 @@ fn is_mate(a: Row, d: Row) -> bool
         return (d.used == 2) & ((d.channel == a.channel) & (d.order == a.order));
     }
     (d.used == 3) & (d.turn == a.turn)
+}
+
+// Reading is total: past the end stands 0.
+fn entry_at(entries: &[u64], t: usize) -> u64
+    ensures { λ r. ⌜ r ≡ getD (now (entries .entry)) t 0 ⌝ }
+{
+    if t < entries.len() {
+        return entries[t];
+    }
+    0
+}
+
+// A message's key as a number: its use, and what it is known by.
+fn key_part(r: Row) -> u64
+    ensures { λ k. ⌜ (k ≡ keyPart (cellOf r)) × (k < 4398046511104) ⌝ }
+{
+    if r.used == 1 {
+        return (4294967296 + r.id as u64) % KEYS;
+    }
+    if r.used == 2 {
+        return (8589934592 + (r.channel as u64 * 16777216 + r.order as u64)) % KEYS;
+    }
+    (12884901888 + r.turn as u64) % KEYS
 }
 
 fn agrees(a: Row, d: Row) -> bool
@@ -98,22 +134,23 @@ fn is_due(opened: bool, whole: bool) -> bool
     if opened { !whole } else { whole }
 }
 
-// The channel's next order number.
-fn next_in(channels: [Channel; 32], c: usize) -> u32
-    requires { ⌜ c < maxOrdChans ⌝ }
-    ensures { λ r. ⌜ r ≡ nextIn channels c ⌝ }
+// The channel's next order number; 0 past the last.
+fn next_at(nexts: &[u32], c: usize) -> u32
+    ensures { λ r. ⌜ r ≡ nextAt (now (nexts .entry)) c ⌝ }
 {
-    let channel = channels[c];
-    channel.next
+    if c < nexts.len() {
+        return nexts[c];
+    }
+    0
 }
 
 // What is asked of a cell alone: the limits, and of a held one that its order number exceeds its channel's next.
-fn is_within(channels: [Channel; 32], r: Row) -> bool
-    ensures { λ b. ⌜ b ≡ (limits (cellOf r) && ahead (nextIn channels) (cellOf r)) ⌝ }
+fn is_within(nexts: &[u32], r: Row) -> bool
+    ensures { λ b. ⌜ b ≡ (limits (cellOf r) && ahead (nextAt (now (nexts .entry))) (cellOf r)) ⌝ }
 {
     if in_limits(r) {
         if r.used == 2 {
-            let next = next_in(channels, r.channel as usize);
+            let next = next_at(nexts, r.channel as usize);
             return next < r.order;
         }
         return true;
@@ -122,13 +159,13 @@ fn is_within(channels: [Channel; 32], r: Row) -> bool
 }
 
 // Is this cell sound among those in the words? Asked by counts.
-fn is_sound(words: &[u32], channels: [Channel; 32], r: Row) -> bool
-    ensures { λ b. ⌜ b ≡ countedCell (cellsIn (now (words .entry))) (nextIn channels) (cellOf r) ⌝ }
+fn is_sound(words: &[u32], nexts: &[u32], r: Row) -> bool
+    ensures { λ b. ⌜ b ≡ countedCell (cellsIn (now (words .entry))) (nextAt (now (nexts .entry))) (cellOf r) ⌝ }
 {
     if r.used == 0 {
         return true;
     }
-    if is_within(channels, r) {
+    if is_within(nexts, r) {
         let t = count_mates(words, r);
         let due = is_due(r.used == 1, t.mates == r.count as usize);
         return (t.twins == 1) & ((t.unlike == 0) & due);
@@ -137,14 +174,14 @@ fn is_sound(words: &[u32], channels: [Channel; 32], r: Row) -> bool
 }
 
 // Each used row against all rows.
-fn by_pairs(words: &[u32], channels: [Channel; 32]) -> bool
-    ensures { λ r. ⌜ r ≡ soundCells (cellsIn (now (words .entry))) (nextIn channels) ⌝ }
+fn by_pairs(words: &[u32], nexts: &[u32]) -> bool
+    ensures { λ r. ⌜ r ≡ soundCells (cellsIn (now (words .entry))) (nextAt (now (nexts .entry))) ⌝ }
 {
     let n = words.len() / ROW;
     let mut i = 0;
     while i < n {
         let r = rows::whole_row(words, i);
-        if is_sound(words, channels, r) {
+        if is_sound(words, nexts, r) {
             i += 1;
         } else {
             return false;

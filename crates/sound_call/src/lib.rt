@@ -1,10 +1,6 @@
-// Whether receiver, cells' records and store are sound: the tests that come first in a call that is lent cells (document 01, "Calls and their numbers", 9).
-use recv::RecvQueue;
-use rows::ROW;
+// Whether the slices that a call is lent are as long as document 01 says ("Calls and their numbers", 9).
 ghost use mathlib.Core.Path.{_≡_};
 ghost use Rattle.cells.specs.Sound.{lengths};
-ghost use Rattle.rows.specs.Rows.{cellsIn};
-ghost use Rattle.recv.specs.Receive.{soundCall};
 
 // "1 to 4,096 cells of 1,500 bytes"; "the store is exactly one cell for each record".
 pub fn lengths_fit(cells: usize, bytes: usize) -> bool
@@ -17,18 +13,4 @@ pub fn lengths_fit(cells: usize, bytes: usize) -> bool
         return false;
     }
     bytes == base::CELL_BYTES * cells
-}
-
-// "9 slice lengths .. or records unsound": the tests that come first in a call that is lent cells. The words have one row for each cell.
-pub fn sound_call(queue: RecvQueue, words: &[u32], store: &[u8]) -> bool
-    ensures { λ r. ⌜ r ≡ soundCall queue (cellsIn (now (words .entry))) (now (store .entry)) ⌝ }
-{
-    if lengths_fit(words.len() / ROW, store.len()) {} else {
-        return false;
-    }
-    if sound_queue::sound_queue(queue) {} else {
-        return false;
-    }
-    let channels = queue.channels;
-    sound::sound_cells(words, channels)
 }

@@ -2,56 +2,64 @@
 -- Assumes nothing.
 use mathlib.Core.Path.{_≡_, _∙_, sym, ap, refl}
 use mathlib.Core.Bool.{Bool, true, false, not, _&&_, _||_, and-true, and-false}
-use mathlib.Core.List.{List, [], _∷_, _++_, map}
+use mathlib.Core.List.{List, [], _∷_}
 use Prim.Native.Nat.{ℕ, zero, suc, _+_, _-_, _<_, _≤_}
-use native.Mathlib.Nat.{not-suc-le-zero}
+use native.Mathlib.Nat.{not-suc-le-zero, le-refl, add-zero, add-suc}
 use native.Mathlib.Numerals.{add-one, sub-one}
 use native.Mathlib.Omega.{arith}
-use lib.Dec.{ltb, eqb}
-use lib.ListN.{length, getD, take, drop, set, drop-of-length-le}
-use lib.Seq.{take-suc, take-take, take-all}
-use borrow.Author.Needs.{length-unmapped}
-use borrow.Author.Tests.{lt-ltb, le-ltb, le-leb, lt-leb, eq-eqb, ne-eqb}
-use Rattle.base.specs.Limits.{numbers24, windowPlaces, maxUnsent}
+use lib.Dec.{ltb, leb, eqb}
+use lib.ListN.{length, getD, take, drop, drop-of-length-le}
+use lib.Seq.{take-all, drop-length}
+use borrow.Author.Tests.{ltb-true, lt-ltb, le-ltb, le-leb, lt-leb, eq-eqb, ne-eqb}
+use Rattle.base.specs.Limits.{numbers24, maxOrdChans, windowPlaces, maxUnsent}
 use Rattle.base.specs.Lists.{any, every, below}
+use Rattle.base.proofs.Choices.{and-left, and-both}
+use Rattle.base.proofs.Past.{past}
 use Rattle.ack.specs.Write.{ascending}
 use Rattle.window.specs.declared.ReliableWindow.{ReliableWindow}
 use Rattle.window.specs.Places.{placeSet}
-use Rattle.window.specs.Window.{accepted}
-use Rattle.window.proofs.Accepted.{accepted-place}
+use Rattle.window.specs.Window.{windowOf, accepted}
+use Rattle.window.proofs.Accepted.{accepted-place, accepted-below}
 use Rattle.cells.specs.Sound.{soundNexts}
-use Rattle.recv.specs.declared.Channel.{Channel}
+use Rattle.recv.specs.declared.Heads.{Heads}
 use Rattle.recv.specs.declared.RecvQueue.{RecvQueue}
-use Rattle.recv.specs.Queue.{nextIn, nextOf, unsentOf, placesWithin, soundWindow, differ, soundUnsent, soundQueue}
-use Rattle.sound_queue.specs.Sound.{few, nextsWithin, soundNumber, soundNumbers}
-use Rattle.recv.proofs.Parts.{from-here, part-from, first-stored}
-use Rattle.sound_queue.proofs.Ascending.{ascending-differ}
+use Rattle.recv.specs.Parts.{nextAt, queueOf}
+use Rattle.recv.specs.Queue.{unsentOf, placesWithin, soundWindow, differ, soundUnsent, soundQueue}
+use Rattle.recv.proofs.ByParts.{next-of-parts}
+use Rattle.recv.proofs.Parts.{from-here, part-from}
+use Rattle.sound_queue.specs.declared.QueueSound.{QueueSound}
+use Rattle.sound_queue.specs.Sound.{told, queueSoundOf, nextsWithin, soundNumber, soundNumbers, numbersSoundOf}
+use Rattle.sound_queue.proofs.Ascending.{ascending-differ, rising-all}
 
 -- ---- one place of a window
-module _ (w : ReliableWindow) (n : ℕ) where
-  pub place-below : n < numbers24 → true ≡ (ltb n numbers24 || not (placeSet (w .bits) n))
+module _ (bits : List ℕ) (n : ℕ) where
+  pub place-below : n < numbers24 → true ≡ (ltb n numbers24 || not (placeSet bits n))
   place-below h = rw (lt-ltb n numbers24 h)
 
-  pub place-over : w .low < n → n ≤ w .low + windowPlaces → numbers24 ≤ n → (b : Bool) → b ≡ accepted w n → not b ≡ (ltb n numbers24 || not (placeSet (w .bits) n))
-  place-over h k o b e = rw (le-ltb n numbers24 o) (ap not (e ∙ accepted-place w n h k))
+  pub place-over : (low : ℕ) (b : Bool) → b ≡ accepted (windowOf low bits) n → low < n → n ≤ low + windowPlaces → numbers24 ≤ n
+      → not b ≡ (ltb n numbers24 || not (placeSet bits n))
+  place-over low b e h k o = rw (le-ltb n numbers24 o) (ap not (e ∙ accepted-place (windowOf low bits) n h k))
 
 -- ---- all places, from the highest down: none left, one that must be clear and is not, one that is within
-module _ (w : ReliableWindow) (t : Bool) where
-  pub places-done : (k : ℕ) → k ≤ 0 → placesWithin w k ≡ t → true ≡ t
+module _ (low : ℕ) (bits : List ℕ) (t : Bool) where
+  abbrev within : ℕ → Bool
+  within k = placesWithin (windowOf low bits) k
+
+  pub places-done : (k : ℕ) → k ≤ 0 → within k ≡ t → true ≡ t
   unfolding placesWithin
   places-done k h e = let z : k ≡ 0 = omega arith in (rw z at e)
 
-  pub places-not : (k : ℕ) → 0 < k → (b : Bool) → b ≡ (ltb (w .low + k) numbers24 || not (placeSet (w .bits) (w .low + k))) → b ≡ false
-      → placesWithin w k ≡ t → false ≡ t
+  pub places-not : (k : ℕ) → 0 < k → (b : Bool) → b ≡ (ltb (low + k) numbers24 || not (placeSet (bits) (low + k))) → b ≡ false
+      → within k ≡ t → false ≡ t
   unfolding placesWithin
   places-not zero h b f g e = absurd (not-suc-le-zero h)
-  places-not (suc k) h b f g e = sym (and-false (placesWithin w k)) ∙ ap (λ (x : Bool). placesWithin w k && x) (sym g ∙ f) ∙ e
+  places-not (suc k) h b f g e = sym (and-false (within k)) ∙ ap (λ (x : Bool). within k && x) (sym g ∙ f) ∙ e
 
-  pub places-further : (k : ℕ) → 0 < k → (b : Bool) → b ≡ (ltb (w .low + k) numbers24 || not (placeSet (w .bits) (w .low + k))) → b ≡ true
-      → placesWithin w k ≡ t → placesWithin w (k - 1) ≡ t
+  pub places-further : (k : ℕ) → 0 < k → (b : Bool) → b ≡ (ltb (low + k) numbers24 || not (placeSet (bits) (low + k))) → b ≡ true
+      → within k ≡ t → within (k - 1) ≡ t
   unfolding placesWithin
   places-further zero h b f g e = absurd (not-suc-le-zero h)
-  places-further (suc k) h b f g e = rw sub-one (sym (and-true (placesWithin w k)) ∙ ap (λ (x : Bool). placesWithin w k && x) (sym g ∙ f) ∙ e)
+  places-further (suc k) h b f g e = rw sub-one (sym (and-true (within k)) ∙ ap (λ (x : Bool). within k && x) (sym g ∙ f) ∙ e)
 
 -- ---- a window: low over the limit, all places below it, or place by place
 module _ (w : ReliableWindow) where
@@ -74,22 +82,34 @@ module _ (w : ReliableWindow) where
   unfolding soundWindow
   window-by-places l b e = rw (le-leb (w .low) numbers24 l) e
 
--- ---- the channels, from the last down: none left, a next over the limit, one within it
-module _ (channels : List Channel) (t : Bool) where
-  pub nexts-done : (k : ℕ) → k ≤ 0 → nextsWithin channels k ≡ t → true ≡ t
+-- ---- the channels: one more next, all of them
+module _ (nexts : List ℕ) where
+  pub nexts-none : true ≡ nextsWithin nexts 0
   unfolding nextsWithin below
-  nexts-done k h e = let z : k ≡ 0 = omega arith in (rw z at e)
+  nexts-none = refl
 
-  pub nexts-over : (k : ℕ) → 0 < k → numbers24 < nextIn channels (k - 1) → nextsWithin channels k ≡ t → false ≡ t
-  unfolding nextsWithin below
-  nexts-over zero h o e = absurd (not-suc-le-zero h)
-  nexts-over (suc k) h o e = sym (and-false (nextsWithin channels k)) ∙ (rw (lt-leb (nextIn channels k) numbers24 (rw sub-one at o)) at e)
+  pub nexts-further : (i : ℕ) (a : Bool) → a ≡ nextsWithin nexts i → (a && leb (getD nexts i 0) numbers24) ≡ nextsWithin nexts (i + 1)
+  unfolding nextsWithin below nextAt
+  nexts-further i a e = rw (add-one i) (ap (λ (x : Bool). x && leb (getD nexts i 0) numbers24) e)
 
-  pub nexts-further : (k : ℕ) → 0 < k → nextIn channels (k - 1) ≤ numbers24 → nextsWithin channels k ≡ t → nextsWithin channels (k - 1) ≡ t
-  unfolding nextsWithin below
-  nexts-further zero h o e = absurd (not-suc-le-zero h)
-  nexts-further (suc k) h o e =
-      rw sub-one (sym (and-true (nextsWithin channels k)) ∙ (rw (le-leb (nextIn channels k) numbers24 (rw sub-one at o)) at e))
+  pub nexts-end : (i n : ℕ) (a : Bool) → i ≤ n → n ≤ i → a ≡ nextsWithin nexts i → a ≡ nextsWithin nexts n
+  nexts-end i n a h k e = let z : i ≡ n = omega arith in (rw z at e)
+
+  -- a next past the end is 0
+  past-within : (k : ℕ) → nextsWithin nexts (length nexts + k) ≡ nextsWithin nexts (length nexts)
+  unfolding nextsWithin below nextAt
+  past-within zero = rw add-zero
+  past-within (suc k) =
+      rw (add-suc, ← past nexts (length nexts + k) (omega arith)) (and-true (nextsWithin nexts (length nexts + k)) ∙ past-within k)
+
+  pub nexts-all : (a : Bool) → a ≡ nextsWithin nexts maxOrdChans → a ≡ soundNexts (nextAt nexts)
+  unfolding nextsWithin
+  nexts-all a e = e
+
+  pub nexts-few : (a : Bool) → length nexts < maxOrdChans → a ≡ nextsWithin nexts (length nexts) → a ≡ soundNexts (nextAt nexts)
+  nexts-few a h e =
+      let z : length nexts + (maxOrdChans - length nexts) ≡ maxOrdChans = omega arith in
+      nexts-all a (e ∙ sym (past-within (maxOrdChans - length nexts)) ∙ ap (nextsWithin nexts) z)
 
 -- ---- an unsent number
 module _ (w : ReliableWindow) (n : ℕ) where
@@ -134,18 +154,39 @@ module _ (l : List ℕ) (i : ℕ) (t : Bool) (e : differ (drop i l) ≡ t) where
   unfolding differ
   differ-yes h = sym (ap differ (drop-of-length-le l h)) ∙ e
 
-pub differ-ascending : (l : List ℕ) (a : Bool) → a ≡ ascending l → a ≡ true → true ≡ differ l
-differ-ascending l a e f = sym (ascending-differ l (sym e ∙ f))
+-- ---- numbers that ascend, from the last down: one that is not sound; one below low, as all before it; none left
+fails : (p : ℕ → Bool) (l : List ℕ) (i : ℕ) → i < length l → p (getD l i 0) ≡ false → false ≡ every p l
+unfolding every
+fails p [] i h e = absurd (not-suc-le-zero h)
+fails p (x ∷ l) zero h e = rw e
+fails p (x ∷ l) (suc i) h e = sym (rw (← fails p l i (omega arith) e) (and-false (p x)))
 
--- ---- the first few of the numbers l, copied to k: one more, all of them
-module _ (l k : List ℕ) (i : ℕ) (n : length k ≡ few) (e : take i k ≡ take i l) where
-  pub few-further : i < few → length (map (λ (x : ℕ). x) l) ≡ maxUnsent → take (i + 1) (set k i (getD l i 0)) ≡ take (i + 1) l
-  few-further h m =
-      let w : i < length l = let f : length l ≡ maxUnsent = length-unmapped ℕ l maxUnsent m in omega arith in
-      first-stored k i (getD l i 0) (omega arith) ∙ ap (λ (x : List ℕ). x ++ (getD l i 0 ∷ [])) e ∙ sym (rw add-one (take-suc l i 0 w))
+module _ (low : ℕ) (bits l : List ℕ) (i : ℕ) (h : 0 < i) (k : i ≤ length l) (b : Bool) (e : b ≡ soundNumber (windowOf low bits) (getD l (i - 1) 0)) where
+  abbrev sound : ℕ → Bool
+  sound = soundNumber (windowOf low bits)
 
-  pub few-all : i ≤ few → few ≤ i → k ≡ take few l
-  few-all h j = let z : i ≡ few = omega arith in sym (take-all few k (omega arith)) ∙ (rw z at e)
+  pub rising-not : b ≡ false → false ≡ every sound l
+  rising-not f = fails sound l (i - 1) (omega arith) (sym e ∙ f)
+
+  pub rising-further : b ≡ true → every sound (drop i l) ≡ true → every sound (drop (i - 1) l) ≡ true
+  unfolding every
+  rising-further f r = let z : i - 1 + 1 ≡ i = omega arith in rw (from-here l (i - 1) (omega arith), sym e ∙ f, z) r
+
+  pub rising-below : ascending l ≡ true → b ≡ true → every sound (drop i l) ≡ true → getD l (i - 1) 0 < low → true ≡ every sound l
+  unfolding soundNumber
+  rising-below a f r q = sym (rising-all sound (getD l (i - 1) 0) l (i - 1) a (omega arith) (le-refl (getD l (i - 1) 0)) lower (rising-further f r))
+    where
+      lower : (m : ℕ) → m ≤ getD l (i - 1) 0 → sound m ≡ true
+      lower m o =
+          let z : getD l (i - 1) 0 < numbers24 = ltb-true _ _ (and-left (ltb (getD l (i - 1) 0) numbers24) _ (sym e ∙ f)) in
+          and-both (ltb m numbers24) (accepted (windowOf low bits) m) (lt-ltb m numbers24 (omega arith)) (accepted-below (windowOf low bits) m (omega arith))
+
+pub rising-none : (p : ℕ → Bool) (l : List ℕ) → every p (drop (length l) l) ≡ true
+unfolding every
+rising-none p l = ap (every p) (drop-length l)
+
+pub rising-done : (p : ℕ → Bool) (l : List ℕ) (i : ℕ) → i ≤ 0 → every p (drop i l) ≡ true → true ≡ every p l
+rising-done p l i h e = let z : i ≡ 0 = omega arith in sym (rw z at e)
 
 -- ---- the unsent
 module _ (w : ReliableWindow) (l : List ℕ) (a : Bool) (e : a ≡ every (soundNumber w) l) where
@@ -157,36 +198,52 @@ module _ (w : ReliableWindow) (l : List ℕ) (a : Bool) (e : a ≡ every (soundN
   unfolding soundNumbers
   numbers-not f = rw (sym e ∙ f)
 
-module _ (q : RecvQueue) where
-  pub unsent-over : maxUnsent < q .pending → false ≡ soundUnsent q
-  unfolding soundUnsent
-  unsent-over h = rw (lt-leb (q .pending) maxUnsent h)
+module _ (w : ReliableWindow) (l : List ℕ) (a b : Bool) (e : a ≡ ascending l) where
+  pub rising-told : a ≡ true → b ≡ every (soundNumber w) l → told b b ≡ numbersSoundOf w l
+  unfolding numbersSoundOf soundNumbers
+  rising-told f g = rw (ascending-differ l (sym e ∙ f), sym e ∙ f, and-true (every (soundNumber w) l), and-true (every (soundNumber w) l), ← g)
 
-  pub unsent-by-numbers : q .pending ≤ maxUnsent → (b : Bool) → b ≡ soundNumbers (q .datagrams) (take (q .pending) (q .unsent)) → b ≡ soundUnsent q
-  unfolding soundUnsent soundNumbers soundNumber unsentOf
-  unsent-by-numbers h b e = rw (le-leb (q .pending) maxUnsent h) e
+  pub mixed-told : a ≡ false → b ≡ soundNumbers w l → told b false ≡ numbersSoundOf w l
+  unfolding numbersSoundOf
+  mixed-told f g = rw (sym e ∙ f, and-false (soundNumbers w l), ← g)
 
-  pub unsent-by-few : q .pending ≤ few → (k : List ℕ) → k ≡ take few (q .unsent) → (b : Bool) → b ≡ soundNumbers (q .datagrams) (take (q .pending) k) → b ≡ soundUnsent q
-  unsent-by-few h k f b e =
-      let t : take (q .pending) k ≡ take (q .pending) (q .unsent) = rw f (take-take (q .pending) few (q .unsent) h) in
-      unsent-by-numbers (omega arith) b (rw t at e)
+-- the first m numbers, where there are no more than m
+pub first-all : (w : ReliableWindow) (l : List ℕ) (m : ℕ) (r : QueueSound) → length l < m → r ≡ numbersSoundOf w l → r ≡ numbersSoundOf w (take m l)
+first-all w l m r h e = rw (take-all m l (omega arith)) e
 
 -- ---- all of them, one after the other
-module _ (q : RecvQueue) (a : Bool) (e : a ≡ soundWindow (q .datagrams)) where
-  pub datagrams-not : a ≡ false → false ≡ soundQueue q
-  unfolding soundQueue
-  datagrams-not f = rw (sym e ∙ f)
+module _ (h : Heads) (dbits rbits nexts unsent : List ℕ) where
+  abbrev q : RecvQueue
+  q = queueOf h dbits rbits nexts unsent
 
-  module _ (f : a ≡ true) (b : Bool) (g : b ≡ soundWindow (q .reliables)) where
-    pub reliables-not : b ≡ false → false ≡ soundQueue q
-    unfolding soundQueue
-    reliables-not h = rw (sym e ∙ f, sym g ∙ h)
+  pub not-sound : soundQueue q ≡ false → (r : QueueSound) → r ≡ told false false → r ≡ queueSoundOf q
+  unfolding queueSoundOf
+  not-sound e r f = f ∙ rw e
 
-    module _ (h : b ≡ true) (c : Bool) (i : c ≡ soundNexts (nextIn (q .channels))) where
-      pub channels-not : c ≡ false → false ≡ soundQueue q
-      unfolding soundQueue nextOf
-      channels-not j = rw (sym e ∙ f, sym g ∙ h, sym i ∙ j)
+  module _ (a : Bool) (e : a ≡ soundWindow (windowOf (h .datagrams) dbits)) (r : QueueSound) where
+    pub datagrams-not : a ≡ false → r ≡ told false false → r ≡ queueSoundOf q
+    unfolding soundQueue queueOf
+    datagrams-not f = not-sound (rw (sym e ∙ f)) r
 
-      pub all-sound : c ≡ true → (d : Bool) → d ≡ soundUnsent q → d ≡ soundQueue q
-      unfolding soundQueue nextOf
-      all-sound j d k = rw (sym e ∙ f, sym g ∙ h, sym i ∙ j) k
+    module _ (f : a ≡ true) (b : Bool) (g : b ≡ soundWindow (windowOf (h .reliables) rbits)) where
+      pub reliables-not : b ≡ false → r ≡ told false false → r ≡ queueSoundOf q
+      unfolding soundQueue queueOf
+      reliables-not i = not-sound (rw (sym e ∙ f, sym g ∙ i)) r
+
+      module _ (i : b ≡ true) (c : Bool) (j : c ≡ soundNexts (nextAt nexts)) where
+        pub channels-not : c ≡ false → r ≡ told false false → r ≡ queueSoundOf q
+        unfolding soundQueue queueOf
+        channels-not k = not-sound (rw (next-of-parts h dbits rbits nexts unsent, sym e ∙ f, sym g ∙ i, sym j ∙ k)) r
+
+        module _ (k : c ≡ true) where
+          by-unsent : soundQueue q ≡ soundUnsent q
+          unfolding soundQueue queueOf
+          by-unsent = rw (next-of-parts h dbits rbits nexts unsent, sym e ∙ f, sym g ∙ i, sym j ∙ k)
+
+          pub pending-over : maxUnsent < h .pending → r ≡ told false false → r ≡ queueSoundOf q
+          unfolding soundUnsent queueOf
+          pending-over o = not-sound (by-unsent ∙ rw (lt-leb (h .pending) maxUnsent o)) r
+
+          pub by-numbers : h .pending ≤ maxUnsent → r ≡ numbersSoundOf (windowOf (h .datagrams) dbits) (take (h .pending) unsent) → r ≡ queueSoundOf q
+          unfolding queueSoundOf numbersSoundOf soundNumbers soundNumber soundUnsent unsentOf queueOf
+          by-numbers o l = l ∙ sym (rw (by-unsent, le-leb (h .pending) maxUnsent o))

@@ -1,4 +1,4 @@
--- The parts of `soundQueue` that a function of the code tests by itself.
+-- What the test of the receiver's own values tells, and the parts of `soundQueue` that a function of the code tests by itself.
 use Prim.Native.Nat.{ℕ}
 use mathlib.Core.Bool.{Bool, _&&_}
 use mathlib.Core.List.{List}
@@ -7,16 +7,22 @@ use Rattle.base.specs.Limits.{numbers24}
 use Rattle.base.specs.Lists.{every, below}
 use Rattle.window.specs.declared.ReliableWindow.{ReliableWindow}
 use Rattle.window.specs.Window.{accepted}
-use Rattle.recv.specs.declared.Channel.{Channel}
-use Rattle.recv.specs.Queue.{nextIn, differ}
+use Rattle.ack.specs.Write.{ascending}
+use Rattle.recv.specs.declared.RecvQueue.{RecvQueue}
+use Rattle.recv.specs.Parts.{nextAt}
+use Rattle.recv.specs.Queue.{differ, unsentOf, soundQueue}
+use Rattle.sound_queue.specs.declared.QueueSound.{QueueSound}
 
--- up to so many unsent numbers are tested in a copy of these alone, and not of all 1,024
-abbrev pub few : ℕ
-few = 64
+abbrev pub told : Bool → Bool → QueueSound
+told sound rising = record { sound = sound; ascending = rising }
+
+-- whether the rules hold; and whether the unsent numbers of a sound receiver ascend, as they do wherever numbers joined one by one
+unfoldable pub queueSoundOf : RecvQueue → QueueSound
+queueSoundOf q = told (soundQueue q) (soundQueue q && ascending (unsentOf q))
 
 -- "each channel's next is at most 2^24", of the first k channels
-unfoldable pub nextsWithin : List Channel → ℕ → Bool
-nextsWithin channels k = below k (λ c. leb (nextIn channels c) numbers24)
+unfoldable pub nextsWithin : List ℕ → ℕ → Bool
+nextsWithin nexts k = below k (λ c. leb (nextAt nexts c) numbers24)
 
 -- a number that may be unsent: "below low or accepted", and below 2^24
 unfoldable pub soundNumber : ReliableWindow → ℕ → Bool
@@ -25,3 +31,7 @@ soundNumber w n = ltb n numbers24 && accepted w n
 -- "unsent numbers differ and are below low or accepted"
 unfoldable pub soundNumbers : ReliableWindow → List ℕ → Bool
 soundNumbers w l = every (soundNumber w) l && differ l
+
+-- the same, with whether they ascend
+unfoldable pub numbersSoundOf : ReliableWindow → List ℕ → QueueSound
+numbersSoundOf w l = told (soundNumbers w l) (soundNumbers w l && ascending l)

@@ -1,64 +1,80 @@
 // The rules on the receiver's own values: document 01, 9, "Sound".
-use recv::Channel;
-use recv::RecvQueue;
-use window::ReliableWindow;
+use recv::Heads;
 ghost use mathlib.Core.Path.{_≡_};
-ghost use mathlib.Core.Bool.{_||_, not};
+ghost use mathlib.Core.Bool.{true, false, _||_, not};
 ghost use Prim.Native.Nat.{_+_, _<_, _≤_};
 ghost use lib.Dec.{ltb, eqb};
 ghost use lib.ListN.{length, take};
 ghost use Rattle.base.specs.Limits.{numbers24, windowPlaces};
 ghost use Rattle.base.specs.Lists.{any, every};
 ghost use Rattle.window.specs.Places.{placeSet};
+ghost use Rattle.window.specs.Window.{windowOf};
 ghost use Rattle.cells.specs.Sound.{soundNexts};
 ghost use Rattle.ack.specs.Write.{ascending};
-ghost use Rattle.recv.specs.Queue.{nextIn, placesWithin, soundWindow, soundUnsent, soundQueue};
+ghost use Rattle.recv.specs.Parts.{nextAt, queueOf};
+ghost use Rattle.recv.specs.Queue.{placesWithin, soundWindow};
 ghost use Rattle.recv.specs.Queue as Queue;
-ghost use Rattle.sound_queue.specs.Sound.{few, soundNumber, soundNumbers};
+ghost use Rattle.sound_queue.specs.Sound.{told, queueSoundOf, nextsWithin, soundNumber, soundNumbers, numbersSoundOf};
 
-// Up to so many unsent numbers are tested in a copy of these alone, and not of all 1,024.
-const FEW: usize = 64;
+// sound: the rules hold. ascending: they do, and the unsent numbers ascend.
+pub struct QueueSound {
+    pub sound: bool,
+    pub ascending: bool,
+}
 
-pub fn sound_queue(queue: RecvQueue) -> bool
-    ensures { λ r. ⌜ r ≡ soundQueue queue ⌝ }
+pub fn sound_queue(
+    h: Heads,
+    dbits: &[u8],
+    rbits: &[u8],
+    nexts: &[u32],
+    unsent: &[u32],
+) -> QueueSound
+    ensures { λ r. ⌜ r ≡ queueSoundOf (queueOf h (now (dbits .entry)) (now (rbits .entry)) (now (nexts .entry)) (now (unsent .entry))) ⌝ }
 {
-    let datagrams = queue.datagrams;
-    if sound_window(datagrams) {} else {
-        return false;
+    if sound_window(h.datagrams, dbits) {} else {
+        return unsound();
     }
-    let reliables = queue.reliables;
-    if sound_window(reliables) {} else {
-        return false;
+    if sound_window(h.reliables, rbits) {} else {
+        return unsound();
     }
-    let channels = queue.channels;
-    if sound_channels(channels) {} else {
-        return false;
+    if sound_nexts(nexts) {} else {
+        return unsound();
     }
-    sound_unsent(queue)
+    if base::MAX_UNSENT < h.pending {
+        return unsound();
+    }
+    first_sound(h.datagrams, dbits, unsent, h.pending as usize)
+}
+
+fn unsound() -> QueueSound
+    ensures { λ r. ⌜ r ≡ told false false ⌝ }
+{
+    QueueSound {
+        sound: false,
+        ascending: false,
+    }
 }
 
 // Where low + 2,048 is below 2^24, so is every place's number.
-fn sound_window(w: ReliableWindow) -> bool
-    ensures { λ r. ⌜ r ≡ soundWindow w ⌝ }
+fn sound_window(low: u32, bits: &[u8]) -> bool
+    ensures { λ r. ⌜ r ≡ soundWindow (windowOf low (now (bits .entry))) ⌝ }
 {
-    let low = w.low;
     if base::NUMBERS_24 < low {
         return false;
     }
     if low + base::WINDOW_PLACES < base::NUMBERS_24 {
         return true;
     }
-    places_within(w)
+    places_within(low, bits)
 }
 
-fn places_within(w: ReliableWindow) -> bool
-    requires { ⌜ w .low ≤ numbers24 ⌝ }
-    ensures { λ r. ⌜ r ≡ placesWithin w windowPlaces ⌝ }
+fn places_within(low: u32, bits: &[u8]) -> bool
+    requires { ⌜ low ≤ numbers24 ⌝ }
+    ensures { λ r. ⌜ r ≡ placesWithin (windowOf low (now (bits .entry))) windowPlaces ⌝ }
 {
-    let low = w.low;
     let mut k = base::WINDOW_PLACES;
     while 0 < k {
-        if place_within(w, low + k) {} else {
+        if place_within(low, bits, low + k) {} else {
             return false;
         }
         k -= 1;
@@ -67,126 +83,138 @@ fn places_within(w: ReliableWindow) -> bool
 }
 
 // The number n, which has a place, is below 2^24 or was never accepted.
-fn place_within(w: ReliableWindow, n: u32) -> bool
-    requires { ⌜ w .low < n ⌝ }
-    requires { ⌜ n ≤ w .low + windowPlaces ⌝ }
-    ensures { λ r. ⌜ r ≡ (ltb n numbers24 || not (placeSet (w .bits) n)) ⌝ }
+fn place_within(low: u32, bits: &[u8], n: u32) -> bool
+    requires { ⌜ low < n ⌝ }
+    requires { ⌜ n ≤ low + windowPlaces ⌝ }
+    ensures { λ r. ⌜ r ≡ (ltb n numbers24 || not (placeSet (now (bits .entry)) n)) ⌝ }
 {
     if n < base::NUMBERS_24 {
         return true;
     }
-    !w.accepted(n)
+    !window::accepted_in(low, bits, n)
 }
 
-// Each channel's next is at most 2^24.
-fn sound_channels(channels: [Channel; 32]) -> bool
-    ensures { λ r. ⌜ r ≡ soundNexts (nextIn channels) ⌝ }
+// Each channel's next is at most 2^24; a next past the end is 0.
+fn sound_nexts(nexts: &[u32]) -> bool
+    ensures { λ r. ⌜ r ≡ soundNexts (nextAt (now (nexts .entry))) ⌝ }
 {
-    let mut left = base::MAX_ORD_CHANS as usize;
-    while 0 < left {
-        let channel = channels[left - 1];
-        if base::NUMBERS_24 < channel.next {
-            return false;
-        }
-        left -= 1;
+    let channels = base::MAX_ORD_CHANS as usize;
+    if nexts.len() < channels {
+        return nexts_within(nexts, nexts.len());
     }
-    true
+    nexts_within(nexts, channels)
 }
 
-fn sound_unsent(queue: RecvQueue) -> bool
-    ensures { λ r. ⌜ r ≡ soundUnsent queue ⌝ }
+// The tests of all are joined by `&`: without a branch the loop is done several numbers at a time.
+fn nexts_within(nexts: &[u32], n: usize) -> bool
+    requires { ⌜ n ≤ length (now nexts) ⌝ }
+    ensures { λ r. ⌜ r ≡ nextsWithin (now (nexts .entry)) n ⌝ }
 {
-    let pending = queue.pending;
-    if base::MAX_UNSENT < pending {
-        return false;
-    }
-    let w = queue.datagrams;
-    let m = pending as usize;
-    if m <= FEW {
-        let few = first_few(queue);
-        return first_sound(w, &few, m);
-    }
-    let unsent = queue.unsent;
-    first_sound(w, &unsent, m)
-}
-
-fn first_few(queue: RecvQueue) -> [u32; FEW]
-    ensures { λ r. ⌜ r ≡ take few (queue .unsent) ⌝ }
-{
-    let mut numbers = [0u32; FEW];
+    let mut all = true;
     let mut i = 0;
-    while i < FEW {
-        let n = queue.unsent[i];
-        numbers[i] = n;
+    while i < n {
+        let next = nexts[i];
+        all = all & (next <= base::NUMBERS_24);
         i += 1;
     }
-    numbers
+    all
 }
 
 // sound_numbers of the first m.
-fn first_sound(w: ReliableWindow, all: &[u32], m: usize) -> bool
-    requires { ⌜ m ≤ length (now all) ⌝ }
-    ensures { λ r. ⌜ r ≡ soundNumbers w (take m (now (all .entry))) ⌝ }
+fn first_sound(low: u32, bits: &[u8], unsent: &[u32], m: usize) -> QueueSound
+    ensures { λ r. ⌜ r ≡ numbersSoundOf (windowOf low (now (bits .entry))) (take m (now (unsent .entry))) ⌝ }
 {
-    sound_numbers(w, &all[..m])
-}
-
-// The rules on unsent numbers.
-fn sound_numbers(w: ReliableWindow, numbers: &[u32]) -> bool
-    ensures { λ r. ⌜ r ≡ soundNumbers w (now (numbers .entry)) ⌝ }
-{
-    if each_sound(w, numbers) {
-        return all_differ(numbers);
+    if m <= unsent.len() {
+        return sound_numbers(low, bits, &unsent[..m]);
     }
-    false
+    sound_numbers(low, bits, unsent)
 }
 
-fn each_sound(w: ReliableWindow, numbers: &[u32]) -> bool
-    ensures { λ r. ⌜ r ≡ every (soundNumber w) (now (numbers .entry)) ⌝ }
-{
-    let mut i = 0;
-    while i < numbers.len() {
-        let n = numbers[i];
-        if sound_number(w, n) {} else {
-            return false;
-        }
-        i += 1;
-    }
-    true
-}
-
-fn sound_number(w: ReliableWindow, n: u32) -> bool
-    ensures { λ r. ⌜ r ≡ soundNumber w n ⌝ }
-{
-    if n < base::NUMBERS_24 {
-        return w.accepted(n);
-    }
-    false
-}
-
-// Numbers that ascend differ; each two are compared only where they do not.
-fn all_differ(numbers: &[u32]) -> bool
-    ensures { λ r. ⌜ r ≡ Queue.differ (now (numbers .entry)) ⌝ }
+// The rules on unsent numbers. Numbers that ascend differ, and where one is below low, so are all before it.
+fn sound_numbers(low: u32, bits: &[u8], numbers: &[u32]) -> QueueSound
+    ensures { λ r. ⌜ r ≡ numbersSoundOf (windowOf low (now (bits .entry))) (now (numbers .entry)) ⌝ }
 {
     if is_ascending(numbers) {
-        return true;
+        let sound = sound_rising(low, bits, numbers);
+        return QueueSound {
+            sound,
+            ascending: sound,
+        };
     }
-    each_differs(numbers)
+    let sound = sound_mixed(low, bits, numbers);
+    QueueSound {
+        sound,
+        ascending: false,
+    }
 }
 
 fn is_ascending(numbers: &[u32]) -> bool
     ensures { λ r. ⌜ r ≡ ascending (now (numbers .entry)) ⌝ }
 {
+    let n = numbers.len();
+    if n == 0 {
+        return true;
+    }
+    let last = n - 1;
+    let mut all = true;
     let mut i = 0;
-    while i + 1 < numbers.len() {
+    while i < last {
         let x = numbers[i];
         let next = numbers[i + 1];
-        if next <= x {
+        all = all & (x < next);
+        i += 1;
+    }
+    all
+}
+
+fn sound_rising(low: u32, bits: &[u8], numbers: &[u32]) -> bool
+    requires { ⌜ ascending (now numbers) ≡ true ⌝ }
+    ensures { λ r. ⌜ r ≡ every (soundNumber (windowOf low (now (bits .entry)))) (now (numbers .entry)) ⌝ }
+{
+    let mut i = numbers.len();
+    while 0 < i {
+        i -= 1;
+        let n = numbers[i];
+        if sound_number(low, bits, n) {} else {
+            return false;
+        }
+        if n < low {
+            return true;
+        }
+    }
+    true
+}
+
+fn sound_mixed(low: u32, bits: &[u8], numbers: &[u32]) -> bool
+    ensures { λ r. ⌜ r ≡ soundNumbers (windowOf low (now (bits .entry))) (now (numbers .entry)) ⌝ }
+{
+    if each_sound(low, bits, numbers) {
+        return each_differs(numbers);
+    }
+    false
+}
+
+fn each_sound(low: u32, bits: &[u8], numbers: &[u32]) -> bool
+    ensures { λ r. ⌜ r ≡ every (soundNumber (windowOf low (now (bits .entry)))) (now (numbers .entry)) ⌝ }
+{
+    let mut i = 0;
+    while i < numbers.len() {
+        let n = numbers[i];
+        if sound_number(low, bits, n) {} else {
             return false;
         }
         i += 1;
     }
     true
+}
+
+fn sound_number(low: u32, bits: &[u8], n: u32) -> bool
+    ensures { λ r. ⌜ r ≡ soundNumber (windowOf low (now (bits .entry))) n ⌝ }
+{
+    if n < base::NUMBERS_24 {
+        return window::accepted_in(low, bits, n);
+    }
+    false
 }
 
 // No number stands among those after it.

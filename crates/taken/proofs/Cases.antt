@@ -9,6 +9,7 @@ use lib.ListN.{length, take, drop, length-drop}
 use types.Run.{OneOf}
 use denote.Enum.Declared.{tagOf}
 use Rattle.recv.specs.Calls.{bytesAt}
+use Rattle.recv.proofs.Parts.{take-min}
 use Rattle.takes.specs.declared.Take.{Take}
 use Rattle.takes.specs.declared.Take.the-variants.{NotSound, NoneReady, ShortBuffer, InStore, Joined}
 use Rattle.takes.specs.Outcome.{takeAnswer}
@@ -16,11 +17,6 @@ use Rattle.takes.proofs.Take.{the-type}
 use Rattle.taken.specs.Body.{bodyOf}
 
 -- ---- `part`
-
-take-min : (c : ℕ) (l : List ℕ) → take (min c (length l)) l ≡ take c l
-take-min zero l = rw zero-min
-take-min (suc c) [] = rw min-zero
-take-min (suc c) (a ∷ l) = rw suc-min-suc (ap (λ (t : List ℕ). a ∷ t) (take-min c l))
 
 drop-min : (c : ℕ) (l : List ℕ) → drop (min c (length l)) l ≡ drop c l
 drop-min zero l = rw zero-min

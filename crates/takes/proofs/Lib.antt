@@ -1,4 +1,4 @@
 pub mod Pieces
 pub mod Turns
 pub mod Calls
-pub mod Outcomes
+pub mod First

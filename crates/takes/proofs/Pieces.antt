@@ -1,6 +1,6 @@
 -- The pieces of a ready message: where their rows are, and that each stands in its cell.
 -- Assumes nothing.
-use Prim.Native.Nat.{ℕ, suc, _+_, _*_, _-_, _≤_, _<_}
+use Prim.Native.Nat.{ℕ, suc, _+_, _*_, _-_, _≤_}
 use mathlib.Core.Path.{_≡_, refl, _∙_, ap, subst}
 use mathlib.Core.Bool.{Bool, true, false, cond}
 use mathlib.Core.Option.{some}
@@ -12,12 +12,14 @@ use Rattle.base.specs.Limits.{cellBytes}
 use Rattle.base.specs.Lists.{option, find}
 use Rattle.base.specs.Put.{put, Run}
 use Rattle.base.proofs.Choices.{caseOption}
+use Rattle.base.proofs.Lists.{find-some, any-mem}
 use Rattle.base.proofs.Puts.{run-none, run-then}
 use Rattle.cells.specs.Cell.{Cell, readyAs, at, emptyCell}
 use Rattle.cells.specs.Records.{indexOf}
 use Rattle.rows.specs.declared.Row.{Row}
 use Rattle.rows.specs.Rows.{rowsOf, cellOf, cellsIn, blankRow}
 use Rattle.rows.specs.Whole.{wholeRow}
+use Rattle.row_scans.proofs.Ready.{index-there}
 use Rattle.takes.specs.Pieces.{pieceAt, pieceBytes, lengthTo, joinedTo, AllWithin, Takeable}
 
 -- ---- the first record that passes
@@ -31,16 +33,7 @@ index-within p (c ∷ cs) = chosen (p c) (index-within p cs)
     chosen true h = omega arith
     chosen false h = omega arith
 
-index-found : (p : Cell → Bool) (cs : List Cell) (c : Cell) → find p cs ≡ some c → indexOf p cs < length cs
-unfolding indexOf find
-index-found p [] c e = absurd (let z : _≡_ {A = ℕ} 0 1 = cc in omega arith)
-index-found p (x ∷ cs) c e = chosen (p x) e (index-found p cs c)
-  where
-    chosen : (t : Bool) → cond t (some x) (find p cs) ≡ some c → (find p cs ≡ some c → indexOf p cs < length cs) → cond t 0 (suc (indexOf p cs)) < suc (length cs)
-    chosen true e h = omega arith
-    chosen false e h = let k = h e in omega arith
-
-pub blank-cell : cellOf blankRow ≡ emptyCell
+blank-cell : cellOf blankRow ≡ emptyCell
 unfolding cellOf blankRow emptyCell
 blank-cell = refl
 
@@ -75,7 +68,7 @@ module _ {t : ℕ} {cs : List Cell} {st : List ℕ} (v : Takeable t cs st) where
       let store : length st ≡ cellBytes * length cs = v .store in
       caseOption (find (at (readyAs t) i) cs)
       (λ e. let w : indexOf (at (readyAs t) i) cs ≤ length cs = index-within (at (readyAs t) i) cs in rw e (omega arith))
-      (λ c e. let w : indexOf (at (readyAs t) i) cs < length cs = index-found (at (readyAs t) i) cs c e in omega arith)
+      (λ c e. let f = find-some (at (readyAs t) i) cs e in let w = index-there (at (readyAs t) i) cs (any-mem (at (readyAs t) i) cs c (f .0) (f .1)) in omega arith)
 
 -- The same, as the code finds its row.
 module _ (t : ℕ) (ws st : List ℕ) (i j : ℕ) (r : Row) (v : Takeable t (cellsIn ws) st) (found : j ≡ indexOf (at (readyAs t) i) (cellsIn ws)) (is : r ≡ wholeRow ws j) where

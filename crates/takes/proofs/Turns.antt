@@ -3,7 +3,7 @@
 use Prim.Native.Nat.{ℕ, zero, suc, _+_, _*_, _≤_, _<_}
 use mathlib.Core.Path.{_≡_, refl, sym, _∙_, ap, subst}
 use mathlib.Core.Bool.{Bool, true, false, cond, _&&_}
-use mathlib.Core.Option.{some}
+use mathlib.Core.Option.{none, some}
 use mathlib.Core.List.{List, [], _∷_}
 use native.Mathlib.Omega.{arith}
 use native.Mathlib.Nat.{suc-mul}
@@ -14,25 +14,21 @@ use borrow.Author.Tests.{eqb-true, eq-eqb, ne-eqb}
 use Rattle.base.specs.Limits.{cellBytes, maxFrags}
 use Rattle.base.specs.Lists.{option, find}
 use Rattle.base.specs.Put.{put, andThen}
-use Rattle.base.proofs.Choices.{caseOption, and-left, neither}
+use Rattle.base.proofs.Choices.{caseOption, and-left, and-right, neither}
 use Rattle.base.proofs.Ifs.{by-lt-yes, by-lt-no}
 use Rattle.base.proofs.Lists.{find-some, find-none, any-true}
 use Rattle.line.specs.Frame.{Message}
-use Rattle.cells.specs.Cell.{Cell, Slot, readyAs, bears, at, sits, join, messageOf, messageAt, emptyCell, freed}
-use Rattle.cells.specs.Records.{indexOf, changeCells}
-use Rattle.cells.specs.Store.{cellSize, bodyOf, slotsOf, cellsOf}
-use Rattle.cells.proofs.Records.{cells-freed}
-use Rattle.cells.proofs.Store.{cells-slots}
+use Rattle.cells.specs.Cell.{Cell, Slot, readyAs, bears, at, sits, join, messageOf, messageAt, emptyCell}
+use Rattle.cells.specs.Records.{indexOf}
+use Rattle.cells.specs.Store.{cellSize, bodyOf, slotsOf}
 use Rattle.rows.specs.declared.Row.{Row}
-use Rattle.rows.specs.Rows.{rowsOf, cellOf, cellsIn, blankRow, changeRows}
+use Rattle.rows.specs.Rows.{cellOf, cellsIn}
 use Rattle.rows.specs.Whole.{wholeRow}
-use Rattle.rows.proofs.Changes.{cells-change}
-use Rattle.slots.proofs.Widths.{freed-fit}
 use Rattle.recv.specs.Take.{handed}
 use Rattle.takes.specs.declared.Take.the-variants.{ShortBuffer, InStore, Joined}
-use Rattle.takes.specs.Outcome.{takeAnswer, takeResult, KeepsWidths}
+use Rattle.takes.specs.Outcome.{takeAnswer, takenRows, withTurn}
 use Rattle.takes.specs.Pieces.{pieceAt, pieceBytes, lengthTo, joinedTo, Within, Takeable, takeTurn}
-use Rattle.takes.proofs.Pieces.{piece-row, piece-ends, blank-cell}
+use Rattle.takes.proofs.Pieces.{piece-row, piece-ends}
 
 -- ---- a record and its slot
 
@@ -109,11 +105,18 @@ module _ (t : ℕ) (cs : List Cell) (st : List ℕ) where
     abbrev messageFrom : Cell → Message
     messageFrom c = record { kind = c .kind; channel = c .channel; order = c .order; body = joinedTo t cs st (c .count) }
 
+    none-missing : {X : Type 0} → find (at (readyAs t) 0) cs ≡ none → X
+    none-missing e = let a = any-true (at (readyAs t) 0) cs (v .first) in neither (at (readyAs t) 0 (a .0)) (a .2) (find-none (at (readyAs t) 0) cs e (a .0) (a .1))
+
+    pub first-passes : at (readyAs t) 0 (pieceAt t cs 0) ≡ true
+    unfolding pieceAt
+    first-passes = caseOption (find (at (readyAs t) 0) cs) none-missing (λ c e. rw e (find-some (at (readyAs t) 0) cs e .1))
+
     -- A take of the turn hands out this message.
     turn-hands : (buffer : List ℕ) → takeTurn t cs st buffer ≡ handed cs st buffer t (messageFrom (pieceAt t cs 0)) (pieceAt t cs 0)
     unfolding takeTurn pieceAt messageAt sits messageOf
     turn-hands buffer = caseOption (find (at (readyAs t) 0) cs)
-        (λ e. let a = any-true (at (readyAs t) 0) cs (v .first) in neither (at (readyAs t) 0 (a .0)) (a .2) (find-none (at (readyAs t) 0) cs e (a .0) (a .1)))
+        none-missing
         (λ c e.
         let s = slot-of (at (readyAs t) 0) cs st c e in
         rw (s .found, e) (same (s .slot) c (s .cell-is)))
@@ -125,38 +128,40 @@ module _ (t : ℕ) (cs : List Cell) (st : List ℕ) where
 
 -- ---- the code's three ways
 
--- The records that a taken message leaves.
-records-left : (t : ℕ) (ws new st : List ℕ) → rowsOf new ≡ changeRows (bears (readyAs t)) (λ _. blankRow) (rowsOf ws) → cellsIn new ≡ cellsOf (freed (readyAs t) (slotsOf (cellsIn ws) st))
-records-left t ws new st e =
-    cells-change (bears (readyAs t)) (λ _. blankRow) (λ _. emptyCell) (λ r. blank-cell) ws new e
-    ∙ sym (cells-freed (readyAs t) (slotsOf (cellsIn ws) st) ∙ ap (changeCells (bears (readyAs t)) (λ c. emptyCell)) (cells-slots (cellsIn ws) st))
-
 module _ (t : ℕ) (ws st buffer : List ℕ) (j : ℕ) (r : Row) (v : Takeable t (cellsIn ws) st) (found : j ≡ indexOf (at (readyAs t) 0) (cellsIn ws)) (is : r ≡ wholeRow ws j) where
   hands : takeTurn t (cellsIn ws) st buffer ≡ handed (cellsIn ws) st buffer t (messageFrom t (cellsIn ws) st v (cellOf r)) (cellOf r)
   hands = turn-hands t (cellsIn ws) st v buffer ∙ ap (λ (c : Cell). handed (cellsIn ws) st buffer t (messageFrom t (cellsIn ws) st v c) c) (sym (piece-row t ws 0 j r found is))
 
   -- "handed back as part of the store"
-  pub took-store : (new : List ℕ) → rowsOf new ≡ changeRows (bears (readyAs t)) (λ _. blankRow) (rowsOf ws) → r .count ≡ 1
-      → takeResult (InStore (r .kind) (r .channel) (r .order) (j * cellBytes) (r .length)) (cellsIn new) buffer ≡ takeTurn t (cellsIn ws) st buffer
-  unfolding takeResult takeAnswer handed cellOf
-  took-store new e one = rw (hands, eq-eqb (r .count) 1 one, records-left t ws new st e, found)
+  pub took-store : r .count ≡ 1 → takenRows (record { answer = InStore (r .kind) (r .channel) (r .order) (j * cellBytes) (r .length); turn = t }) buffer ≡ withTurn t (takeTurn t (cellsIn ws) st buffer)
+  unfolding takenRows withTurn takeAnswer handed cellOf
+  took-store one = rw (hands, eq-eqb (r .count) 1 one, found)
 
   module _ (several : r .count ≡ 1 → ⊥) (len : ℕ) (long : len ≡ lengthTo t (cellsIn ws) (r .count)) where
     len-is : len ≡ length (joinedTo t (cellsIn ws) st (r .count))
     len-is = long ∙ sym (joined-long t (cellsIn ws) st v (r .count))
 
     -- "12 joining buffer shorter than a message of several pieces"
-    pub took-short : length buffer < len → takeResult ShortBuffer (cellsIn ws) buffer ≡ takeTurn t (cellsIn ws) st buffer
-    unfolding takeResult takeAnswer handed cellOf
-    took-short l = rw (hands, ne-eqb (r .count) 1 several) (by-lt-yes (length buffer) (length (joinedTo t (cellsIn ws) st (r .count))) len _ _ _ len-is l refl)
+    pub took-short : length buffer < len → takenRows (record { answer = ShortBuffer; turn = 0 }) buffer ≡ withTurn t (takeTurn t (cellsIn ws) st buffer)
+    unfolding takenRows withTurn takeAnswer handed cellOf
+    took-short l =
+        rw (hands, ne-eqb (r .count) 1 several)
+        (ap (withTurn t) (by-lt-yes (length buffer) (length (joinedTo t (cellsIn ws) st (r .count))) len _ _ _ len-is l refl))
 
     -- "or of the joining buffer"
-    pub took-joined : len ≤ length buffer → (new out : List ℕ) → rowsOf new ≡ changeRows (bears (readyAs t)) (λ _. blankRow) (rowsOf ws) → out ≡ put buffer 0 (joinedTo t (cellsIn ws) st (r .count))
-        → takeResult (Joined (r .kind) (r .channel) (r .order) len) (cellsIn new) out ≡ takeTurn t (cellsIn ws) st buffer
-    unfolding takeResult takeAnswer handed cellOf
-    took-joined l new out e f =
+    pub took-joined : len ≤ length buffer → (out : List ℕ) → out ≡ put buffer 0 (joinedTo t (cellsIn ws) st (r .count))
+        → takenRows (record { answer = Joined (r .kind) (r .channel) (r .order) len; turn = t }) out ≡ withTurn t (takeTurn t (cellsIn ws) st buffer)
+    unfolding takenRows withTurn takeAnswer handed cellOf
+    took-joined l out f =
         rw (hands, ne-eqb (r .count) 1 several)
-        (by-lt-no (length buffer) (length (joinedTo t (cellsIn ws) st (r .count))) len _ _ _ len-is l (rw (len-is, records-left t ws new st e, f)))
+        (rw (len-is, f) (ap (withTurn t) (by-lt-no (length buffer) (length (joinedTo t (cellsIn ws) st (r .count))) len _ _ _ len-is l refl)))
+
+  -- It is of that turn.
+  pub first-turn : r .turn ≡ t
+  unfolding cellOf at bears
+  first-turn =
+      let passes = ap (at (readyAs t) 0) (piece-row t ws 0 j r found is) ∙ first-passes t (cellsIn ws) st v in
+      eqb-true (r .turn) t (and-right (eqb (r .used) 3) _ (and-left (eqb (r .used) 3 && eqb (r .turn) t) _ passes))
 
   -- The numbers of a first record fit the answer.
   pub first-within : Within (cellOf r)
@@ -173,7 +178,3 @@ module _ (t : ℕ) (ws st buffer : List ℕ) (j : ℕ) (r : Row) (v : Takeable t
   pub first-count : r .count ≤ maxFrags
   unfolding cellOf
   first-count = first-within .count
-
--- A taken message's rows become blank ones, which fit the widths of a record.
-pub widths-kept : (t : ℕ) (ws new : List ℕ) → rowsOf new ≡ changeRows (bears (readyAs t)) (λ _. blankRow) (rowsOf ws) → KeepsWidths ws new
-widths-kept t ws new e k = freed-fit (bears (readyAs t)) ws new k e

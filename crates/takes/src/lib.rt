@@ -1,17 +1,19 @@
 // Take on rows of words: document 01, "Take, earliest ready first".
-use recv::RecvQueue;
-use row_scans::Earliest;
+use recv::Heads;
 use rows::ROW;
+use rows::Row;
 ghost use mathlib.Core.Path.{_≡_};
-ghost use mathlib.Core.List.{_++_};
 ghost use Prim.Native.Nat.{_≤_};
-ghost use lib.ListN.{drop};
 ghost use Rattle.base.specs.Limits.{maxFrags};
 ghost use Rattle.base.specs.Put.{put, Run};
+ghost use Rattle.cells.specs.Cell.{readyAs, at};
+ghost use Rattle.cells.specs.Records.{indexOf};
 ghost use Rattle.rows.specs.Rows.{cellsIn};
-ghost use Rattle.slots.specs.Widths.{firstCells, FitTo};
+ghost use Rattle.rows.specs.Whole.{wholeRow};
+ghost use Rattle.recv.specs.Parts.{queueOf};
+ghost use Rattle.recv.specs.Receive.{soundCall};
 ghost use Rattle.recv.specs.Take.{takeOf};
-ghost use Rattle.takes.specs.Outcome.{takeOutcome, takeSaved, takeResult, withRows, KeepsWidths};
+ghost use Rattle.takes.specs.Outcome.{takenRows, earliestTurn, withTurn, takeRowsOf};
 ghost use Rattle.takes.specs.Pieces.{pieceAt, pieceBytes, lengthTo, joinedTo, AllWithin, Takeable, takeTurn};
 
 // Where the body stands: a part of the store, or the front of the joining buffer. Refusals: 9, 20, 12.
@@ -34,87 +36,145 @@ pub enum Take {
     },
 }
 
-// rows: how many records are to be written, all or none.
+// turn: that of the message given, so that its records can be freed; 0 where none is.
 pub struct TakenRows {
     pub answer: Take,
-    pub rows: usize,
+    pub turn: u32,
 }
 
-// Take over the first n rows.
+// Take over the first k rows, which are the first of so many cells' records. They are only read.
 pub fn take_rows(
-    queue: RecvQueue,
-    words: &mut [u32],
-    n: usize,
+    h: Heads,
+    dbits: &[u8],
+    rbits: &[u8],
+    nexts: &[u32],
+    unsent: &[u32],
+    words: &[u32],
+    k: usize,
+    cells: usize,
     store: &[u8],
     joined: &mut [u8],
 ) -> TakenRows
-    ensures { λ r. ⌜ (takeOutcome r (firstCells (r .rows) (now (words .exit)) ++ drop (r .rows) (firstCells n (now (words .entry)))) (now (joined .exit))
-        ≡ takeOf queue (firstCells n (now (words .entry))) (now (store .entry)) (now (joined .entry)))
-        × (r .rows ≡ takeSaved (r .answer) n)
-        × (FitTo n (firstCells n (now (words .entry))) → FitTo (r .rows) (firstCells (r .rows) (now (words .exit)))) ⌝ }
+    ensures { λ r. ⌜ takenRows r (now (joined .exit))
+        ≡ takeRowsOf (queueOf h (now (dbits .entry)) (now (rbits .entry)) (now (nexts .entry)) (now (unsent .entry))) k cells
+        (now (words .entry)) (now (store .entry)) (now (joined .entry)) ⌝ }
 {
-    let m = slots::rows_in(n, words.len());
-    let answer = take_all(queue, &mut words[..ROW * m], store, joined);
-    with_rows(answer, n)
-}
-
-// All n records are to be written, or none.
-fn with_rows(answer: Take, n: usize) -> TakenRows
-    ensures { λ r. ⌜ r ≡ withRows answer n ⌝ }
-{
-    let rows = match answer {
-        Take::NotSound => 0,
-        Take::NoneReady => 0,
-        Take::ShortBuffer => 0,
-        Take::InStore { .. } => n,
-        Take::Joined { .. } => n,
-    };
-    TakenRows { answer, rows }
-}
-
-// Take over all rows.
-fn take_all(queue: RecvQueue, words: &mut [u32], store: &[u8], joined: &mut [u8]) -> Take
-    ensures is { λ r. ⌜ takeResult r (cellsIn (now (words .exit))) (now (joined .exit)) ≡ takeOf queue (cellsIn (now (words .entry))) (now (store .entry)) (now (joined .entry)) ⌝ }
-    ensures fit { λ _. ⌜ KeepsWidths (now (words .entry)) (now (words .exit)) ⌝ }
-{
-    if sound_call::sound_call(queue, words, store) {} else {
-        return Take::NotSound;
+    if sound_call::lengths_fit(cells, store.len()) {} else {
+        return TakenRows {
+            answer: Take::NotSound,
+            turn: 0,
+        };
     }
-    match row_scans::earliest_ready(words) {
-        Earliest::Nothing => Take::NoneReady,
-        Earliest::Turn(turn) => take_turn(words, turn, store, joined),
+    let m = slots::rows_in(k, words.len());
+    if cells < m {
+        return TakenRows {
+            answer: Take::NotSound,
+            turn: 0,
+        };
     }
+    take_part(
+        h,
+        dbits,
+        rbits,
+        nexts,
+        unsent,
+        &words[..ROW * m],
+        &store[..base::CELL_BYTES * m],
+        joined,
+    )
 }
 
-// The ready message of this turn: one body stays in its cell, several are joined in the buffer.
-fn take_turn(words: &mut [u32], turn: u32, store: &[u8], joined: &mut [u8]) -> Take
-    requires { ⌜ Takeable turn (cellsIn (now words)) (now store) ⌝ }
-    ensures is { λ r. ⌜ takeResult r (cellsIn (now (words .exit))) (now (joined .exit)) ≡ takeTurn turn (cellsIn (now (words .entry))) (now (store .entry)) (now (joined .entry)) ⌝ }
-    ensures fit { λ _. ⌜ KeepsWidths (now (words .entry)) (now (words .exit)) ⌝ }
+// Take over all rows and their cells.
+fn take_part(
+    h: Heads,
+    dbits: &[u8],
+    rbits: &[u8],
+    nexts: &[u32],
+    unsent: &[u32],
+    words: &[u32],
+    store: &[u8],
+    joined: &mut [u8],
+) -> TakenRows
+    ensures { λ r. ⌜ takenRows r (now (joined .exit)) ≡ withTurn (earliestTurn (cellsIn (now (words .entry))))
+        (takeOf (queueOf h (now (dbits .entry)) (now (rbits .entry)) (now (nexts .entry)) (now (unsent .entry)))
+        (cellsIn (now (words .entry))) (now (store .entry)) (now (joined .entry))) ⌝ }
 {
-    let i = row_scans::find_ready(words, turn, 0);
+    if is_sound(h, dbits, rbits, nexts, unsent, words, store) {} else {
+        return TakenRows {
+            answer: Take::NotSound,
+            turn: 0,
+        };
+    }
+    let i = row_scans::first_ready(words);
+    if words.len() / ROW <= i {
+        return TakenRows {
+            answer: Take::NoneReady,
+            turn: 0,
+        };
+    }
     let first = rows::whole_row(words, i);
+    take_turn(words, i, first, store, joined)
+}
+
+// "9 slice lengths .. or records unsound". The words have one row for each cell.
+fn is_sound(
+    h: Heads,
+    dbits: &[u8],
+    rbits: &[u8],
+    nexts: &[u32],
+    unsent: &[u32],
+    words: &[u32],
+    store: &[u8],
+) -> bool
+    ensures { λ r. ⌜ r ≡ soundCall (queueOf h (now (dbits .entry)) (now (rbits .entry)) (now (nexts .entry)) (now (unsent .entry)))
+        (cellsIn (now (words .entry))) (now (store .entry)) ⌝ }
+{
+    if sound_call::lengths_fit(words.len() / ROW, store.len()) {} else {
+        return false;
+    }
+    let q = sound_queue::sound_queue(h, dbits, rbits, nexts, unsent);
+    if q.sound {} else {
+        return false;
+    }
+    sound::sound_cells(words, nexts)
+}
+
+// The ready message whose first cell is i: one body stays in its cell, several are joined in the buffer.
+fn take_turn(words: &[u32], i: usize, first: Row, store: &[u8], joined: &mut [u8]) -> TakenRows
+    requires { ⌜ Takeable (first .turn) (cellsIn (now words)) (now store) ⌝ }
+    requires { ⌜ i ≡ indexOf (at (readyAs (first .turn)) 0) (cellsIn (now words)) ⌝ }
+    requires { ⌜ first ≡ wholeRow (now words) i ⌝ }
+    ensures { λ r. ⌜ takenRows r (now (joined .exit))
+        ≡ withTurn (first .turn) (takeTurn (first .turn) (cellsIn (now (words .entry))) (now (store .entry)) (now (joined .entry))) ⌝ }
+{
     if first.count == 1 {
-        row_sweeps::free_ready(words, turn);
-        return Take::InStore {
+        return TakenRows {
+            answer: Take::InStore {
+                kind: first.kind as u8,
+                channel: first.channel as u8,
+                order: first.order,
+                start: i * base::CELL_BYTES,
+                len: first.length as usize,
+            },
+            turn: first.turn,
+        };
+    }
+    let len = joined_length(words, first.turn, first.count);
+    if joined.len() < len {
+        return TakenRows {
+            answer: Take::ShortBuffer,
+            turn: 0,
+        };
+    }
+    join_pieces(words, first.turn, first.count, store, joined);
+    TakenRows {
+        answer: Take::Joined {
             kind: first.kind as u8,
             channel: first.channel as u8,
             order: first.order,
-            start: i * base::CELL_BYTES,
-            len: first.length as usize,
-        };
-    }
-    let len = joined_length(words, turn, first.count);
-    if joined.len() < len {
-        return Take::ShortBuffer;
-    }
-    join_pieces(words, turn, first.count, store, joined);
-    row_sweeps::free_ready(words, turn);
-    Take::Joined {
-        kind: first.kind as u8,
-        channel: first.channel as u8,
-        order: first.order,
-        len,
+            len,
+        },
+        turn: first.turn,
     }
 }
 

@@ -1,12 +1,12 @@
 // Document 01's program `trace`: reads datagrams from standard input, each after a 16-bit big-endian length (a cut last one is skipped), and after
 // each takes all ready messages and empties the acknowledgements. Per datagram one line: its number ('-' for 9, 1, 2, 3), refusal or 0, ready,
 // dropped (both 0 on a refusal); then per message '+' and its length.
-use cells::CellRecord;
 use libc::STDIN_FILENO;
 use libc::STDOUT_FILENO;
-use pass::Receive;
-use recv::RecvQueue;
-use takes::Take;
+use recv_queue::CellRecord;
+use recv_queue::Receive;
+use recv_queue::RecvQueue;
+use recv_queue::Take;
 
 const CELLS: usize = 32;
 
@@ -138,7 +138,7 @@ fn take_all(
 
 fn empty_unsent(queue: RecvQueue) -> RecvQueue {
     let mut out = [0u8; OUT];
-    let r = acks::write_unsent(queue, &mut out);
+    let r = held::write_unsent_held(queue, &mut out);
     let q = r.queue;
     q
 }
@@ -212,7 +212,7 @@ fn main() {
     let mut store = [0u8; STORE];
     let mut joined = [0u8; STORE];
     let mut input = [0u8; 65535];
-    let made = held::make_held(CELLS, &store);
+    let made = held::new_held(CELLS, &store);
     let queue = made.queue;
     let records = made.records;
     run(

@@ -1,2 +1,2 @@
 pub mod MoveCases
-pub mod WithNumber
+pub mod Joined

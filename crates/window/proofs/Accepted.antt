@@ -2,6 +2,7 @@
 -- Assumes nothing.
 use mathlib.Core.Path.{_≡_, _∙_, sym, refl}
 use mathlib.Core.Bool.{Bool, true, false, true≢false}
+use mathlib.Core.List.{List}
 use Prim.Native.Nat.{ℕ, _+_, _-_, _<_, _≤_}
 use native.Mathlib.Decide.{ℕ-discrete, decLt}
 use native.Mathlib.Omega.{arith}
@@ -10,7 +11,7 @@ use Rattle.base.specs.Limits.{windowPlaces}
 use Rattle.base.proofs.Ifs.{true-yes, true-no, le-yes, le-no, eq-yes, eq-no}
 use Rattle.base.specs.Numbers.{behind, distance}
 use Rattle.window.specs.Places.{placeSet}
-use Rattle.window.specs.Window.{accepted}
+use Rattle.window.specs.Window.{windowOf, accepted}
 use Rattle.window.specs.declared.ReliableWindow.{ReliableWindow}
 
 module _ (w : ReliableWindow) (m : ℕ) where
@@ -40,7 +41,7 @@ module _ (w : ReliableWindow) (m : ℕ) where
       let b : windowPlaces < m - w .low = omega arith in
       sym (true-no _ _ _ _ (le-ltb _ _ a) (eq-no _ _ _ _ _ d (le-no _ _ _ _ _ b refl)))
 
--- a number not accepted is not below low; and its place, if it has one, is clear
+-- a number not accepted is not below low
 module _ (w : ReliableWindow) (n : ℕ) where
   pub low-le : accepted w n ≡ false → w .low ≤ n
   low-le t = go (decLt n (w .low))
@@ -49,13 +50,15 @@ module _ (w : ReliableWindow) (n : ℕ) where
       go (yes h) = absurd (true≢false (sym (accepted-below w n h) ∙ t))
       go (no h) = omega arith
 
-  pub not-behind : (b : Bool) → b ≡ accepted w n → b ≡ false → behind (w .low) n ≡ false
-  not-behind b e f = le-ltb _ _ (low-le (sym e ∙ f))
+-- and its place, if it has one, is clear: of a window by its parts, as the code has it
+module _ (low : ℕ) (bits : List ℕ) (n : ℕ) where
+  pub not-behind : (b : Bool) → b ≡ accepted (windowOf low bits) n → b ≡ false → behind low n ≡ false
+  not-behind b e f = le-ltb _ _ (low-le (windowOf low bits) n (sym e ∙ f))
 
-  pub place-clear : accepted w n ≡ false → distance (w .low) n ≤ windowPlaces → (n ≡ w .low → ⊥) → placeSet (w .bits) n ≡ false
+  pub place-clear : accepted (windowOf low bits) n ≡ false → distance low n ≤ windowPlaces → (n ≡ low → ⊥) → placeSet bits n ≡ false
   place-clear t h d =
-      let a : w .low ≤ n = low-le t in
-      sym (accepted-place w n (omega arith) (omega arith)) ∙ t
+      let a : low ≤ n = low-le (windowOf low bits) n t in
+      sym (accepted-place (windowOf low bits) n (omega arith) (omega arith)) ∙ t
 
 -- a fact on m holds if it holds in each of the five zones where m may stand
 pub zones : (P : Type 0) (low m : ℕ) → (m < low → P) → (m ≡ low → P) → (low < m → m < low + windowPlaces → P) → (m ≡ low + windowPlaces → P)

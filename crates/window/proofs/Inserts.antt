@@ -102,7 +102,7 @@ module _ (w : ReliableWindow) (n : ℕ) where
       go (yes e) = rw (accept-is-low e) (advance-keeps-accepted (record { low = following n; bits = w .bits }) m s ∙ after-low w n m e)
       go (no d) =
           let l : w .low ≤ n = low-le w n t in
-          rw (accept-is-place d) (with-place-accepts w n m s (omega arith) k (place-clear w n t (omega arith) d))
+          rw (accept-is-place d) (with-place-accepts w n m s (omega arith) k (place-clear (w .low) (w .bits) n t (omega arith) d))
 
   pub accept-sized : Sized w → Sized (accept w n)
   unfolding setPlace

@@ -14,14 +14,14 @@ use lib.Seq.{getD-append-seam}
 use Rattle.base.specs.If.{ifTrue}
 use Rattle.base.specs.Limits.{numbers24, windowPlaces}
 use Rattle.base.specs.Put.{andThen}
-use Rattle.base.proofs.Ifs.{lt-yes, lt-no}
 use Rattle.window.specs.Places.{placeSet}
 use Rattle.window.specs.Window.{accepted}
-use Rattle.window.specs.Missing.{highest, unlessAccepted, missingOf, missing}
+use Rattle.window.specs.Missing.{highest, unlessAccepted, missingOf, searched, missing}
 use Rattle.window.specs.Proper.{Proper}
 use Rattle.window.specs.declared.ReliableWindow.{ReliableWindow}
 use Rattle.window.proofs.Accepted.{accepted-place, accepted-above, low-le}
 use Rattle.window.proofs.Laws.{low-first, proper-accepted}
+use Rattle.window.proofs.Steps.{least-left, least-right, below-least}
 
 -- ---- the highest accepted number
 module _ (w : ReliableWindow) where
@@ -158,63 +158,41 @@ ascends-of w (suc k) = rw add-suc (go (accepted w (w .low + k)) (ascends-of w k)
 
 -- ---- the missing list
 module _ (w : ReliableWindow) where
-  missing-is : w .low < numbers24 → missing w ≡ missingOf w (highest w windowPlaces)
-  unfolding missing
-  missing-is h = sym (lt-yes _ _ _ _ _ h refl)
-
-  missing-past : numbers24 ≤ w .low → missing w ≡ []
-  unfolding missing
-  missing-past h = sym (lt-no _ _ _ _ _ h refl)
-
-  by-low : (P : List ℕ → Type 0) → (w .low < numbers24 → P (missingOf w (highest w windowPlaces))) → (numbers24 ≤ w .low → P []) → P (missing w)
-  by-low P f g = go (decLt (w .low) numbers24)
-    where
-      go : Dec (w .low < numbers24) → P (missing w)
-      go (yes h) = rw (missing-is h) (f h)
-      go (no h) = let k : numbers24 ≤ w .low = omega arith in rw (missing-past k) (g k)
+  searched-highest : searched w ≤ highest w windowPlaces
+  searched-highest = least-left (highest w windowPlaces) (numbers24 - w .low)
 
   -- m is missing exactly where it was never accepted and some number above it was
   pub missing-member : Proper w → (m : ℕ) → List·Memᴰ m (missing w) ↔ (accepted w m ≡ false) × ((x : ℕ) × (m < x) × (accepted w x ≡ true))
-  missing-member p m =
-      by-low (λ (l : List ℕ). List·Memᴰ m l ↔ (accepted w m ≡ false) × ((x : ℕ) × (m < x) × (accepted w x ≡ true)))
-      (λ h. (λ i. there (member-of w (highest w windowPlaces) m .0 i), λ e. member-of w (highest w windowPlaces) m .1 (back e)))
-      (λ h. (λ i. absurd (List·Memᴰ·not-nil i), λ e. absurd (past h e)))
+  unfolding missing
+  missing-member p m = (λ i. there (member-of w (searched w) m .0 i), λ e. member-of w (searched w) m .1 (back e))
     where
-      there : Lacking w (highest w windowPlaces) m → (accepted w m ≡ false) × ((x : ℕ) × (m < x) × (accepted w x ≡ true))
-      there e = (e .2, (w .low + highest w windowPlaces, e .1, highest-accepted w (omega arith)))
+      there : Lacking w (searched w) m → (accepted w m ≡ false) × ((x : ℕ) × (m < x) × (accepted w x ≡ true))
+      there e = let h = searched-highest in (e .2, (w .low + highest w windowPlaces, omega arith, highest-accepted w (omega arith)))
 
-      back : (accepted w m ≡ false) × ((x : ℕ) × (m < x) × (accepted w x ≡ true)) → Lacking w (highest w windowPlaces) m
+      back : (accepted w m ≡ false) × ((x : ℕ) × (m < x) × (accepted w x ≡ true)) → Lacking w (searched w) m
       back e =
           let l : w .low ≤ m = low-le w m (e .0) in
           let a : e .1 .0 ≤ w .low + highest w windowPlaces = accepted-within-highest w (e .1 .0) (omega arith) (e .1 .2) in
+          let b : e .1 .0 < numbers24 = proper-accepted w p (e .1 .0) (e .1 .2) in
+          let s : m - w .low < searched w = below-least (highest w windowPlaces) (numbers24 - w .low) (m - w .low) (omega arith) (omega arith) in
           (l, omega arith, e .0)
-
-      past : numbers24 ≤ w .low → (accepted w m ≡ false) × ((x : ℕ) × (m < x) × (accepted w x ≡ true)) → ⊥
-      past h e =
-          let l : w .low ≤ m = low-le w m (e .0) in
-          let a : e .1 .0 < numbers24 = proper-accepted w p (e .1 .0) (e .1 .2) in
-          omega arith
 
   -- the missing numbers ascend
   pub missing-ascends : (i j : ℕ) → i < j → j < length (missing w) → getD (missing w) i 0 < getD (missing w) j 0
-  missing-ascends i j h =
-      by-low (λ (l : List ℕ). j < length l → getD l i 0 < getD l j 0)
-      (λ k q. ascends-of w (highest w windowPlaces) .rises i j h q)
-      (λ k q. absurd (not-suc-le-zero q))
+  unfolding missing
+  missing-ascends i j h q = ascends-of w (searched w) .rises i j h q
 
   -- they are at most 2,048
   pub missing-length : length (missing w) ≤ windowPlaces
-  missing-length =
-      by-low (λ (l : List ℕ). length l ≤ windowPlaces)
-      (λ k. omega (arith, length-of w (highest w windowPlaces), highest-within w windowPlaces))
-      (λ k. zero-le)
+  unfolding missing
+  missing-length = omega (arith, length-of w (searched w), searched-highest, highest-within w windowPlaces)
 
-  -- each is below 2^24
-  pub missing-limit : Proper w → (m : ℕ) → List·Memᴰ m (missing w) → m < numbers24
-  missing-limit p m i =
-      let e = missing-member p m .0 i in
-      let a : e .1 .0 < numbers24 = proper-accepted w p (e .1 .0) (e .1 .2) in
-      omega (arith, e .1 .1)
+  -- each is below 2^24, in every window
+  pub missing-limit : (m : ℕ) → List·Memᴰ m (missing w) → m < numbers24
+  unfolding missing
+  missing-limit m i =
+      let e : Lacking w (searched w) m = member-of w (searched w) m .0 i in
+      omega (arith, least-right (highest w windowPlaces) (numbers24 - w .low))
 
   -- none is missing exactly where no number above low is accepted
   pub missing-none : Proper w → missing w ≡ [] ↔ ((x : ℕ) → w .low < x → accepted w x ≡ false)

@@ -1,9 +1,9 @@
 -- What setting or clearing the place of one number does to the places of all.
 -- Assumes nothing.
-use mathlib.Core.Path.{_≡_, _∙_, ap}
+use mathlib.Core.Path.{_≡_, _∙_, sym, ap}
 use mathlib.Core.Bool.{true, false}
 use mathlib.Core.List.{List}
-use Prim.Native.Nat.{ℕ, _+_, _%_, _^_, _<_, _≤_}
+use Prim.Native.Nat.{ℕ, _+_, _-_, _%_, _^_, _<_, _≤_}
 use native.Mathlib.Decide.{ℕ-discrete}
 use native.Mathlib.Nat.{zero-div}
 use native.Mathlib.Omega.{arith}
@@ -11,7 +11,7 @@ use mir.Val.{Fits}
 use mir.Syntax.{w8}
 use lib.Dec.{eqb}
 use lib.ListN.{getD, set, length, getD-replicate}
-use lib.Seq.{getD-set-same, getD-set-other}
+use lib.Seq.{getD-set-same, getD-set-other, set-out}
 use borrow.Author.Tests.{eqb-true, eqb-false}
 use Rattle.base.specs.Limits.{windowPlaces}
 use Rattle.window.specs.Places.{bit, placeByte, placeBit, placeSet, setPlace, clearPlace}
@@ -39,13 +39,34 @@ module _ (bits : List ℕ) (n : ℕ) where
       let d : bit (getD bits (placeByte n) 0) (placeBit n) ≡ 1 → ⊥ = eqb-false _ 1 t in
       omega (arith, bit-small (getD bits (placeByte n) 0) (placeBit n))
 
-  -- the byte that is stored is a byte, with the facts as the code finds them
-  pub set-fits : (at p : ℕ) → placeSet bits n ≡ false → at ≡ placeByte n → p ≡ 2 ^ placeBit n → Fits w8 (getD bits at 0) → Fits w8 (getD bits at 0 + p)
-  set-fits at p t e q f =
-      record { fits = rw (e, q) (bit-fits 8 (getD bits (placeByte n) 0) (placeBit n) (rw e at (f .fits)) (omega arith) (is-clear t)) }
+-- the byte that is stored, with the facts as the code finds them: it is a byte; a place past the end is not stored
+module _ (bits : List ℕ) (n at b : ℕ) (e : at ≡ placeByte n) (f : b ≡ getD bits at 0) where
+  here : b ≡ getD bits (placeByte n) 0
+  here = rw e at f
 
-  pub clear-fits : (at p : ℕ) → placeSet bits n ≡ true → at ≡ placeByte n → p ≡ 2 ^ placeBit n → p ≤ getD bits at 0
-  clear-fits at p t e q = rw (e, q) (bit-le _ _ (is-set t))
+  pub set-fits : placeSet bits n ≡ false → (p : ℕ) → p ≡ 2 ^ placeBit n → Fits w8 b → Fits w8 (b + p)
+  set-fits t p q g =
+      record { fits = rw (here, q) (bit-fits 8 (getD bits (placeByte n) 0) (placeBit n) (rw here at (g .fits)) (omega arith) (is-clear bits n t)) }
+
+  pub clear-fits : placeSet bits n ≡ true → (p : ℕ) → p ≡ 2 ^ placeBit n → p ≤ b
+  clear-fits t p q = rw (here, q) (bit-le _ _ (is-set bits n t))
+
+  pub set-is : (p : ℕ) → p ≡ 2 ^ placeBit n → set bits at (b + p) ≡ setPlace bits n
+  unfolding setPlace
+  set-is p q = rw (here, e, q)
+
+  pub clear-is : (p : ℕ) → p ≡ 2 ^ placeBit n → set bits at (b - p) ≡ clearPlace bits n
+  unfolding clearPlace
+  clear-is p q = rw (here, e, q)
+
+module _ (bits : List ℕ) (n at : ℕ) (past : length bits ≤ at) (e : at ≡ placeByte n) where
+  pub set-past : bits ≡ setPlace bits n
+  unfolding setPlace
+  set-past = sym (set-out bits (placeByte n) _ (rw e at past))
+
+  pub clear-past : bits ≡ clearPlace bits n
+  unfolding clearPlace
+  clear-past = sym (set-out bits (placeByte n) _ (rw e at past))
 
 module _ (bits : List ℕ) (n : ℕ) (long : length bits ≡ 256) where
   store-same : (v : ℕ) → placeSet (set bits (placeByte n) v) n ≡ eqb (bit v (placeBit n)) 1

@@ -4,18 +4,19 @@ use mathlib.Core.Path.{_≡_, _∙_, sym, ap, refl}
 use mathlib.Core.Bool.{Bool, true, false}
 use mathlib.Core.List.{List, [], _∷_}
 use Prim.Native.Nat.{ℕ, zero, suc, _+_, _-_, _<_, _≤_}
-use native.Mathlib.Nat.{not-suc-le-zero}
+use native.Mathlib.Nat.{le-refl, not-suc-le-zero}
 use native.Mathlib.Numerals.{add-one, sub-one}
 use native.Mathlib.Omega.{arith}
 use Rattle.base.specs.If.{ifTrue}
 use Rattle.base.specs.Limits.{numbers24, windowPlaces}
 use Rattle.base.specs.Put.{Run}
-use Rattle.base.proofs.Ifs.{eq-yes, lt-yes, lt-no, by-yes, by-no}
+use Rattle.base.proofs.Ifs.{eq-yes, eq-no, by-yes, by-no}
+use Rattle.base.proofs.IfCases.{le-both}
 use Rattle.base.proofs.Puts.{run-none, run-then}
 use Rattle.base.specs.Numbers.{following, ahead}
-use Rattle.window.specs.Places.{placeSet}
-use Rattle.window.specs.Window.{accepted, advance, passed, accept, give}
-use Rattle.window.specs.Missing.{highest, unlessAccepted, missingOf, missing}
+use Rattle.window.specs.Places.{placeSet, setPlace, clearPlace}
+use Rattle.window.specs.Window.{windowOf, accepted, advance, accept, give}
+use Rattle.window.specs.Missing.{least, highest, unlessAccepted, missingOf, searched, missing}
 use Rattle.window.specs.declared.ReliableWindow.{ReliableWindow}
 
 -- ---- low moves past accepted numbers: the loop ends with no turn left, or at a clear place; a set place is passed
@@ -28,19 +29,20 @@ unfolding advance ifTrue
 advance-clear zero w t b p q e = e
 advance-clear (suc k) w t b p q e = rw (sym p ∙ q) at e
 
-pub advance-set : (k : ℕ) (w v t : ReliableWindow) (b : Bool) → 0 < k → b ≡ placeSet (w .bits) (w .low) → b ≡ true → v ≡ passed w
-    → advance k w ≡ t → advance (k - 1) v ≡ t
+pub advance-set : (k n m : ℕ) (bits cleared : List ℕ) (t : ReliableWindow) (b : Bool) → 0 < k → b ≡ placeSet bits n → b ≡ true
+    → cleared ≡ clearPlace bits n → m ≡ following n → advance k (windowOf n bits) ≡ t → advance (k - 1) (windowOf m cleared) ≡ t
 unfolding advance ifTrue
-advance-set zero w v t b z p q d e = absurd (not-suc-le-zero z)
-advance-set (suc k) w v t b z p q d e = rw (d, sub-one) (rw (sym p ∙ q) at e)
-
-pub passed-low : (k m : ℕ) (w v : ReliableWindow) → 0 < k → v ≡ passed w → w .low + k ≤ m → v .low + (k - 1) ≤ m
-passed-low k m w v z d h = let e : v .low ≡ w .low + 1 = ap (λ (x : ReliableWindow). x .low) d in omega arith
+advance-set zero n m bits cleared t b z p q c f e = absurd (not-suc-le-zero z)
+advance-set (suc k) n m bits cleared t b z p q c f e = rw (c, f, sub-one) (rw (sym p ∙ q) at e)
 
 -- ---- a number is accepted
 pub accept-low : (w v : ReliableWindow) (n a : ℕ) → n ≡ w .low → a ≡ following n → v ≡ advance windowPlaces (record { low = a; bits = w .bits }) → v ≡ accept w n
 unfolding accept
 accept-low w v n a h e f = eq-yes _ _ _ _ _ h (rw e at f)
+
+pub accept-above : (low n : ℕ) (bits m : List ℕ) → (n ≡ low → ⊥) → m ≡ setPlace bits n → windowOf low m ≡ accept (windowOf low bits) n
+unfolding accept
+accept-above low n bits m h e = eq-no _ _ _ _ _ h (ap (windowOf low) e)
 
 pub give-same : (v u : ReliableWindow) → v ≡ u → give v ≡ give u
 give-same v u e = ap give e
@@ -62,7 +64,18 @@ unfolding highest ifTrue
 scan-clear zero w t n b z a p q e = absurd (not-suc-le-zero z)
 scan-clear (suc k) w t n b z a p q e = rw sub-one (rw (ap (placeSet (w .bits)) (sym a) ∙ sym p ∙ q) at e)
 
--- ---- the missing numbers, one after another, up to the highest; none where low is past the limit
+-- ---- the smaller of two numbers
+module _ (a b : ℕ) where
+  pub least-left : least a b ≤ a
+  least-left = le-both (λ (r : ℕ). r ≤ a) a b a b (λ h. le-refl a) (λ h. omega arith)
+
+  pub least-right : least a b ≤ b
+  least-right = le-both (λ (r : ℕ). r ≤ b) a b a b (λ h. h) (λ h. le-refl b)
+
+  pub below-least : (m : ℕ) → m < a → m < b → m < least a b
+  below-least m h k = le-both (λ (r : ℕ). m < r) a b a b (λ l. h) (λ l. k)
+
+-- ---- the missing numbers, one after another, up to the highest and below the limit; none where low is past it
 pub run-accepted : (w : ReliableWindow) (n : ℕ) (b : Bool) (p : ℕ) (l : List ℕ) → b ≡ accepted w n → b ≡ true → Run p (unlessAccepted w n) l p l
 unfolding unlessAccepted
 run-accepted w n b p l e t = run-none p _ l (sym (by-yes _ b _ _ _ e t refl))
@@ -77,13 +90,14 @@ pub run-next : (w : ReliableWindow) (k n : ℕ) (l : List ℕ) (q : ℕ) (L : Li
 unfolding missingOf
 run-next w k n l q L r M b e a = rw add-one (run-then 0 (missingOf w k) _ l q L r M a (rw e at b))
 
-pub run-end : (w : ReliableWindow) (k h : ℕ) (l : List ℕ) (q : ℕ) (L : List ℕ) → w .low < numbers24 → h ≡ highest w windowPlaces → k ≤ h → h ≤ k
-    → Run 0 (missingOf w k) l q L → Run 0 (missing w) l q L
+pub run-end : (w : ReliableWindow) (k h e : ℕ) (l : List ℕ) (q : ℕ) (L : List ℕ) → h ≡ highest w windowPlaces → e ≡ least h (numbers24 - w .low)
+    → k ≤ e → e ≤ k → Run 0 (missingOf w k) l q L → Run 0 (missing w) l q L
 unfolding missing
-run-end w k h l q L i e a b r =
-    let d : k ≡ highest w windowPlaces = omega arith in
-    rw (lt-yes (w .low) numbers24 (missingOf w k) (missingOf w (highest w windowPlaces)) [] i (ap (missingOf w) d)) at r
+run-end w k h e l q L f g a b r = let d : k ≡ e = omega arith in (rw (d, g, f) at r)
 
 pub run-past-limit : (w : ReliableWindow) (l : List ℕ) → numbers24 ≤ w .low → Run 0 (missing w) l 0 l
-unfolding missing
-run-past-limit w l h = run-none 0 _ l (sym (lt-no _ _ _ _ _ h refl))
+unfolding missing missingOf
+run-past-limit w l h =
+    let z : searched w ≤ numbers24 - w .low = least-right (highest w windowPlaces) (numbers24 - w .low) in
+    let n : searched w ≡ 0 = omega arith in
+    run-none 0 _ l (ap (missingOf w) n)

@@ -1,13 +1,17 @@
 -- Document 01: "Missing numbers are the datagram numbers never accepted below the highest accepted; none before the first."
-use Prim.Native.Nat.{ℕ, zero, suc}
+use Prim.Native.Nat.{ℕ, zero, suc, _-_}
 use mathlib.Core.List.{List, [], _∷_}
-use Rattle.base.specs.If.{ifTrue, ifLt}
+use Rattle.base.specs.If.{ifTrue, ifLe}
 use Rattle.base.specs.Limits.{numbers24, windowPlaces}
 use Rattle.base.specs.Put.{andThen}
 use Rattle.base.specs.Numbers.{ahead}
 use Rattle.window.specs.Places.{placeSet}
 use Rattle.window.specs.Window.{accepted}
 use Rattle.window.specs.declared.ReliableWindow.{ReliableWindow}
+
+-- the smaller of two numbers
+abbrev pub least : ℕ → ℕ → ℕ
+least a b = ifLe a b a b
 
 -- how far above low the highest accepted number stands, of those up to k above it; 0 where none of their places is set
 unfoldable pub highest : ReliableWindow → ℕ → ℕ
@@ -23,6 +27,10 @@ unfoldable pub missingOf : ReliableWindow → ℕ → List ℕ
 missingOf w zero = []
 missingOf w (suc k) = andThen (missingOf w k) (unlessAccepted w (ahead (w .low) k))
 
--- numbers of 2^24 or more are no datagram numbers: where low is such a one, none is missing
+-- how many numbers from low on may be missing: those below the highest accepted. Numbers of 2^24 or more are no datagram numbers and are
+-- never named, not even where low is one or a place beyond is set.
+abbrev pub searched : ReliableWindow → ℕ
+searched w = least (highest w windowPlaces) (numbers24 - w .low)
+
 unfoldable pub missing : ReliableWindow → List ℕ
-missing w = ifLt (w .low) numbers24 (missingOf w (highest w windowPlaces)) []
+missing w = missingOf w (searched w)

@@ -2,6 +2,7 @@
 -- is one value with its bits inside it: 2,048 places above the lowest missing number, all clear at first".
 use Prim.Native.Nat.{ℕ, zero, suc}
 use mathlib.Core.Bool.{Bool, true, false}
+use mathlib.Core.List.{List}
 use lib.ListN.{replicate}
 use Rattle.base.specs.Answer.{Answer, refused, gives}
 use Rattle.base.specs.If.{ifTrue, ifLt, ifLe, ifEq}
@@ -12,6 +13,11 @@ use Rattle.window.specs.declared.ReliableWindow.{ReliableWindow}
 use Rattle.window.specs.declared.Insert.{Insert}
 use Rattle.window.specs.declared.Insert.the-variants.{Accepted, TooLarge, Old, Beyond}
 use Rattle.window.specs.declared.Inserted.{Inserted}
+use Rattle.window.specs.declared.InsertedLow.{InsertedLow}
+
+-- the window of a low number and bits that stand apart
+abbrev pub windowOf : ℕ → List ℕ → ReliableWindow
+windowOf low bits = record { low = low; bits = bits }
 
 -- "all clear at first"
 unfoldable pub newWindow : ReliableWindow
@@ -71,3 +77,7 @@ insertAnswer Beyond = refused 5
 
 abbrev pub insertion : Inserted → Insertion
 insertion r = record { answer = insertAnswer (r .answer); window = r .window }
+
+-- the same, of an insert into lent bits
+abbrev pub insertedIn : InsertedLow → List ℕ → Insertion
+insertedIn r bits = record { answer = insertAnswer (r .answer); window = windowOf (r .low) bits }

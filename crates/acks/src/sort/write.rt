@@ -1,96 +1,92 @@
-// The two writings.
+// The writing of either list, of a receiver by its parts.
 use super::super::WriteQueue;
-use super::super::WroteQueue;
 use ack::WriteAck;
-use recv::RecvQueue;
-use window::ReliableWindow;
+use recv::Heads;
 ghost use mathlib.Core.Path.{_≡_};
 ghost use mathlib.Core.Bool.{true, false};
-ghost use Prim.Native.Nat.{_≤_};
+ghost use Prim.Native.Nat.{_≤_, min};
 ghost use lib.ListN.{length, take};
-ghost use Rattle.base.specs.Limits.{windowPlaces};
+ghost use Rattle.base.specs.Limits.{windowPlaces, maxUnsent};
+ghost use Rattle.window.specs.Window.{windowOf};
 ghost use Rattle.window.specs.Missing.{missing};
 ghost use Rattle.ack.specs.Write.{writeListOf, writtenOf};
-ghost use Rattle.recv.specs.Write.{sorted, writeUnsentOf, writeMissingOf};
-ghost use Rattle.acks.specs.Wrote.{Sendable, afterSending, queueAnswer, wrote};
+ghost use Rattle.recv.specs.Parts.{queueOf};
+ghost use Rattle.recv.specs.Write.{sorted};
+ghost use Rattle.acks.specs.Wrote.{Sendable, queueAnswer, output, outputOf, writingOf};
 
-// The unsent as ACK.
-pub fn write_unsent(queue: RecvQueue, out: &mut [u8]) -> WroteQueue
-    ensures { λ r. ⌜ wrote r (now (out .exit)) ≡ writeUnsentOf queue (now (out .entry)) ⌝ }
+// The missing as NACK where so, else the unsent as ACK: straight from their place where they ascend, as those that receive keeps do.
+pub fn list_written(
+    h: Heads,
+    dbits: &[u8],
+    rbits: &[u8],
+    nexts: &[u32],
+    unsent: &[u32],
+    nack: bool,
+    out: &mut [u8],
+) -> WriteQueue
+    ensures { λ r. ⌜ output r (now (out .exit))
+        ≡ outputOf (writingOf nack (queueOf h (now (dbits .entry)) (now (rbits .entry)) (now (nexts .entry)) (now (unsent .entry))) (now (out .entry))) ⌝ }
 {
-    if sound_queue::sound_queue(queue) {} else {
-        return WroteQueue {
-            answer: WriteQueue::Unsound,
-            queue: queue,
-        };
+    let q = sound_queue::sound_queue(h, dbits, rbits, nexts, unsent);
+    if q.sound {} else {
+        return WriteQueue::Unsound;
     }
-    let mut unsent = queue.unsent;
-    let pending = queue.pending as usize;
-    let answer = write_sorted(out, &mut unsent, pending);
-    let q = after_sending(queue, answer);
-    WroteQueue {
-        answer: answer,
-        queue: q,
+    if nack {
+        return write_missing(out, h.datagrams, dbits);
     }
+    let m = smaller(h.pending as usize, unsent.len());
+    if q.ascending {
+        return write_first(out, false, unsent, m);
+    }
+    write_copied(out, unsent, m)
 }
 
-// Sending empties the unsent.
-fn after_sending(queue: RecvQueue, answer: WriteQueue) -> RecvQueue
-    ensures { λ r. ⌜ r ≡ afterSending (queueAnswer answer) queue ⌝ }
+fn smaller(a: usize, b: usize) -> usize
+    ensures { λ r. ⌜ r ≡ min a b ⌝ }
 {
-    match answer {
-        WriteQueue::Written { len: _ } => {
-            let mut q = queue;
-            q.pending = 0;
-            return q;
-        }
-        WriteQueue::Unsound => {
-            return queue;
-        }
-        WriteQueue::NoRoom => {
-            return queue;
-        }
-    }
+    if a < b { a } else { b }
 }
 
-// The missing as NACK.
-pub fn write_missing(queue: RecvQueue, out: &mut [u8]) -> WroteQueue
-    ensures { λ r. ⌜ wrote r (now (out .exit)) ≡ writeMissingOf queue (now (out .entry)) ⌝ }
-{
-    if sound_queue::sound_queue(queue) {} else {
-        return WroteQueue {
-            answer: WriteQueue::Unsound,
-            queue: queue,
-        };
-    }
-    let datagrams = queue.datagrams;
-    let mut list = [0u32; base::MAX_LIST];
-    let answer = write_missing_of(out, datagrams, &mut list);
-    WroteQueue {
-        answer: answer,
-        queue: queue,
-    }
-}
-
-// The first m numbers, sorted, as ACK.
-fn write_sorted(out: &mut [u8], numbers: &mut [u32], m: usize) -> WriteQueue
+// The first m numbers, sorted in a copy, as ACK. The array is made here alone, so that a call which needs no copy makes none.
+fn write_copied(out: &mut [u8], numbers: &[u32], m: usize) -> WriteQueue
     requires { ⌜ m ≤ length (now numbers) ⌝ }
     requires { ⌜ Sendable (sorted (take m (now numbers))) ⌝ }
+    requires { ⌜ m ≤ maxUnsent ⌝ }
     ensures { λ r. ⌜ queueAnswer r ≡ writeListOf (length (now (out .entry))) false (sorted (take m (now (numbers .entry)))) ⌝ }
     ensures { λ r. ⌜ now (out .exit) ≡ writtenOf (now (out .entry)) false (sorted (take m (now (numbers .entry)))) ⌝ }
 {
-    super::sort(&mut numbers[..m]);
-    write_first(out, false, numbers, m)
+    let mut copy = [0u32; 1024];
+    write_sorted(out, numbers, m, &mut copy)
 }
 
-// The window's missing numbers, through a list with room for all of them, as NACK.
-fn write_missing_of(out: &mut [u8], w: ReliableWindow, list: &mut [u32]) -> WriteQueue
-    requires { ⌜ windowPlaces ≤ length (now list) ⌝ }
-    requires { ⌜ Sendable (missing w) ⌝ }
-    ensures { λ r. ⌜ queueAnswer r ≡ writeListOf (length (now (out .entry))) true (missing w) ⌝ }
-    ensures { λ r. ⌜ now (out .exit) ≡ writtenOf (now (out .entry)) true (missing w) ⌝ }
+// The same, in a list with room for them.
+fn write_sorted(out: &mut [u8], numbers: &[u32], m: usize, list: &mut [u32]) -> WriteQueue
+    requires { ⌜ m ≤ length (now numbers) ⌝ }
+    requires { ⌜ Sendable (sorted (take m (now numbers))) ⌝ }
+    requires { ⌜ m ≤ length (now list) ⌝ }
+    ensures { λ r. ⌜ queueAnswer r ≡ writeListOf (length (now (out .entry))) false (sorted (take m (now (numbers .entry)))) ⌝ }
+    ensures { λ r. ⌜ now (out .exit) ≡ writtenOf (now (out .entry)) false (sorted (take m (now (numbers .entry)))) ⌝ }
 {
-    let m = w.missing(list);
+    super::sort_copy(&mut list[..m], &numbers[..m]);
+    write_first(out, false, list, m)
+}
+
+// A window's missing numbers as NACK.
+fn write_missing(out: &mut [u8], low: u32, bits: &[u8]) -> WriteQueue
+    ensures { λ r. ⌜ queueAnswer r ≡ writeListOf (length (now (out .entry))) true (missing (windowOf low (now (bits .entry)))) ⌝ }
+    ensures { λ r. ⌜ now (out .exit) ≡ writtenOf (now (out .entry)) true (missing (windowOf low (now (bits .entry)))) ⌝ }
+{
+    let mut list = [0u32; base::MAX_LIST];
+    write_missing_of(out, low, bits, &mut list)
+}
+
+// The same, through a list with room for all of them.
+fn write_missing_of(out: &mut [u8], low: u32, bits: &[u8], list: &mut [u32]) -> WriteQueue
+    requires { ⌜ windowPlaces ≤ length (now list) ⌝ }
+    ensures { λ r. ⌜ queueAnswer r ≡ writeListOf (length (now (out .entry))) true (missing (windowOf low (now (bits .entry)))) ⌝ }
+    ensures { λ r. ⌜ now (out .exit) ≡ writtenOf (now (out .entry)) true (missing (windowOf low (now (bits .entry)))) ⌝ }
+{
+    let m = window::missing_in(low, bits, list);
     write_first(out, true, list, m)
 }
 

@@ -1,55 +1,32 @@
-use Prim.Native.Nat.{_≤_, _-_}
-use lib.ListN.{length, take}
+use Rattle.base.proofs.Puts.{run-past, part-count, part-same, part-run}
 use borrow.Author.Needs.{needs}
-use Rattle.base.specs.Put.{Run}
-use Rattle.base.proofs.Puts.{run-none, body-step, run-long, body-end}
 use Rattle.base.proofs.put_bytes.Statement.{statement}
 use Rattle.base.proofs.put_bytes.Tie as tie
-use Rattle.base.proofs.put_bytes.Reads as reads
-use Rattle.base.proofs.put_bytes.Lts as lts
-use Rattle.base.proofs.put8.Reads as put8-reads
 
-abbrev Inv-loop : tie.InvT-loop
-Inv-loop out₀ p body q₀ i₀ out q i = (i ≤ length body) × Run p (take i body) out₀ q out
+returns : tie.Need-returns
+returns c = search (needs, run-past)
 
-abbrev μ-loop : tie.MeasureT-loop
-μ-loop out₀ p body q₀ i₀ out q i = length body - i
+slice-aggregate-copy-all : tie.Need-slice-aggregate-copy-all
+slice-aggregate-copy-all c = search (needs, part-count)
 
-loop-holds : tie.Need-loop-holds Inv-loop μ-loop
-loop-holds c = search (needs, run-none)
+copy-all-requires : tie.Need-copy-all-requires
+copy-all-requires c κs = search (needs, part-same)
 
-shared-slice-read-b : tie.Need-shared-slice-read-b Inv-loop μ-loop
-shared-slice-read-b c = search needs
-
-put8-requires : tie.Need-put8-requires Inv-loop μ-loop
-put8-requires c κs = search needs
-
-add-i : tie.Need-add-i Inv-loop μ-loop
-add-i c = search needs
-
-loop-less : tie.Need-loop-less Inv-loop μ-loop
-loop-less c = search needs
-
-loop-again : tie.Need-loop-again Inv-loop μ-loop
-loop-again c = search (needs, body-step)
-
-same-length : tie.Need-same-length Inv-loop μ-loop
-same-length c = search (needs, run-long)
-
-returns : tie.Need-returns Inv-loop μ-loop
-returns c = search (needs, body-end)
+returns-2 : tie.Need-returns-2
+returns-2 c = search (needs, part-run)
 
 pub put-bytes-spec : {M : Type 1} → statement M
 put-bytes-spec =
     tie.close
     (tie.spec
-    Inv-loop
-    μ-loop
-    loop-holds
-    shared-slice-read-b
-    put8-requires
-    add-i
-    loop-less
-    loop-again
-    same-length
-    returns)
+    returns
+    (λ c. search needs)
+    (λ c κs. search needs)
+    (λ c. search needs)
+    (λ c. search needs)
+    (λ c. search needs)
+    (λ c. search needs)
+    slice-aggregate-copy-all
+    copy-all-requires
+    (λ c. search needs)
+    returns-2)

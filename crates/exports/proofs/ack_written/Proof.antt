@@ -1,45 +1,17 @@
-use Rattle.exports.specs.Numbers.{numbered}
-use Rattle.exports.proofs.Told.{written}
+use Rattle.exports.proofs.Told.{ack-case}
 use borrow.Author.Needs.{needs}
 use Rattle.exports.proofs.ack_written.Statement.{statement}
 use Rattle.exports.proofs.ack_written.Tie as tie
-
-enum-known-answer : tie.Need-enum-known-answer
-enum-known-answer c = search needs
-
-enum-told : tie.Need-enum-told
-enum-told c = search needs
-
-enum-told-2 : tie.Need-enum-told-2
-enum-told-2 c = search needs
-
-enum-told-3 : tie.Need-enum-told-3
-enum-told-3 c = search needs
-
-returns : tie.Need-returns
-returns c = search (needs, written)
-
-returns-2 : tie.Need-returns-2
-unfolding numbered
-returns-2 c = search needs
-
-returns-3 : tie.Need-returns-3
-unfolding numbered
-returns-3 c = search needs
-
-returns-4 : tie.Need-returns-4
-unfolding numbered
-returns-4 c = search needs
 
 pub ack-written-spec : {M : Type 1} → statement M
 ack-written-spec =
     tie.close
     (tie.spec
-    enum-known-answer
-    enum-told
-    enum-told-2
-    enum-told-3
-    returns
-    returns-2
-    returns-3
-    returns-4)
+    (λ c. search needs)
+    (λ c. search needs)
+    (λ c. search needs)
+    (λ c. search needs)
+    (λ c. search (needs, ack-case))
+    (λ c. search (needs, ack-case))
+    (λ c. search (needs, ack-case))
+    (λ c. search (needs, ack-case)))

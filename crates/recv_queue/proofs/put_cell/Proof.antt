@@ -13,7 +13,7 @@ same-length : tie.Need-same-length
 same-length c = search needs
 
 returns : tie.Need-returns
-returns c = (search (needs, put-row-is), search needs)
+returns c = search (needs, put-row-is)
 
 pub put-cell-spec : {M : Type 1} → statement M
 put-cell-spec = tie.close (tie.spec row-of-requires put-row-requires same-length returns)

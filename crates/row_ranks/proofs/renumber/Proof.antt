@@ -12,7 +12,4 @@ renumber-spec = tie.close (tie.spec
     (λ c κs. search needs)
     (λ c. search needs)
     (λ c. search needs)
-    (λ c κs. search needs)
-    (λ c. search needs)
-    (λ c. search needs)
-    (λ c. (renumber-none _ (c .if3 .left), refl)))
+    (λ c. (renumber-none _ (c .if2 .left), refl)))

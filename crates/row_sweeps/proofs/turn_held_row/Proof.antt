@@ -1,5 +1,6 @@
 use borrow.Author.Needs.{needs}
-use Rattle.row_sweeps.proofs.Sweeps.{changes, stays}
+use Rattle.cells.specs.Cell.{heldAs, bears}
+use Rattle.row_sweeps.proofs.Sweeps.{changes, tells, stays}
 use Rattle.row_sweeps.proofs.turn_held_row.Statement.{statement}
 use Rattle.row_sweeps.proofs.turn_held_row.Tie as tie
 
@@ -13,6 +14,11 @@ turn-held-row-spec = tie.close (tie.spec
     (λ c.
     let put = c .before .before in
     let test = put .before .before .before in
-    changes _ _ _ _ (test .before .before .whole-row .ensures) (test .before .is-held .ensures) (test .if1 .taken) (put .before .mark-row .ensures) (put .put-row .ensures))
+    let row = test .before .before .whole-row .ensures in
+    let held = test .before .is-held .ensures in
+    (tells (bears (heldAs _ _)) row held (test .if1 .taken), changes _ _ _ _ row held (test .if1 .taken) (put .before .mark-row .ensures) (put .put-row .ensures)))
     (λ c. search needs)
-    (λ c. stays _ _ _ _ (c .before .before .whole-row .ensures) (c .before .is-held .ensures) (c .if1 .left)))
+    (λ c.
+    let row = c .before .before .whole-row .ensures in
+    let held = c .before .is-held .ensures in
+    (tells (bears (heldAs _ _)) row held (c .if1 .left), stays _ _ _ _ row held (c .if1 .left))))

@@ -1,6 +1,6 @@
 use borrow.Author.Needs.{needs}
 use Rattle.base.proofs.Ifs.{ifs}
-use Rattle.slots.specs.Widths.{rowsIn}
+use Rattle.slots.specs.First.{rowsIn}
 use Rattle.slots.proofs.rows_in.Statement.{statement}
 use Rattle.slots.proofs.rows_in.Tie as tie
 

@@ -5,17 +5,17 @@ use native.Mathlib.Omega.{arith}
 use Rattle.base.specs.Lists.{every}
 use Rattle.rows.specs.Rows.{cellsIn}
 use Rattle.rows.proofs.Below.{cellsBelow}
-use Rattle.recv.specs.Queue.{nextIn}
+use Rattle.recv.specs.Parts.{nextAt}
 use Rattle.sound.specs.Counted.{countedCell}
 use Rattle.sound.proofs.Scans.{every-none, every-pass, every-fail, sound-end, sound-fail}
 use Rattle.sound.proofs.by_pairs.Statement.{statement}
 use Rattle.sound.proofs.by_pairs.Tie as tie
 
 abbrev Inv-loop : tie.InvT-loop
-Inv-loop words channels n i₀ i = (i ≤ n) × (true ≡ every (countedCell (cellsIn words) (nextIn channels)) (cellsBelow words i))
+Inv-loop words nexts n i₀ i = (i ≤ n) × (true ≡ every (countedCell (cellsIn words) (nextAt nexts)) (cellsBelow words i))
 
 abbrev μ-loop : tie.MeasureT-loop
-μ-loop words channels n i₀ i = n - i
+μ-loop words nexts n i₀ i = n - i
 
 pub by-pairs-spec : {M : Type 1} → statement M
 by-pairs-spec = tie.close (tie.spec

@@ -2,6 +2,7 @@ use mathlib.Core.Path.{_≡_}
 use Prim.Native.Nat.{_≤_, _-_}
 use lib.ListN.{length, drop}
 use Rattle.base.specs.Lists.{every}
+use Rattle.window.specs.Window.{windowOf}
 use Rattle.sound_queue.specs.Sound.{soundNumber}
 use Rattle.recv.proofs.Parts.{every-not, every-further, every-yes}
 use borrow.Author.Needs.{needs}
@@ -9,10 +10,11 @@ use Rattle.sound_queue.proofs.each_sound.Statement.{statement}
 use Rattle.sound_queue.proofs.each_sound.Tie as tie
 
 abbrev Inv-loop : tie.InvT-loop
-Inv-loop w numbers i₀ i = (i ≤ length numbers) × (every (soundNumber w) (drop i numbers) ≡ every (soundNumber w) numbers)
+Inv-loop low bits numbers i₀ i =
+    (i ≤ length numbers) × (every (soundNumber (windowOf low bits)) (drop i numbers) ≡ every (soundNumber (windowOf low bits)) numbers)
 
 abbrev μ-loop : tie.MeasureT-loop
-μ-loop w numbers i₀ i = length numbers - i
+μ-loop low bits numbers i₀ i = length numbers - i
 
 loop-holds : tie.Need-loop-holds Inv-loop μ-loop
 loop-holds c = search needs

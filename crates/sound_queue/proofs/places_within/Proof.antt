@@ -1,6 +1,7 @@
 use mathlib.Core.Path.{_≡_}
 use Prim.Native.Nat.{_≤_}
 use Rattle.base.specs.Limits.{windowPlaces}
+use Rattle.window.specs.Window.{windowOf}
 use Rattle.recv.specs.Queue.{placesWithin}
 use Rattle.sound_queue.proofs.SoundCases.{places-done, places-not, places-further}
 use borrow.Author.Needs.{needs}
@@ -8,10 +9,10 @@ use Rattle.sound_queue.proofs.places_within.Statement.{statement}
 use Rattle.sound_queue.proofs.places_within.Tie as tie
 
 abbrev Inv-loop : tie.InvT-loop
-Inv-loop w low k₀ k = (k ≤ windowPlaces) × (placesWithin w k ≡ placesWithin w windowPlaces)
+Inv-loop low bits k₀ k = (k ≤ windowPlaces) × (placesWithin (windowOf low bits) k ≡ placesWithin (windowOf low bits) windowPlaces)
 
 abbrev μ-loop : tie.MeasureT-loop
-μ-loop w low k₀ k = k
+μ-loop low bits k₀ k = k
 
 loop-holds : tie.Need-loop-holds Inv-loop μ-loop
 loop-holds c = search needs

@@ -3,8 +3,8 @@ use borrow.Author.Needs.{needs}
 use Rattle.sound_queue.proofs.sound_number.Statement.{statement}
 use Rattle.sound_queue.proofs.sound_number.Tie as tie
 
-accepted-requires : tie.Need-accepted-requires
-accepted-requires c κs = search needs
+accepted-in-requires : tie.Need-accepted-in-requires
+accepted-in-requires c κs = search needs
 
 returns : tie.Need-returns
 returns c = search (needs, number-below)
@@ -13,4 +13,4 @@ returns-2 : tie.Need-returns-2
 returns-2 c = search (needs, number-over)
 
 pub sound-number-spec : {M : Type 1} → statement M
-sound-number-spec = tie.close (tie.spec accepted-requires returns returns-2)
+sound-number-spec = tie.close (tie.spec accepted-in-requires returns returns-2)

@@ -14,23 +14,8 @@ abbrev μ-loop : tie.MeasureT-loop
 loop-holds : tie.Need-loop-holds Inv-loop μ-loop
 loop-holds c = search (needs, passed-none)
 
-read-frame-requires : tie.Need-read-frame-requires Inv-loop μ-loop
-read-frame-requires c κs = search needs
-
-enum-told : tie.Need-enum-told Inv-loop μ-loop
-enum-told c = search needs
-
-bytes-left-requires : tie.Need-bytes-left-requires Inv-loop μ-loop
-bytes-left-requires c κs = search needs
-
 returns : tie.Need-returns Inv-loop μ-loop
 returns c = search (needs, passed-all)
-
-enum-known-next : tie.Need-enum-known-next Inv-loop μ-loop
-enum-known-next c = search needs
-
-add-count : tie.Need-add-count Inv-loop μ-loop
-add-count c = search needs
 
 loop-less : tie.Need-loop-less Inv-loop μ-loop
 loop-less c = search (needs, passed-less)
@@ -45,11 +30,11 @@ read-frames-spec =
     Inv-loop
     μ-loop
     loop-holds
-    read-frame-requires
-    enum-told
-    bytes-left-requires
+    (λ c κs. search needs)
+    (λ c. search needs)
+    (λ c κs. search needs)
     returns
-    enum-known-next
-    add-count
+    (λ c. search needs)
+    (λ c. search needs)
     loop-less
     loop-again)

@@ -1,22 +1,23 @@
+use native.Mathlib.Omega.{arith}
 use Rattle.base.proofs.Ifs.{true-yes, ifs}
 use borrow.Author.Needs.{needs}
 use Rattle.frame.proofs.read.meta_at.Statement.{statement}
 use Rattle.frame.proofs.read.meta_at.Tie as tie
 
-be32-at-requires : tie.Need-be32-at-requires
-be32-at-requires c κs = search needs
+read32-requires : tie.Need-read32-requires
+read32-requires c κs = omega (arith, c .before .before .pre (c .if1 .taken))
 
-add-be16-at : tie.Need-add-be16-at
-add-be16-at c = search needs
+add-read16 : tie.Need-add-read16
+add-read16 c = omega (arith, c .before .before .before .pre (c .before .if1 .taken))
 
-be16-at-requires : tie.Need-be16-at-requires
-be16-at-requires c κs = search needs
+read16-requires : tie.Need-read16-requires
+read16-requires c κs = omega (arith, c .before .before .before .pre (c .before .if1 .taken))
 
-add-be32-at : tie.Need-add-be32-at
-add-be32-at c = search needs
+add-read32 : tie.Need-add-read32
+add-read32 c = omega (arith, c .before .before .before .before .pre (c .before .before .if1 .taken))
 
-be32-at-requires-2 : tie.Need-be32-at-requires-2
-be32-at-requires-2 c κs = search needs
+read32-requires-2 : tie.Need-read32-requires-2
+read32-requires-2 c κs = omega (arith, c .before .before .before .before .pre (c .before .before .if1 .taken))
 
 returns : tie.Need-returns
 returns c = true-yes _ _ _ _ (search needs) (cc)
@@ -28,10 +29,10 @@ pub meta-at-spec : {M : Type 1} → statement M
 meta-at-spec =
     tie.close
     (tie.spec
-    be32-at-requires
-    add-be16-at
-    be16-at-requires
-    add-be32-at
-    be32-at-requires-2
+    read32-requires
+    add-read16
+    read16-requires
+    add-read32
+    read32-requires-2
     returns
     returns-2)

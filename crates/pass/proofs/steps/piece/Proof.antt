@@ -4,39 +4,14 @@ use borrow.Author.Needs.{needs}
 use Rattle.pass.proofs.steps.piece.Statement.{statement}
 use Rattle.pass.proofs.steps.piece.Tie as tie
 
-row-of-requires : tie.Need-row-of-requires
-row-of-requires c κs = search needs
-
-any-clash-requires : tie.Need-any-clash-requires
-any-clash-requires c κs = search needs
-
-drop-one-requires : tie.Need-drop-one-requires
-drop-one-requires c κs = search needs
-
-same-length : tie.Need-same-length
-same-length c = search needs
-
-returns : tie.Need-returns
-returns c = search (needs, piece-drops)
-
-put-piece-requires : tie.Need-put-piece-requires
-put-piece-requires c κs = (c .before .before .before .before .before .before .pre .0, (c .before .before .before .before .before .before .pre .1 .0, (limited-channel _ (c .before .before .before .before .before .before .pre .1 .1 .0), c .before .before .before .before .before .before .pre .1 .1)))
-
-same-length-2 : tie.Need-same-length-2
-same-length-2 c = search needs
-
-returns-2 : tie.Need-returns-2
-returns-2 c = search (needs, piece-puts)
-
 pub piece-spec : {M : Type 1} → statement M
-piece-spec =
-    tie.close
-    (tie.spec
-    row-of-requires
-    any-clash-requires
-    drop-one-requires
-    same-length
-    returns
-    put-piece-requires
-    same-length-2
-    returns-2)
+piece-spec = tie.close (tie.spec
+    (λ c κs. search needs)
+    (λ c κs. search needs)
+    (λ c κs. search needs)
+    (λ c. search needs)
+    (λ c. search (needs, piece-drops))
+    (λ c κs. let pre = c .before .before .before .before .before .before .before .before .pre in (pre .0, (pre .1 .0, (limited-channel _ (pre .1 .1 .0), pre .1 .1))))
+    (λ c. search needs)
+    (λ c. search needs)
+    (λ c. search (needs, piece-puts)))

@@ -1,108 +1,114 @@
 // Document 01's Receive on rows of words: its refusals in their order, then the frames, and what an accepted datagram leaves.
-use super::super::super::Pass;
-use super::super::super::Passed;
+use super::super::super::Framed;
+use super::super::super::PassedRows;
 use super::super::super::Receive;
-use super::super::super::ReceivedRows;
-use recv::RecvQueue;
+use super::super::super::Tally;
+use recv::Heads;
 use rows::ROW;
-use rows::Row;
-use window::Insert;
-use window::ReliableWindow;
 ghost use mathlib.Core.Path.{_≡_};
 ghost use mathlib.Core.Bool.{true};
-ghost use mathlib.Core.List.{_++_, map};
-ghost use Prim.Native.Nat.{_<_, _≤_};
-ghost use lib.ListN.{drop, set};
-ghost use Rattle.base.specs.Limits.{maxCells, maxUnsent, numbers24};
-ghost use Rattle.rows.specs.Rows.{rowCount, rowsOf, cellsIn};
-ghost use Rattle.rows.specs.Whole.{wholeRow, rest};
-ghost use Rattle.slots.specs.Widths.{firstCells, FitTo};
-ghost use Rattle.recv.specs.Receive.{isDatagram, numberOf, bytesLeft, soundCall, receiveOf};
-ghost use Rattle.pass.specs.Outcome.{outcome, rowsSaved};
-ghost use Rattle.pass.specs.Receives.{refusal, acceptance, asBefore, concluded, Receives, Headed, Numbered, Within, stored, begunRows, begunPass};
+ghost use lib.ListN.{length};
+ghost use Rattle.cells.specs.Sound.{lengths};
+ghost use Rattle.rows.specs.Rows.{rowCount};
+ghost use Rattle.slots.specs.First.{firstRows, afterRows};
+ghost use Rattle.recv.specs.declared.Heads.{Heads};
+ghost use Rattle.recv.specs.Parts.{queueOf, arraysFit};
+ghost use Rattle.recv.specs.Receive.{isDatagram};
+ghost use Rattle.pass.specs.Outcome.{rowsPassed, zeros, receiveRowsOf};
+ghost use Rattle.pass.specs.Receives.{refusal, acceptance, Receives, Judged, Headed, Numbered};
 
-// Receive on the first n rows of the words.
+// How many bytes a window's places are.
+const WINDOW_BYTES: usize = 256;
+
+// Receive on the first k rows of the words, which stand for the first of so many records.
 pub fn receive_rows(
-    queue: RecvQueue,
+    h: Heads,
+    dbits: &[u8],
+    rbits: &mut [u8],
+    nexts: &mut [u32],
+    unsent: &[u32],
     words: &mut [u32],
-    n: usize,
+    k: usize,
+    cells: usize,
     store: &mut [u8],
     datagram: &[u8],
-) -> ReceivedRows
-    ensures { λ r. ⌜ (outcome r (firstCells (r .rows) (now (words .exit)) ++ drop (r .rows) (firstCells n (now (words .entry)))) (now (store .exit)) ≡ receiveOf queue (firstCells n (now (words .entry))) (now (store .entry)) (now (datagram .entry))) × (r .rows ≡ rowsSaved (r .answer) n) × (FitTo n (firstCells n (now (words .entry))) → FitTo (r .rows) (firstCells (r .rows) (now (words .exit)))) ⌝ }
+) -> PassedRows
+    ensures { λ r. ⌜ rowsPassed r (now (rbits .exit)) (now (nexts .exit)) (firstRows k (now (words .exit))) (afterRows k
+        (now (words .exit))) (now (store .exit)) ≡ receiveRowsOf
+        (queueOf h (now (dbits .entry)) (now (rbits .entry)) (now (nexts .entry)) (now (unsent .entry))) k cells
+        (now (words .entry)) (now (store .entry)) (now (datagram .entry)) ⌝ }
 {
-    let m = slots::rows_in(n, words.len());
-    let passed = receive_all(queue, &mut words[..ROW * m], n, store, datagram);
-    conclude(queue, passed, datagram)
+    let m = slots::rows_in(k, words.len());
+    let some = (1 <= m) & (m <= cells);
+    if arrays_fit(dbits, rbits, nexts, unsent)
+        & (sound_call::lengths_fit(cells, store.len()) & some)
+    {
+        return receive_first(
+            h,
+            dbits,
+            rbits,
+            nexts,
+            unsent,
+            &mut words[..ROW * m],
+            &mut store[..base::CELL_BYTES * m],
+            datagram,
+        );
+    }
+    refuse(h, Receive::NotSound)
 }
 
-fn unchanged(queue: RecvQueue, answer: Receive, rows: usize) -> ReceivedRows
-    ensures { λ r. ⌜ r ≡ asBefore queue answer rows ⌝ }
+fn refuse(h: Heads, answer: Receive) -> PassedRows
+    ensures { λ r. ⌜ r ≡ refusal h answer ⌝ }
 {
-    ReceivedRows {
-        answer: answer,
-        queue: queue,
-        rows: rows,
+    PassedRows {
+        answer,
+        low: h.reliables,
+        ascending: false,
     }
 }
 
-// The answer, and the receiver afterwards: where the datagram is accepted, its number joins the unsent.
-fn conclude(queue: RecvQueue, passed: Passed, datagram: &[u8]) -> ReceivedRows
-    requires { ⌜ (passed .accepted ≡ true → queue .pending < maxUnsent) ⌝ }
-    ensures { λ r. ⌜ r ≡ concluded queue (now (datagram .entry)) passed ⌝ }
+// The arrays are as long as a receiver's.
+fn arrays_fit(dbits: &[u8], rbits: &[u8], nexts: &[u32], unsent: &[u32]) -> bool
+    ensures { λ r. ⌜ ((h : Heads) → r ≡ arraysFit (queueOf h (now (dbits .entry)) (now (rbits .entry)) (now (nexts .entry))
+        (now (unsent .entry)))) ⌝ }
 {
-    let answer = passed.answer;
-    if passed.accepted {
-        let number = base::le24_at(datagram, 1);
-        let datagrams = passed.datagrams;
-        let reliables = passed.reliables;
-        let channels = passed.channels;
-        let mut joined = queue;
-        joined.datagrams = datagrams;
-        joined.reliables = reliables;
-        joined.channels = channels;
-        let pending = joined.pending;
-        unsent::join_number(&mut joined.unsent, pending, number);
-        joined.pending = pending + 1;
-        return ReceivedRows {
-            answer: answer,
-            queue: joined,
-            rows: passed.rows,
-        };
-    }
-    unchanged(queue, answer, passed.rows)
+    let numbers = (nexts.len() == base::MAX_ORD_CHANS as usize)
+        & (unsent.len() == base::MAX_UNSENT as usize);
+    (dbits.len() == WINDOW_BYTES) & ((rbits.len() == WINDOW_BYTES) & numbers)
 }
 
-fn refuse(queue: RecvQueue, answer: Receive) -> Passed
-    ensures { λ r. ⌜ r ≡ refusal queue answer ⌝ }
-{
-    let datagrams = queue.datagrams;
-    let reliables = queue.reliables;
-    let channels = queue.channels;
-    Passed {
-        answer: answer,
-        accepted: false,
-        datagrams: datagrams,
-        reliables: reliables,
-        channels: channels,
-        rows: 0,
-    }
-}
-
-// 9.
-fn receive_all(
-    queue: RecvQueue,
+// 9: the receiver's own values, and the records.
+fn receive_first(
+    h: Heads,
+    dbits: &[u8],
+    rbits: &mut [u8],
+    nexts: &mut [u32],
+    unsent: &[u32],
     words: &mut [u32],
-    n: usize,
     store: &mut [u8],
     datagram: &[u8],
-) -> Passed
-    ensures { λ r. ⌜ Receives queue (now (words .entry)) n (now (store .entry)) (now (datagram .entry)) r (now (words .exit)) (now (store .exit)) ⌝ }
+) -> PassedRows
+    requires { ⌜ arraysFit (queueOf h (now dbits) (now rbits) (now nexts) (now unsent)) ≡ true ⌝ }
+    requires { ⌜ lengths (rowCount (now words)) (length (now store)) ≡ true ⌝ }
+    ensures { λ r. ⌜ Receives (queueOf h (now (dbits .entry)) (now (rbits .entry)) (now (nexts .entry)) (now (unsent .entry)))
+        (now (words .entry)) (now (store .entry)) (now (datagram .entry))
+        r (now (rbits .exit)) (now (nexts .exit)) (now (words .exit)) (now (store .exit)) ⌝ }
 {
-    if sound_call::sound_call(queue, words, store) {
-        return receive_sound(queue, words, n, store, datagram);
+    let q = sound_queue::sound_queue(h, dbits, rbits, nexts, unsent);
+    if q.sound & sound::sound_cells(words, nexts) {
+        return receive_sound(
+            h,
+            q.ascending,
+            dbits,
+            rbits,
+            nexts,
+            unsent,
+            words,
+            store,
+            datagram,
+        );
     }
-    refuse(queue, Receive::NotSound)
+    refuse(h, Receive::NotSound)
 }
 
 // "id 80 to 8D".
@@ -114,172 +120,162 @@ fn is_datagram(first: u8) -> bool
 
 // 1, 2 and 3.
 fn receive_sound(
-    queue: RecvQueue,
+    h: Heads,
+    ascends: bool,
+    dbits: &[u8],
+    rbits: &mut [u8],
+    nexts: &mut [u32],
+    unsent: &[u32],
     words: &mut [u32],
-    n: usize,
     store: &mut [u8],
     datagram: &[u8],
-) -> Passed
-    requires { ⌜ soundCall queue (cellsIn (now words)) (now store) ≡ true ⌝ }
-    ensures { λ r. ⌜ Receives queue (now (words .entry)) n (now (store .entry)) (now (datagram .entry)) r (now (words .exit)) (now (store .exit)) ⌝ }
+) -> PassedRows
+    requires { ⌜ Judged (queueOf h (now dbits) (now rbits) (now nexts) (now unsent)) (now words) (now store) ascends ⌝ }
+    ensures { λ r. ⌜ Receives (queueOf h (now (dbits .entry)) (now (rbits .entry)) (now (nexts .entry)) (now (unsent .entry)))
+        (now (words .entry)) (now (store .entry)) (now (datagram .entry))
+        r (now (rbits .exit)) (now (nexts .exit)) (now (words .exit)) (now (store .exit)) ⌝ }
 {
     if datagram.len() < base::MIN_DATAGRAM {
-        return refuse(queue, Receive::TooShort);
+        return refuse(h, Receive::TooShort);
     }
     if base::MAX_DATAGRAM < datagram.len() {
-        return refuse(queue, Receive::TooLong);
+        return refuse(h, Receive::TooLong);
     }
     if is_datagram(base::byte(datagram, 0)) {
-        return receive_number(queue, words, n, store, datagram);
+        return receive_number(
+            h,
+            ascends,
+            dbits,
+            rbits,
+            nexts,
+            unsent,
+            words,
+            store,
+            datagram,
+        );
     }
-    refuse(queue, Receive::NotDatagram)
+    refuse(h, Receive::NotDatagram)
 }
 
-// The datagram's number: 24 bits, since a lent slice's elements are known to be bytes once they are read.
-fn number_of(datagram: &[u8]) -> u32
-    ensures is { λ r. ⌜ r ≡ numberOf (now (datagram .entry)) ⌝ }
-    ensures small { λ r. ⌜ r < numbers24 ⌝ }
-{
-    base::byte(datagram, 1);
-    base::byte(datagram, 2);
-    base::byte(datagram, 3);
-    base::le24_at(datagram, 1)
-}
-
-// 4 and 5. A number of 24 bits is never too large.
+// 4, 5 and 6.
 fn receive_number(
-    queue: RecvQueue,
+    h: Heads,
+    ascends: bool,
+    dbits: &[u8],
+    rbits: &mut [u8],
+    nexts: &mut [u32],
+    unsent: &[u32],
     words: &mut [u32],
-    n: usize,
     store: &mut [u8],
     datagram: &[u8],
-) -> Passed
-    requires { ⌜ Headed queue (cellsIn (now words)) (now store) (now datagram) ⌝ }
-    ensures { λ r. ⌜ Receives queue (now (words .entry)) n (now (store .entry)) (now (datagram .entry)) r (now (words .exit)) (now (store .exit)) ⌝ }
+) -> PassedRows
+    requires { ⌜ Headed (queueOf h (now dbits) (now rbits) (now nexts) (now unsent)) (now words) (now store) (now datagram) ascends ⌝ }
+    ensures { λ r. ⌜ Receives (queueOf h (now (dbits .entry)) (now (rbits .entry)) (now (nexts .entry)) (now (unsent .entry)))
+        (now (words .entry)) (now (store .entry)) (now (datagram .entry))
+        r (now (rbits .exit)) (now (nexts .exit)) (now (words .exit)) (now (store .exit)) ⌝ }
 {
-    let inserted = queue.datagrams.insert(number_of(datagram));
-    let datagrams = inserted.window;
-    let answer = inserted.answer;
-    match answer {
-        Insert::Accepted => receive_new(queue, datagrams, words, n, store, datagram),
-        Insert::TooLarge => refuse(queue, Receive::Beyond),
-        Insert::Old => refuse(queue, Receive::Old),
-        Insert::Beyond => refuse(queue, Receive::Beyond),
+    let number = base::le24_at(datagram, 1);
+    if window::accepted_in(h.datagrams, dbits, number) {
+        return refuse(h, Receive::Old);
     }
+    if base::WINDOW_PLACES < number - h.datagrams {
+        return refuse(h, Receive::Beyond);
+    }
+    if base::MAX_UNSENT <= h.pending {
+        return refuse(h, Receive::UnsentFull);
+    }
+    receive_frames(
+        h,
+        ascends,
+        dbits,
+        rbits,
+        nexts,
+        unsent,
+        words,
+        store,
+        datagram,
+    )
 }
 
-// 6 and 7.
-fn receive_new(
-    queue: RecvQueue,
-    datagrams: ReliableWindow,
-    words: &mut [u32],
-    n: usize,
-    store: &mut [u8],
-    datagram: &[u8],
-) -> Passed
-    requires { ⌜ Numbered queue (cellsIn (now words)) (now store) (now datagram) datagrams ⌝ }
-    ensures { λ r. ⌜ Receives queue (now (words .entry)) n (now (store .entry)) (now (datagram .entry)) r (now (words .exit)) (now (store .exit)) ⌝ }
-{
-    if base::MAX_UNSENT <= queue.pending {
-        return refuse(queue, Receive::UnsentFull);
-    }
-    let reached = reach::reliables_after(queue.reliables, datagram);
-    if reached.within == 0 {
-        return refuse(queue, Receive::ReliableBeyond);
-    }
-    receive_frames(queue, datagrams, reached.left, words, n, store, datagram)
-}
-
-// 8, and what an accepted datagram leaves.
+// 7 and 8, and what an accepted datagram leaves.
 fn receive_frames(
-    queue: RecvQueue,
-    datagrams: ReliableWindow,
-    left: usize,
+    h: Heads,
+    ascends: bool,
+    dbits: &[u8],
+    rbits: &mut [u8],
+    nexts: &mut [u32],
+    unsent: &[u32],
     words: &mut [u32],
-    n: usize,
     store: &mut [u8],
     datagram: &[u8],
-) -> Passed
-    requires { ⌜ Within queue (cellsIn (now words)) (now store) (now datagram) datagrams ⌝ }
-    requires { ⌜ left ≡ bytesLeft (now datagram) ⌝ }
-    ensures { λ r. ⌜ Receives queue (now (words .entry)) n (now (store .entry)) (now (datagram .entry)) r (now (words .exit)) (now (store .exit)) ⌝ }
+) -> PassedRows
+    requires { ⌜ Numbered (queueOf h (now dbits) (now rbits) (now nexts) (now unsent)) (now words) (now store) (now datagram) ascends ⌝ }
+    ensures { λ r. ⌜ Receives (queueOf h (now (dbits .entry)) (now (rbits .entry)) (now (nexts .entry)) (now (unsent .entry)))
+        (now (words .entry)) (now (store .entry)) (now (datagram .entry))
+        r (now (rbits .exit)) (now (nexts .exit)) (now (words .exit)) (now (store .exit)) ⌝ }
 {
-    let begun = begin(queue, words);
-    let pass = super::frames(words, begun, datagram);
-    if pass.full == 1 {
-        return refuse(queue, Receive::NoRoom);
-    }
-    super::flush(store, words, datagram);
-    row_sweeps::sweep(words);
-    accept(datagrams, pass, n, left)
-}
-
-// What the frames begin with: all bodies stand in the store, and the ready messages' turns are 0, 1, 2, ..
-fn begin(queue: RecvQueue, words: &mut [u32]) -> Pass
-    requires { ⌜ rowCount (now words) ≤ maxCells ⌝ }
-    ensures is { λ r. ⌜ r ≡ begunPass queue (rowsOf (now (words .entry))) ⌝ }
-    ensures rows { λ r. ⌜ rowsOf (now (words .exit)) ≡ begunRows (rowsOf (now (words .entry))) ⌝ }
-{
-    let turn = row_scans::count_first(words);
-    clear_places(words);
-    row_ranks::renumber(words);
-    let reliables = queue.reliables;
-    let channels = queue.channels;
-    Pass {
-        reliables: reliables,
-        channels: channels,
-        turn: turn as u32,
-        ready: 0,
-        dropped: 0,
-        full: 0,
+    let turn = super::begin(words);
+    match super::frames(words, rbits, nexts, h.reliables, turn, datagram) {
+        Framed::Beyond => refuse_worked(h, rbits, nexts, words, Receive::ReliableBeyond),
+        Framed::Done { low, counts, left } => {
+            if counts.full == 1 {
+                return refuse_worked(h, rbits, nexts, words, Receive::NoRoom);
+            }
+            super::settle(words, store, datagram);
+            accept(low, ascends, counts, left)
+        }
     }
 }
 
-fn stored_row(r: Row) -> Row
-    ensures { λ q. ⌜ q ≡ stored r ⌝ }
+fn accept(low: u32, ascends: bool, counts: Tally, left: usize) -> PassedRows
+    ensures { λ r. ⌜ r ≡ acceptance low ascends counts left ⌝ }
 {
-    Row { place: 0, ..r }
-}
-
-fn clear_place(words: &mut [u32], i: usize)
-    ensures is { λ _. ⌜ rowsOf (now (words .exit)) ≡ set (rowsOf (now (words .entry))) i (stored (wholeRow (now (words .entry)) i)) ⌝ }
-    ensures rest { λ _. ⌜ rest (now (words .exit)) ≡ rest (now (words .entry)) ⌝ }
-{
-    let r = rows::whole_row(words, i);
-    if 0 < r.place {
-        rows::put_row(words, i, stored_row(r));
+    PassedRows {
+        answer: Receive::Accepted {
+            ready: counts.ready,
+            dropped: counts.dropped,
+            left,
+        },
+        low,
+        ascending: ascends,
     }
 }
 
-// Every body stands in the store. Rows that were read from records have place 0 already, and are not written.
-fn clear_places(words: &mut [u32])
-    ensures is { λ _. ⌜ rowsOf (now (words .exit)) ≡ map stored (rowsOf (now (words .entry))) ⌝ }
-    ensures rest { λ _. ⌜ rest (now (words .exit)) ≡ rest (now (words .entry)) ⌝ }
+// A refusal that was found while the frames were worked on: nothing of that work is left.
+fn refuse_worked(
+    h: Heads,
+    rbits: &mut [u8],
+    nexts: &mut [u32],
+    words: &mut [u32],
+    answer: Receive,
+) -> PassedRows
+    ensures is { λ r. ⌜ r ≡ refusal h answer ⌝ }
+    ensures bits { λ _. ⌜ now (rbits .exit) ≡ zeros (now (rbits .entry)) ⌝ }
+    ensures nexts { λ _. ⌜ now (nexts .exit) ≡ zeros (now (nexts .entry)) ⌝ }
+    ensures rows { λ _. ⌜ now (words .exit) ≡ zeros (now (words .entry)) ⌝ }
 {
-    let n = words.len() / ROW;
+    clear_bytes(rbits);
+    clear_numbers(nexts);
+    clear_numbers(words);
+    refuse(h, answer)
+}
+
+fn clear_bytes(s: &mut [u8])
+    ensures { λ _. ⌜ now (s .exit) ≡ zeros (now (s .entry)) ⌝ }
+{
     let mut i = 0;
-    while i < n {
-        clear_place(words, i);
+    while i < s.len() {
+        s[i] = 0;
         i += 1;
     }
 }
 
-// What an accepted datagram leaves.
-fn accept(datagrams: ReliableWindow, pass: Pass, n: usize, left: usize) -> Passed
-    ensures { λ r. ⌜ r ≡ acceptance datagrams pass n left ⌝ }
+fn clear_numbers(s: &mut [u32])
+    ensures { λ _. ⌜ now (s .exit) ≡ zeros (now (s .entry)) ⌝ }
 {
-    let reliables = pass.reliables;
-    let channels = pass.channels;
-    Passed {
-        answer: Receive::Accepted {
-            ready: pass.ready,
-            dropped: pass.dropped,
-            left: left,
-        },
-        accepted: true,
-        datagrams: datagrams,
-        reliables: reliables,
-        channels: channels,
-        rows: n,
+    let mut i = 0;
+    while i < s.len() {
+        s[i] = 0;
+        i += 1;
     }
 }

@@ -1,8 +1,7 @@
 use borrow.Author.Needs.{needs}
 use Rattle.base.proofs.Ifs.{ifs, by-ifs}
-use Rattle.frame.specs.Frames.{readFramesOf}
-use Rattle.recv_queue.specs.Call.{receiveNeeds}
-use Rattle.recv_queue.proofs.Needs.{room-read}
+use Rattle.narrow.specs.Needs.{receiveNeeds}
+use Rattle.narrow.proofs.Needs.{room-read}
 use Rattle.recv_queue.proofs.receiving.needed.Statement.{statement}
 use Rattle.recv_queue.proofs.receiving.needed.Tie as tie
 

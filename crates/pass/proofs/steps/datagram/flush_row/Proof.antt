@@ -1,10 +1,6 @@
 use borrow.Author.Needs.{needs}
 use Rattle.pass.proofs.steps.datagram.flush_row.Statement.{statement}
 use Rattle.pass.proofs.steps.datagram.flush_row.Tie as tie
-use Rattle.pass.proofs.steps.datagram.flush_row.Reads as reads
-use Rattle.pass.proofs.steps.datagram.flush_row.Lts as lts
-use Rattle.base.proofs.put_bytes.Reads as put-bytes-reads
-use Rattle.pass.proofs.steps.datagram.is_placed.Reads as is-placed-reads
 use Rattle.pass.proofs.Flushing.{row-placed, row-copied, row-kept}
 
 is-placed-requires : tie.Need-is-placed-requires

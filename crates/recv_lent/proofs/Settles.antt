@@ -1,0 +1,170 @@
+-- What the core leaves of a receiver's copies, settled in the receiver, is what document 01's receive leaves.
+--     CoreSays, CallSays     what the core promises, and what the call is to promise
+--     core-settled           the one from the other
+-- Assumes nothing.
+use mathlib.Core.Path.{_≡_, refl, sym, ap, _∙_, subst}
+use Prim.Native.Nat.{ℕ, _+_, _*_, _<_, _≤_}
+use native.Mathlib.Nat.{zero-add}
+use native.Mathlib.Omega.{arith}
+use mathlib.Core.Bool.{Bool, true, false}
+use mathlib.Core.List.{List, _++_, map}
+use lib.ListN.{length, getD, take, drop, length-map}
+use Rattle.base.specs.Answer.{refused, gives}
+use Rattle.base.specs.If.{ifTrue}
+use Rattle.base.specs.Limits.{numbers24, maxUnsent, cellBytes, windowPlaces}
+use Rattle.base.specs.Numbers.{distance}
+use Rattle.base.specs.Put.{put}
+use Rattle.base.proofs.Ifs.{true-yes, lt-yes}
+use Rattle.base.proofs.Puts.{length-put, put-in}
+use lib.Seq.{ext-getD}
+use Rattle.ack.specs.Write.{ascending}
+use Rattle.window.specs.declared.ReliableWindow.{ReliableWindow}
+use Rattle.window.specs.Window.{Insertion, windowOf, accepted, accept, insertOf}
+use Rattle.window.proofs.Inserts.{insert-new}
+use Rattle.cells.specs.Cell.{Cell}
+use Rattle.cells.specs.Datagram.{datagram}
+use Rattle.cells.specs.Sound.{lengths}
+use Rattle.rows.specs.declared.Row.{Row}
+use Rattle.slots.specs.First.{firstRows, afterRows, firstCells}
+use Rattle.recv.specs.declared.Channel.{Channel}
+use Rattle.recv.specs.declared.RecvQueue.{RecvQueue}
+use Rattle.recv.specs.Parts.{channelOf, nextNumber, nextsOf, headsOf, queueOf, arraysFit}
+use Rattle.recv.specs.Queue.{unsentOf, insertUnsent}
+use Rattle.recv.specs.Receive.{Report, Received, numberOf, framesIn, stateOf, channelsAfter, queueAfter, refusedOf, acceptedOf}
+use Rattle.recv.proofs.ByParts.{numbers-back, own-parts}
+use Rattle.recv.proofs.Ways.{Accepted, by-true, by-le, receive-ways}
+use Rattle.narrow.specs.Receiving.{withRest, receiveFirst}
+use Rattle.unsent.specs.Unsent.{joinedBy}
+use Rattle.unsent.proofs.Joined.{joined-by}
+use Rattle.channel.specs.Advance.{withChannels, advancedAll}
+use Rattle.channel.proofs.Laws.{all-numbers}
+use Rattle.pass.specs.declared.Receive.{Receive}
+use Rattle.pass.specs.declared.PassedRows.{PassedRows}
+use Rattle.pass.specs.Outcome.{RowsReceived, receiveAnswer, rowsPassed, rowsRefused, rowsAccepted, rowsByAnswer, rowsOutcome, receiveRowsOf}
+use Rattle.recv_lent.specs.Settled.{isRefusal, nextPending, withNumber, settledOf}
+use Rattle.recv_lent.specs.Calls.{ReceivedWith, receivedWith, receiveWithOf}
+
+-- of the receiver q, of k rows in the words ws, of the store st and of the datagram d, by the answer a and the last values
+abbrev pub CoreSays : RecvQueue → ℕ → ℕ → List ℕ → List ℕ → List ℕ → PassedRows → List ℕ → List ℕ → List ℕ → List ℕ → Type 0
+CoreSays q k cells ws st d a bits nexts ws′ st′ = rowsPassed a bits nexts (firstRows k ws′) (afterRows k ws′) st′ ≡ receiveRowsOf q k cells ws st d
+
+abbrev pub CallSays : RecvQueue → ℕ → ℕ → List ℕ → List ℕ → List ℕ → Receive → RecvQueue → List ℕ → List ℕ → Type 0
+CallSays q k cells ws st d a q′ ws′ st′ = receivedWith a q′ (firstRows k ws′) (afterRows k ws′) st′ ≡ receiveWithOf q k cells ws st d
+
+-- a receiver's arrays are as long as its type says
+pub record Long (q : RecvQueue) : Type 0 where
+  pub datagrams : length (q .datagrams .bits) ≡ 256
+  pub reliables : length (q .reliables .bits) ≡ 256
+  pub channels : length (q .channels) ≡ 32
+  pub unsent : length (q .unsent) ≡ 1024
+
+fits : (q : RecvQueue) → Long q → arraysFit q ≡ true
+unfolding arraysFit
+fits q l = rw (l .datagrams, l .reliables, l .channels, l .unsent) refl
+
+-- ---- the parts of a receiver that has the number n
+datagrams-after : (w : ReliableWindow) (n : ℕ) → n < numbers24 → accepted w n ≡ false → distance (w .low) n ≤ windowPlaces → insertOf w n .window ≡ accept w n
+datagrams-after w n small fresh near = ap (λ (x : Insertion). x .window) (insert-new w n small fresh (omega arith))
+
+put-whole : (l bs : List ℕ) → length bs ≡ length l → put l 0 bs ≡ bs
+put-whole l bs e = ext-getD 0 (put l 0 bs) bs (length-put l 0 bs ∙ sym e) (λ j m. subst (λ (i : ℕ). getD (put l 0 bs) i 0 ≡ getD bs j 0) (zero-add j) (put-in l 0 bs j (omega arith) (omega (arith, length-put l 0 bs))))
+
+reliables-after : (w v : ReliableWindow) (low : ℕ) (bits : List ℕ) → low ≡ v .low → bits ≡ v .bits → length bits ≡ length (w .bits) → windowOf low (put (w .bits) 0 bits) ≡ v
+reliables-after w v low bits e f long = λ i. record { low = e i; bits = (put-whole (w .bits) bits long ∙ f) i }
+
+channels-after : (q : RecvQueue) (cs : List Channel) (nexts : List ℕ) → length (q .channels) ≡ 32 → length nexts ≡ 32 → nexts ≡ nextsOf cs → advancedAll q nexts ≡ withChannels q cs
+channels-after q cs nexts long same e = all-numbers q nexts long same ∙ ap (withChannels q) (ap (map channelOf) e ∙ numbers-back cs)
+
+unsent-after : (q : RecvQueue) (n : ℕ) (rising : Bool) → length (q .unsent) ≡ 1024 → q .pending < maxUnsent → rising ≡ ascending (unsentOf q) → joinedBy (q .unsent) (q .pending) n rising ≡ insertUnsent n (unsentOf q) ++ drop (q .pending + 1) (q .unsent)
+unfolding unsentOf
+unsent-after q n rising long room e = joined-by (q .unsent) (q .pending) n (omega (arith, long)) rising room (λ t. sym e ∙ t)
+
+pending-after : (k : ℕ) → k < maxUnsent → nextPending k ≡ k + 1
+unfolding nextPending
+pending-after k room = sym (lt-yes _ _ _ _ _ room refl)
+
+module _ (q : RecvQueue) (long : Long q) (d : List ℕ) (small : numberOf d < numbers24) (fresh : accepted (q .datagrams) (numberOf d) ≡ false) (near : distance (q .datagrams .low) (numberOf d) ≤ windowPlaces) (room : q .pending < maxUnsent) (v : ReliableWindow) (next : ℕ → ℕ)
+    (low : ℕ) (rising : Bool) (bits nexts : List ℕ) (e-low : low ≡ v .low) (e-rising : rising ≡ ascending (unsentOf q)) (e-bits : bits ≡ v .bits) (e-nexts : nexts ≡ nextsOf (channelsAfter next 0 (q .channels))) (many-bits : length bits ≡ length (q .reliables .bits)) (many-nexts : length nexts ≡ length (nextsOf (q .channels))) where
+  abbrev n : ℕ
+  n = numberOf d
+
+  abbrev advanced : RecvQueue
+  advanced = withChannels q (channelsAfter next 0 (q .channels))
+
+  thirty-two : length nexts ≡ 32
+  unfolding nextsOf
+  thirty-two = many-nexts ∙ length-map (q .channels) nextNumber ∙ long .channels
+
+  with-number : withNumber advanced low bits n rising ≡ queueAfter q n v next
+  unfolding withNumber queueAfter
+  with-number = λ i. record {
+    datagrams = datagrams-after (q .datagrams) n small fresh near i;
+    reliables = reliables-after (q .reliables) v low bits e-low e-bits many-bits i;
+    channels = channelsAfter next 0 (q .channels);
+    unsent = unsent-after q n rising (long .unsent) room e-rising i;
+    pending = pending-after (q .pending) room i;
+  }
+
+  accepted-settled : withNumber (advancedAll q nexts) low bits n rising ≡ queueAfter q n v next
+  accepted-settled = ap (λ (z : RecvQueue). withNumber z low bits n rising) (channels-after q (channelsAfter next 0 (q .channels)) nexts (long .channels) thirty-two e-nexts) ∙ with-number
+
+-- ---- by the ways of receive
+module _ (q : RecvQueue) (a : PassedRows) (bits nexts : List ℕ) (n : ℕ) where
+  refused-settled : (number : ℕ) → receiveAnswer (a .answer) ≡ refused number → settledOf q a bits nexts n ≡ q
+  unfolding settledOf isRefusal ifTrue
+  refused-settled number e = rw e refl
+
+  given-settled : (report : Report) → receiveAnswer (a .answer) ≡ gives report → settledOf q a bits nexts n ≡ withNumber (advancedAll q nexts) (a .low) bits n (a .ascending)
+  unfolding settledOf isRefusal ifTrue
+  given-settled report e = rw e refl
+
+module _ (q : RecvQueue) (rows₀ : List Row) (after₀ d : List ℕ) (a : PassedRows) (bits nexts : List ℕ) (rows : List Row) (after st′ : List ℕ) where
+  -- what is to be shown of a receive that comes to x
+  abbrev With : Received → RowsReceived → ReceivedWith
+  With x p = record { answer = x .answer; queue = x .queue; rows = p .rows; after = p .after; store = x .store }
+
+  abbrev Settles : Received → Type 0
+  Settles x = rowsPassed a bits nexts rows after st′ ≡ rowsOutcome q rows₀ after₀ x → receivedWith (a .answer) (settledOf q a bits nexts (numberOf d)) rows after st′ ≡ With x (rowsOutcome q rows₀ after₀ x)
+
+  refusal-settles : (cs : List Cell) (st : List ℕ) (number : ℕ) → Settles (refusedOf q cs st number)
+  unfolding rowsPassed rowsOutcome rowsByAnswer rowsRefused refusedOf receivedWith
+  refusal-settles cs st number said = λ i. record {
+    answer = said i .answer;
+    queue = refused-settled q a bits nexts (numberOf d) number (ap (λ (x : RowsReceived). x .answer) said) i;
+    rows = said i .rows;
+    after = said i .after;
+    store = said i .store;
+  }
+
+  module _ (long : Long q) (small : numberOf d < numbers24) (many-bits : length bits ≡ length (q .reliables .bits)) (many-nexts : length nexts ≡ length (nextsOf (q .channels))) where
+    given-settles : (cs : List Cell) (st rest : List ℕ) (x : Accepted q cs st d) → Settles (withRest rest (acceptedOf q st d (x .reliables) (datagram (stateOf q cs st) (framesIn d))))
+    unfolding rowsPassed rowsOutcome rowsByAnswer rowsAccepted withRest acceptedOf queueAfter receivedWith
+    given-settles cs st rest x said = λ i. record {
+      answer = said i .answer;
+      queue = (given-settled q a bits nexts (numberOf d) _ (ap (λ (y : RowsReceived). y .answer) said)
+          ∙ accepted-settled q long d small (x .fresh) (x .near) (x .room) (x .reliables) (datagram (stateOf q cs st) (framesIn d) .next) (a .low) (a .ascending) bits nexts
+          (ap (λ (y : RowsReceived). y .low) said) (ap (λ (y : RowsReceived). y .ascending) said) (ap (λ (y : RowsReceived). y .bits) said) (ap (λ (y : RowsReceived). y .nexts) said) many-bits many-nexts) i;
+      rows = said i .rows;
+      after = said i .after;
+      store = said i .store;
+    }
+
+    first-settles : (cells : ℕ) (cs : List Cell) (st : List ℕ) → Settles (receiveFirst q cells cs st d)
+    unfolding receiveFirst withRest refusedOf
+    first-settles cells cs st =
+        by-true Settles (lengths cells (length st))
+        (λ _. by-le Settles (length cs) cells
+        (λ _. receive-ways q cs (take (cellBytes * length cs) st) d (λ (x : Received). Settles (withRest (drop (cellBytes * length cs) st) x)) (λ number. refusal-settles cs (take (cellBytes * length cs) st ++ drop (cellBytes * length cs) st) number) (given-settles cs (take (cellBytes * length cs) st) (drop (cellBytes * length cs) st)))
+        (λ _. refusal-settles cs st 9))
+        (λ _. refusal-settles cs st 9)
+
+module _ (q : RecvQueue) (k cells : ℕ) (ws st d : List ℕ) (long : Long q) where
+  rows-are : receiveRowsOf q k cells ws st d ≡ rowsOutcome q (firstRows k ws) (afterRows k ws) (receiveFirst q cells (firstCells k ws) st d)
+  unfolding receiveRowsOf
+  rows-are = ap (rowsOutcome q (firstRows k ws) (afterRows k ws)) (sym (true-yes _ _ _ _ (fits q long) refl))
+
+pub core-settled : (q : RecvQueue) (k cells : ℕ) (ws st d : List ℕ) (a : PassedRows) (bits nexts ws′ st′ : List ℕ) → Long q → numberOf d < numbers24 → length bits ≡ length (q .reliables .bits) → length nexts ≡ length (nextsOf (q .channels))
+    → CoreSays (queueOf (headsOf q) (q .datagrams .bits) (q .reliables .bits) (nextsOf (q .channels)) (q .unsent)) k cells ws st d a bits nexts ws′ st′ → CallSays q k cells ws st d (a .answer) (settledOf q a bits nexts (numberOf d)) ws′ st′
+unfolding receiveWithOf
+core-settled q k cells ws st d a bits nexts ws′ st′ long small many-bits many-nexts said =
+    first-settles q (firstRows k ws) (afterRows k ws) d a bits nexts (firstRows k ws′) (afterRows k ws′) st′ long small many-bits many-nexts cells (firstCells k ws) st (said ∙ ap (λ (z : RecvQueue). receiveRowsOf z k cells ws st d) (own-parts q) ∙ rows-are q k cells ws st d long)
