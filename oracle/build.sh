@@ -1,13 +1,12 @@
 #!/bin/sh
 # usage: oracle/build.sh SOURCES [BUILD]
 #
-# Builds the original receiver with rustc alone, nothing downloaded: SOURCES is a folder of its sources, either named src--src--a--b.rs.txt or as
-# a tree src/a/b.rs (NetrexMC/RakNet, commit 799a339d53); BUILD is where the results go (target/oracle of this repository).
+# Builds the original receiver with rustc alone, nothing downloaded: SOURCES is a folder of its sources, either named src--src--a--b.rs.txt
+# or as a tree src/a/b.rs (NetrexMC/RakNet, commit 799a339d53); BUILD is where the results go (target/oracle of this repository).
 # Every original that is used is copied as it is and compared afterwards; a line with its sha256 is printed for each. The crate that the
 # originals lean on, binary_util, is not at hand: shim/ has its names, and every body there panics.
 #
-# Then our two static libraries (`rt staticlib exports`, `rt staticlib exports_queue`), where they are missing or older than the code, and the
-# driver, which links all: BUILD/compare.
+# Then our static libraries (bindings/libraries.sh) and the driver, which links all: BUILD/compare.
 # RUSTC_FLAGS="-C overflow-checks=on" builds an oracle that stops at any overflow.
 set -eu
 HERE=$(cd "$(dirname "$0")" && pwd)
@@ -50,10 +49,7 @@ $RC -A warnings --crate-type rlib --crate-name rak_rs "$B/lib/lib.rs" --out-dir 
     --extern binary_util="$B/libbinary_util.rlib"
 echo "built $B/librak_rs.rlib"
 
-OURS="$ROOT/target/staticlib"
-for c in exports exports_queue; do
-  [ -f "$OURS/lib$c.a" ] && [ -z "$(find "$ROOT/crates" -name '*.rt' -newer "$OURS/lib$c.a" | head -n 1)" ] || (cd "$ROOT" && rt staticlib $c)
-done
+"$ROOT/bindings/libraries.sh"
 $RC --crate-name compare "$HERE/driver/main.rs" -o "$B/compare" -L "$B" --extern rak_rs="$B/librak_rs.rlib" \
-    -L "native=$OURS" -l static=exports -l static=exports_queue
+    -L "native=$ROOT/target/staticlib" -l static=exports -l static=exports_frames -l static=exports_queue
 echo "built $B/compare"

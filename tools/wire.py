@@ -1,5 +1,5 @@
 #!/usr/bin/env python3
-"""Makes stdin and stdout of the programs wire_frames, wire_acks and wire_windows: their items, and the lines that they must print.
+"""Makes stdin and stdout of the programs replay_frames, replay_acks and replay_windows: their items, and the lines that they must print.
 
 The answers come from this file's own reading and writing of frames, acknowledgements, windows and splits, which shares nothing with the
 Rattle code. It was written from the sentences of document 01 alone, in the readings that docs/DECISIONS.md lists: for frames,
@@ -673,7 +673,7 @@ def random_windows(windows, rng):
 
 
 def main():
-    frames, acks, windows = Frames("wire_frames"), Acks("wire_acks"), Windows("wire_windows")
+    frames, acks, windows = Frames("replay_frames"), Acks("replay_acks"), Windows("replay_windows")
     rng = random.Random(1)
     bench_lines(frames, acks, windows)
     frame_limits(frames)

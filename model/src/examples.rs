@@ -33,7 +33,7 @@ fn use_number(used: Use) -> u8 {
         Use::Open => 1,
         Use::Held => 2,
         Use::Ready => 3,
-        Use::Late => 4,
+        Use::Released => 4,
     }
 }
 
@@ -251,7 +251,7 @@ fn spoil(rng: &mut Rng, cells: &mut [Cell]) {
     let c = &mut cells[at];
     let small = rng.below(4) as u32;
     match rng.below(10) {
-        0 => c.used = rng.pick(&[Use::Unused, Use::Open, Use::Held, Use::Ready, Use::Late]),
+        0 => c.used = rng.pick(&[Use::Unused, Use::Open, Use::Held, Use::Ready, Use::Released]),
         1 => c.id = rng.pick(&[0, 7]),
         2 => c.index = small,
         3 => c.kind = rng.pick(&[0, 3, 7, 8]),
@@ -291,11 +291,10 @@ fn sound_example(rng: &mut Rng, name: &str) -> String {
 
 const CELLS_HEAD: &str = "use mathlib.Core.Path.{_≡_, refl}
 use mathlib.Core.List.{List, [], _∷_}
-use Rattle.line.proofs.Shown as line
-use Rattle.line.proofs.Shown.{msg}
+use Rattle.bare.proofs.Shown as line
+use Rattle.bare.proofs.Shown.{msg}
 use Rattle.cells.specs.Cell.{emptySlot}
-use Rattle.cells.specs.Calls.{receive, take}
-use Rattle.cells.proofs.Shown.{slot, gave, took, refused, saw, run}
+use Rattle.cells.proofs.Shown.{slot, receive, take, gave, took, refused, saw, run}
 use Rattle.examples.proofs.Shown.{whole, part}
 ";
 
@@ -304,7 +303,7 @@ use mathlib.Core.List.{List, [], _∷_}
 use lib.ListN.{replicate}
 use Rattle.cells.specs.Cell.{emptySlot}
 use Rattle.cells.proofs.Shown.{slot}
-use Rattle.recv.specs.Calls.{receive, take-with, write-unsent, write-missing}
+use Rattle.receiver.specs.Calls.{receive, take-with, write-unsent, write-missing}
 use Rattle.examples.proofs.Shown.{run, saw, gave, took, wrote, no}
 ";
 

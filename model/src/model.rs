@@ -1,4 +1,4 @@
-//! The receiver of document 01 with its cells, written from document 01's sentences and READINGS alone; nothing here comes from crates/.
+//! The receiver of document 01 with its cells, written from document 01's sentences alone; nothing here comes from crates/.
 use crate::window::Window;
 use crate::wire::{self, Frame};
 
@@ -7,7 +7,7 @@ pub const MAX_FRAGS: u32 = 1024;
 pub const UNSENT: usize = 1024;
 pub const CELL_BYTES: usize = 1500;
 
-/// What a cell is used for. `Late` only stands within a datagram: a joined message that step 4 dropped, whose cells are unused after it.
+/// What a cell is used for. `Released` only stands within a datagram: a joined message that step 4 dropped, whose cells are unused after it.
 #[derive(Clone, Copy, PartialEq, Eq, Debug, Default)]
 pub enum Use {
     #[default]
@@ -15,7 +15,7 @@ pub enum Use {
     Open,
     Held,
     Ready,
-    Late,
+    Released,
 }
 
 /// One cell with its record and the body in it.
@@ -275,7 +275,7 @@ impl Pass {
         }
         match self.channel(f.kind, f.channel, f.order) {
             Channel::Drop => {
-                self.mark(&cells, Use::Late);
+                self.mark(&cells, Use::Released);
                 Ok(Fate::JoinedDropped)
             }
             Channel::Hold => {
@@ -332,7 +332,7 @@ impl Pass {
         }
     }
 
-    /// Late cells become unused, and the ready messages bear the turns 0, 1, 2, .. in their order (READINGS 14).
+    /// Released cells become unused, and the ready messages bear the turns 0, 1, 2, .. in their order.
     fn end(mut self) -> Receiver {
         let cells = &mut self.receiver.cells;
         let mut turns: Vec<u32> = cells.iter().filter(|c| c.used == Use::Ready).map(|c| c.turn).collect();
@@ -340,7 +340,7 @@ impl Pass {
         turns.dedup();
         for c in cells.iter_mut() {
             match c.used {
-                Use::Late => *c = Cell::default(),
+                Use::Released => *c = Cell::default(),
                 Use::Ready => c.turn = turns.partition_point(|t| *t < c.turn) as u32,
                 _ => {}
             }

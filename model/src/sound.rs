@@ -12,7 +12,7 @@ fn key(c: &Cell) -> (u8, u32, u32) {
 }
 
 fn within_limits(c: &Cell) -> bool {
-    c.used != Use::Late
+    c.used != Use::Released
         && c.kind <= 7
         && c.channel < CHANNELS
         && c.sequence < NUMBERS

@@ -1,4 +1,4 @@
-//! The original's answers as the stored input of program `oracle_replay` (its format stands in that program's source).
+//! The original's answers as the stored input of program `replay_original` (its format stands in that program's source).
 use crate::lists;
 use crate::random::Random;
 use rak_rs::oracle::{FragmentQueue, ReliableWindow};
@@ -107,7 +107,7 @@ pub fn input(seed: u64) -> (Vec<u8>, [u64; 3]) {
     let mut out = Vec::new();
     let note = format!(
         "Answers of NetrexMC/RakNet 799a339d53, window.rs, ack.rs and queue/mod.rs unchanged. \
-         Made by: oracle/build.sh SOURCES; target/oracle/compare answers {seed} > crates/oracle_replay/stdin\n"
+         Made by: oracle/build.sh SOURCES; target/oracle/compare answers {seed} > crates/replay_original/stdin\n"
     );
     item(&mut out, b'#', note.as_bytes());
     let done = [windows(&mut out, &mut r), lists(&mut out, &mut r), splits(&mut out, &mut r)];

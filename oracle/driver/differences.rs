@@ -50,8 +50,8 @@ fn split(len: usize, mtu: u16) {
         Ok(Err(e)) => format!("{e:?}"),
         Err(_) => "panics".to_string(),
     };
-    let p = ours::split_piece(&vec![0; len], mtu, 0);
-    say(&format!("split of {len} bytes at mtu {mtu}"), original, p.number.to_string());
+    let number = ours::split_piece(&vec![0; len], mtu, 0).err().unwrap_or(0);
+    say(&format!("split of {len} bytes at mtu {mtu}"), original, number.to_string());
 }
 
 /// One frame of kind 3 on channel 0, its body one byte.

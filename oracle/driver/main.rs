@@ -2,8 +2,8 @@
 //!
 //! usage: compare short|long [SEED]      prints what was compared and how many, and stops at the first difference with a smallest input
 //!        compare differences            the intended differences, each on its smallest input
-//!        compare answers SEED           the stored input of program oracle_replay
-//!        compare stored SEED            the stored input of program oracle_receivers
+//!        compare answers SEED           the stored input of program replay_original
+//!        compare stored SEED            the stored input of program replay_receivers
 mod answers;
 mod calls;
 mod channels;

@@ -13,20 +13,19 @@ fn compare(data: &[u8], mtu: u16) -> Result<u64, String> {
         Ok(frames) => frames,
         Err(FragmentQueueError::DoesNotNeedSplit) => {
             let p = ours::split_piece(data, mtu, 0);
-            return if p.number == 17 { Ok(0) } else { Err(format!("not split by the original, ours {p:?}")) };
+            return if p == Err(17) { Ok(0) } else { Err(format!("not split by the original, ours {p:?}")) };
         }
         Err(e) => return Err(format!("{e:?} by the original")),
     };
     for (k, f) in frames.iter().enumerate() {
         let (count, _, index) = meta_of(f).unwrap();
         let p = ours::split_piece(data, mtu, k as u32);
-        let part = data.get(p.start..p.start + p.len);
-        if p.number != 0 || part != Some(&f.body[..]) || (p.count, p.index) != (count, index) {
+        if p != Ok(ours::Piece { body: &f.body, count, index }) {
             return Err(format!("piece {k}: {} bytes, {index} of {count} by the original, ours {p:?}", f.body.len()));
         }
     }
     let p = ours::split_piece(data, mtu, frames.len() as u32);
-    if p.number != 19 {
+    if p != Err(19) {
         return Err(format!("{} pieces by the original, after them ours {p:?}", frames.len()));
     }
     Ok(frames.len() as u64)

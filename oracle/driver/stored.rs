@@ -1,4 +1,4 @@
-//! The original's answers of whole receivers as the stored input of program `oracle_receivers` (its format stands in that program's source).
+//! The original's answers of whole receivers as the stored input of program `replay_receivers` (its format stands in that program's source).
 use crate::answers::item;
 use crate::calls::{Call, Expected};
 use crate::random::Random;
@@ -52,7 +52,7 @@ pub fn input(seed: u64) -> (Vec<u8>, [u64; 4]) {
     let mut counts = [0; 4];
     let note = format!(
         "Answers of NetrexMC/RakNet 799a339d53, queue/recv.rs unchanged, on random datagrams within document 01's 'References'. \
-         Made by: oracle/build.sh SOURCES; target/oracle/compare stored {seed} > crates/oracle_receivers/stdin\n"
+         Made by: oracle/build.sh SOURCES; target/oracle/compare stored {seed} > crates/replay_receivers/stdin\n"
     );
     item(&mut out, b'#', note.as_bytes());
     for (cells, longest, datagrams) in RECEIVERS {

@@ -33,8 +33,8 @@ impl Both {
             self.highest = self.highest.max(Some(n));
         }
         let (low, end) = self.original.range();
-        if self.ours.low != low || end != low + REACH {
-            return Err(format!("after insert {n}: low {low} to {end} in the original, ours {}", self.ours.low));
+        if self.ours.low() != low || end != low + REACH {
+            return Err(format!("after insert {n}: low {low} to {end} in the original, ours {}", self.ours.low()));
         }
         Ok(accepted)
     }
@@ -99,7 +99,7 @@ pub fn random(report: &mut Report, r: &mut Random, inserts: u64) -> Result<(), S
         let mut both = Both::new();
         let mut sent = Vec::new();
         for k in 0..r.between(1, 4000) {
-            let n = near(r, both.ours.low, &sent);
+            let n = near(r, both.ours.low(), &sent);
             sent.push(n);
             accepted += both.insert(n).map_err(|e| fails(&sent, e))? as u64;
             if k % 64 == 63 {

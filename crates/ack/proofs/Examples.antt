@@ -9,11 +9,11 @@ use Rattle.base.specs.Bytes.{be16, le24, be16Bytes, le24Bytes}
 use Rattle.base.specs.Put.{andThen}
 use Rattle.ack.specs.Records.{range, firstOf, lastOf, recordBytes, recordsBytes, grow, runs}
 use Rattle.ack.specs.Read.{cursor, headerOf, readHeaderOf, readSingle, readRange, readRecordOf, next}
-use Rattle.ack.specs.Write.{idOf, headerBytes, listBytes, someOver, tooLarge, ascending, byCase, writeListOf}
+use Rattle.ack.specs.Write.{idOf, ackHeaderBytes, listBytes, someOver, tooLarge, ascending, byListCase, writeListOf}
 
 -- NACK of no number
 pub empty-list : listBytes true [] ≡ 0xA0 ∷ 0x00 ∷ 0x00 ∷ []
-unfolding listBytes headerBytes idOf recordsBytes runs be16Bytes andThen ifTrue
+unfolding listBytes ackHeaderBytes idOf recordsBytes runs be16Bytes andThen ifTrue
 empty-list = refl
 
 -- 13 before 14; 14; 12 at one byte short; written at the exact length
@@ -22,7 +22,8 @@ pub writing :
     × (writeListOf 100 false (5 ∷ 5 ∷ []) ≡ refused 14)
     × (writeListOf 13 true (3 ∷ 5 ∷ 6 ∷ 7 ∷ []) ≡ refused 12)
     × (writeListOf 14 true (3 ∷ 5 ∷ 6 ∷ 7 ∷ []) ≡ gives 14)
-unfolding writeListOf byCase tooLarge someOver ascending listBytes headerBytes idOf recordsBytes recordBytes runs grow firstOf lastOf be16Bytes le24Bytes andThen ifTrue ifLt ifLe ifEq
+unfolding writeListOf byListCase tooLarge someOver ascending listBytes ackHeaderBytes idOf recordsBytes recordBytes runs grow firstOf lastOf
+    be16Bytes le24Bytes andThen ifTrue ifLt ifLe ifEq
 writing = (refl, refl, refl, refl)
 
 -- header: 1 before 3. Record: cut; type byte 02, the last byte; last below first; first = last

@@ -19,7 +19,8 @@ use Rattle.base.specs.Put.{andThen, Run}
 use Rattle.base.proofs.Ifs.{lt-yes, lt-no, le-yes, le-no, eq-yes, eq-no}
 use Rattle.base.proofs.Puts.{run-cons, run-then}
 use Rattle.ack.specs.declared.Record.{Record}
-use Rattle.ack.specs.Records.{single, range, singleType, rangeType, singleSize, rangeSize, firstOf, lastOf, recordBytes, recordsBytes, recordSize, recordsSize, grow, runs, AllProper}
+use Rattle.ack.specs.Records.{single, range, singleType, rangeType, singleSize, rangeSize, firstOf, lastOf, recordBytes, recordsBytes}
+use Rattle.ack.specs.Records.{recordSize, recordsSize, grow, runs, AllProper}
 use Rattle.ack.specs.Write.{someOver, ascending}
 use Rattle.ack.specs.Passes.{isNext, goesOn, recordOf, RunTo, tallyOf}
 use Rattle.base.proofs.IfCases.{lt-cases}
@@ -126,7 +127,8 @@ run-goes-on l j a rs t f g e =
     ∙ joined-follows a (getD l j 0) (getD l (j + 1) 0) (drop (suc (j + 1)) l) k
     ∙ sym (ap (λ (m : List ℕ). joined a (runs m)) (drop-cons l (j + 1) 0 h))
 
-joined-stops : (l : List ℕ) (j a : ℕ) → j < length l → goesOn l j ≡ false → joined a (runs (drop j l)) ≡ recordOf a (getD l j 0) ∷ runs (drop (j + 1) l)
+joined-stops : (l : List ℕ) (j a : ℕ) → j < length l → goesOn l j ≡ false → joined a (runs (drop j l)) ≡ recordOf a (getD l j 0)
+    ∷ runs (drop (j + 1) l)
 unfolding goesOn isNext runs grow joined lastOf
 joined-stops l j a h t =
     ⊎-elim
@@ -162,11 +164,13 @@ module _ (first last : ℕ) where
   size-range n = rw (of-range n)
 
   module _ (p : ℕ) (l : List ℕ) (q : ℕ) (L : List ℕ) (r : ℕ) (M : List ℕ) where
-    pub put-single : first ≡ last → Run p (singleType ∷ []) l q L → Run q (le24Bytes first) L r M → Run p (recordBytes (recordOf first last)) l r M
+    pub put-single : first ≡ last → Run p (singleType ∷ []) l q L → Run q (le24Bytes first) L r M
+        → Run p (recordBytes (recordOf first last)) l r M
     unfolding recordBytes
     put-single e a b = rw (of-single e) (run-cons p singleType (le24Bytes first) l q L r M a b)
 
-    pub put-range : (first ≡ last → ⊥) → (s : ℕ) (K : List ℕ) → Run p (rangeType ∷ []) l s K → Run s (le24Bytes first) K q L → Run q (le24Bytes last) L r M
+    pub put-range : (first ≡ last → ⊥) → (s : ℕ) (K : List ℕ) → Run p (rangeType ∷ []) l s K → Run s (le24Bytes first) K q L
+        → Run q (le24Bytes last) L r M
         → Run p (recordBytes (recordOf first last)) l r M
     unfolding recordBytes
     put-range n s K a b c =

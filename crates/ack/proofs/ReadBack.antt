@@ -18,9 +18,10 @@ use Rattle.base.proofs.Digits.{digits16, digits24, byte-first, le24-shift}
 use Rattle.ack.specs.declared.Record.{Record}
 use Rattle.ack.specs.declared.Record.the-variants.{Single, Range}
 use Rattle.ack.specs.declared.AckCursor.{AckCursor}
-use Rattle.ack.specs.Records.{single, range, singleSize, rangeSize, lastOf, recordBytes, recordsBytes, runs, Proper, AllProper}
-use Rattle.ack.specs.Read.{headerSize, cursor, headerOf, readHeaderOf, Step, next, noneLeft, readSingle, readRange, readRecordOf, Reading, readOn, readAll}
-use Rattle.ack.specs.Write.{idOf, headerBytes, listBytes, someOver}
+use Rattle.ack.specs.Records.{single, range, singleSize, rangeSize, lastOf, recordBytes, recordsBytes, runs, ProperRecord, AllProper}
+use Rattle.ack.specs.Read.{ackHeaderSize, cursor, headerOf, readHeaderOf, Step, next, noneLeft, readSingle, readRange, readRecordOf}
+use Rattle.ack.specs.Read.{Reading, readOn, readAll}
+use Rattle.ack.specs.Write.{idOf, ackHeaderBytes, listBytes, someOver}
 use Rattle.base.proofs.IfCases.{le-cases}
 use Rattle.ack.proofs.Grown.{Grown, alone, joins, stands, grown}
 use Rattle.ack.proofs.RunLaws.{runs-proper}
@@ -30,7 +31,8 @@ module _ (u t : List ℕ) (n : ℕ) where
   one-less : suc n - 1 ≡ n
   one-less = omega arith
 
-  read-single : (x : ℕ) → x < numbers24 → readRecordOf (u ++ (recordBytes (single x) ++ t)) (cursor (length u) (suc n)) ≡ gives (next (single x) (cursor (length u + singleSize) n))
+  read-single : (x : ℕ) → x < numbers24 → readRecordOf (u ++ (recordBytes (single x) ++ t)) (cursor (length u) (suc n))
+      ≡ gives (next (single x) (cursor (length u + singleSize) n))
   unfolding readRecordOf readSingle recordBytes le24Bytes le24
   read-single x h =
       let s = recordBytes (single x) ++ t in
@@ -42,7 +44,8 @@ module _ (u t : List ℕ) (n : ℕ) where
       (lt-no _ _ _ _ _ (simp length-append (omega arith)) (rw (e, one-less))))))
 
   read-range : (x y : ℕ) → x < y → y < numbers24
-      → readRecordOf (u ++ (recordBytes (range x y) ++ t)) (cursor (length u) (suc n)) ≡ gives (next (range x y) (cursor (length u + rangeSize) n))
+      → readRecordOf (u ++ (recordBytes (range x y) ++ t)) (cursor (length u) (suc n))
+      ≡ gives (next (range x y) (cursor (length u + rangeSize) n))
   unfolding readRecordOf readRange recordBytes le24Bytes le24 andThen
   read-range x y h k =
       let s = recordBytes (range x y) ++ t in
@@ -56,9 +59,9 @@ module _ (u t : List ℕ) (n : ℕ) where
       (lt-no _ _ _ _ _ (simp length-append (omega arith))
       (lt-no _ _ _ _ _ (omega arith) (rw (e, f, one-less))))))))
 
-  read-one : (r : Record) → Proper r → lastOf r < numbers24
+  read-one : (r : Record) → ProperRecord r → lastOf r < numbers24
       → readRecordOf (u ++ (recordBytes r ++ t)) (cursor (length u) (suc n)) ≡ gives (next r (cursor (length (u ++ recordBytes r)) n))
-  unfolding Proper lastOf recordBytes le24Bytes andThen
+  unfolding ProperRecord lastOf recordBytes le24Bytes andThen
   read-one (Single r) p h = rw (length-append u (recordBytes (Single r))) (read-single (r .sequence) h)
   read-one (Range r) p h = rw (length-append u (recordBytes (Range r))) (read-range (r .start) (r .end) p h)
 
@@ -80,10 +83,12 @@ unfolding readAll readRecordOf recordsBytes AllProper AllBelow andThen
 read-records [] u t p b = ap (λ (a : Answer Step). record { records = []; stop = a }) (sym (eq-yes _ _ _ _ _ refl refl))
 read-records (r ∷ rs) u t p b =
     let rest = recordsBytes rs ++ t in
-    let e : u ++ ((recordBytes r ++ recordsBytes rs) ++ t) ≡ u ++ (recordBytes r ++ rest) = ap (λ (w : List ℕ). u ++ w) (append-assoc (recordBytes r) (recordsBytes rs) t) in
+    let e : u ++ ((recordBytes r ++ recordsBytes rs) ++ t) ≡ u ++ (recordBytes r ++ rest) =
+    ap (λ (w : List ℕ). u ++ w) (append-assoc (recordBytes r) (recordsBytes rs) t) in
     let f : (u ++ recordBytes r) ++ rest ≡ u ++ (recordBytes r ++ rest) = append-assoc u (recordBytes r) rest in
     rw e
-    (read-further (u ++ (recordBytes r ++ rest)) (length rs) _ (cursor (length (u ++ recordBytes r)) (length rs)) r (record { records = rs; stop = gives noneLeft })
+    (read-further (u ++ (recordBytes r ++ rest)) (length rs) _ (cursor (length (u ++ recordBytes r)) (length rs)) r
+    (record { records = rs; stop = gives noneLeft })
     (read-one u rest (length rs) r (p .0) (b .0))
     (rw f at (read-records rs (u ++ recordBytes r) t (p .1) (b .1))))
 
@@ -113,19 +118,20 @@ runs-length [] = le-refl 0
 runs-length (x ∷ l) = let h = grown-length (grown x (runs l)) in let k = runs-length l in omega arith
 
 -- ---- the header
-read-header : (nack : Bool) (n : ℕ) (t : List ℕ) → n < 65536 → readHeaderOf (headerBytes nack n ++ t) ≡ gives (record { nack = nack; records = cursor headerSize n })
-unfolding readHeaderOf headerOf headerBytes idOf ifTrue be16Bytes be16
+read-header : (nack : Bool) (n : ℕ) (t : List ℕ) → n < 65536 → readHeaderOf (ackHeaderBytes nack n ++ t)
+    ≡ gives (record { nack = nack; records = cursor ackHeaderSize n })
+unfolding readHeaderOf headerOf ackHeaderBytes idOf ifTrue be16Bytes be16
 read-header false n t h = sym (lt-no _ _ _ _ _ (omega arith) (eq-yes _ _ _ _ _ refl (rw (digits16 n h))))
 read-header true n t h = sym (lt-no _ _ _ _ _ (omega arith) (eq-no _ _ _ _ _ (omega arith) (eq-yes _ _ _ _ _ refl (rw (digits16 n h)))))
 
 -- ---- an ACK or NACK that was written, with any bytes after it
 module _ (nack : Bool) (l : List ℕ) (h : length l ≤ maxList) (o : someOver l ≡ false) (t : List ℕ) where
   abbrev start : AckCursor
-  start = cursor headerSize (length (runs l))
+  start = cursor ackHeaderSize (length (runs l))
 
-  bytes-apart : listBytes nack l ++ t ≡ headerBytes nack (length (runs l)) ++ (recordsBytes (runs l) ++ t)
+  bytes-apart : listBytes nack l ++ t ≡ ackHeaderBytes nack (length (runs l)) ++ (recordsBytes (runs l) ++ t)
   unfolding listBytes andThen
-  bytes-apart = append-assoc (headerBytes nack (length (runs l))) (recordsBytes (runs l)) t
+  bytes-apart = append-assoc (ackHeaderBytes nack (length (runs l))) (recordsBytes (runs l)) t
 
   -- its header tells which of the two it is, and as many records as the list has runs
   pub bytes-header : readHeaderOf (listBytes nack l ++ t) ≡ gives (record { nack = nack; records = start })
@@ -133,5 +139,5 @@ module _ (nack : Bool) (l : List ℕ) (h : length l ≤ maxList) (o : someOver l
 
   -- and step by step its records are the list's runs, in order, and then none is left
   pub bytes-records : readAll (length (runs l)) (listBytes nack l ++ t) start ≡ record { records = runs l; stop = gives noneLeft }
-  unfolding headerBytes be16Bytes
-  bytes-records = rw bytes-apart (read-records (runs l) (headerBytes nack (length (runs l))) t (runs-proper l) (runs-below l o))
+  unfolding ackHeaderBytes be16Bytes
+  bytes-records = rw bytes-apart (read-records (runs l) (ackHeaderBytes nack (length (runs l))) t (runs-proper l) (runs-below l o))

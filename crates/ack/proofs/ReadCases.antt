@@ -10,15 +10,15 @@ use Rattle.base.specs.Answer.{refused, gives}
 use Rattle.base.specs.Bytes.{be16, le24}
 use Rattle.base.proofs.Ifs.{lt-yes, lt-no, eq-yes, eq-no}
 use Rattle.ack.specs.Records.{single, range, singleSize, rangeSize}
-use Rattle.ack.specs.Read.{ackId, nackId, headerSize, cursor, headerOf, readHeaderOf, next, readSingle, readRange}
+use Rattle.ack.specs.Read.{ackId, nackId, ackHeaderSize, cursor, headerOf, readHeaderOf, next, readSingle, readRange}
 
-module _ (s : List ℕ) (count : ℕ) (e : count ≡ be16 s 1) (h : headerSize ≤ length s) where
-  pub header-ack : getD s 0 0 ≡ ackId → gives (record { nack = false; records = cursor headerSize count }) ≡ readHeaderOf s
+module _ (s : List ℕ) (count : ℕ) (e : count ≡ be16 s 1) (h : ackHeaderSize ≤ length s) where
+  pub header-ack : getD s 0 0 ≡ ackId → gives (record { nack = false; records = cursor ackHeaderSize count }) ≡ readHeaderOf s
   unfolding readHeaderOf headerOf
   header-ack i = lt-no _ _ _ _ _ h (eq-yes _ _ _ _ _ i (rw e))
 
   pub header-nack : (getD s 0 0 ≡ ackId → ⊥) → getD s 0 0 ≡ nackId
-      → gives (record { nack = true; records = cursor headerSize count }) ≡ readHeaderOf s
+      → gives (record { nack = true; records = cursor ackHeaderSize count }) ≡ readHeaderOf s
   unfolding readHeaderOf headerOf
   header-nack n i = lt-no _ _ _ _ _ h (eq-no _ _ _ _ _ n (eq-yes _ _ _ _ _ i (rw e)))
 

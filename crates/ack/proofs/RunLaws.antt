@@ -9,19 +9,20 @@ use native.Mathlib.Nat.{le-refl}
 use native.Mathlib.Omega.{arith}
 use Rattle.ack.specs.declared.Record.{Record}
 use Rattle.ack.specs.declared.Record.the-variants.{Single, Range}
-use Rattle.ack.specs.Records.{single, range, firstOf, lastOf, countUp, named, numbersOf, grow, runs, Proper, AllProper, Beyond, Apart}
+use Rattle.ack.specs.Records.{single, range, firstOf, lastOf, countUp, named, numbersOf, grow, runs, ProperRecord, AllProper, Beyond}
+use Rattle.ack.specs.Records.{Apart}
 use Rattle.ack.specs.Write.{ascending}
 use Rattle.base.proofs.IfCases.{lt-cases}
 use Rattle.ack.proofs.Grown.{grow-joins, grow-stands, Grown, alone, joins, stands, grown}
 
 -- a proper record's first number is at most its last
-pub proper-le : (r : Record) → Proper r → firstOf r ≤ lastOf r
-unfolding Proper firstOf lastOf
+pub proper-le : (r : Record) → ProperRecord r → firstOf r ≤ lastOf r
+unfolding ProperRecord firstOf lastOf
 proper-le (Single r) p = le-refl (r .sequence)
 proper-le (Range r) p = omega arith
 
 grown-proper : {x : ℕ} {rs gs : List Record} → Grown x rs gs → AllProper rs → AllProper gs
-unfolding AllProper Proper
+unfolding AllProper ProperRecord
 grown-proper alone p = (tt, tt)
 grown-proper (joins r rs e) p = (let le = proper-le r (p .0) in omega arith, p .1)
 grown-proper (stands r rs n) p = (tt, p)
@@ -65,7 +66,8 @@ first-run x l = grown-first (grown x (runs l))
 
 ascending-cons : (x y : ℕ) (l : List ℕ) → ascending (x ∷ y ∷ l) ≡ true → (x < y) × (ascending (y ∷ l) ≡ true)
 unfolding ascending
-ascending-cons x y l a = ⊎-elim (λ c. (c .0, sym (c .1) ∙ a)) (λ c. absurd (let z : _≡_ {A = ℕ} 0 1 = cc in omega arith)) (lt-cases x y (ascending (y ∷ l)) false)
+ascending-cons x y l a = ⊎-elim (λ c. (c .0, sym (c .1) ∙ a)) (λ c. absurd (let z : _≡_ {A = ℕ} 0 1 = cc in omega arith))
+    (lt-cases x y (ascending (y ∷ l)) false)
 
 above : ℕ → List Record → Type 0
 above x [] = Unit
@@ -95,7 +97,8 @@ unfolding grow Beyond
 grow-beyond x [] b = refl
 grow-beyond x (r ∷ rs) b = grow-stands x r rs (omega arith)
 
-runs-count : (k x last : ℕ) (m : List ℕ) → last ≡ x + suc k → Beyond last (runs m) → runs (countUp x (suc (suc k)) ++ m) ≡ range x last ∷ runs m
+runs-count : (k x last : ℕ) (m : List ℕ) → last ≡ x + suc k → Beyond last (runs m) → runs (countUp x (suc (suc k)) ++ m) ≡ range x last
+    ∷ runs m
 unfolding runs countUp firstOf lastOf
 runs-count zero x last m e b =
     let f : suc x ≡ last = omega arith in
@@ -103,8 +106,8 @@ runs-count zero x last m e b =
 runs-count (suc k) x last m e b =
     rw (runs-count k (suc x) last m (omega arith) b) (grow-joins x (range (suc x) last) (runs m) refl)
 
-runs-named : (r : Record) (m : List ℕ) → Proper r → Beyond (lastOf r) (runs m) → runs (named r ++ m) ≡ r ∷ runs m
-unfolding runs named Proper firstOf lastOf
+runs-named : (r : Record) (m : List ℕ) → ProperRecord r → Beyond (lastOf r) (runs m) → runs (named r ++ m) ≡ r ∷ runs m
+unfolding runs named ProperRecord firstOf lastOf
 runs-named (Single r) m p b = rw (named-single (r .sequence)) (grow-beyond (r .sequence) (runs m) b)
 runs-named (Range r) m p b =
     let n : suc (r .end) - r .start ≡ suc (suc (r .end - suc (r .start))) = omega arith in

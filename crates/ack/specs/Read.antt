@@ -22,8 +22,8 @@ abbrev pub nackId : ℕ
 nackId = 0xA0
 
 -- first byte and record count
-abbrev pub headerSize : ℕ
-headerSize = 3
+abbrev pub ackHeaderSize : ℕ
+ackHeaderSize = 3
 
 -- a cursor: where the next record stands, and how many are left
 abbrev pub cursor : ℕ → ℕ → AckCursor
@@ -35,12 +35,12 @@ pub record Header : Type 0 where
   pub records : AckCursor
 
 unfoldable pub headerOf : List ℕ → Bool → Header
-headerOf s nack = record { nack = nack; records = cursor headerSize (be16 s 1) }
+headerOf s nack = record { nack = nack; records = cursor ackHeaderSize (be16 s 1) }
 
 -- "1 cut; 3 first byte"
 unfoldable pub readHeaderOf : List ℕ → Answer Header
 readHeaderOf s =
-    ifLt (length s) headerSize (refused 1)
+    ifLt (length s) ackHeaderSize (refused 1)
     (ifEq (getD s 0 0) ackId (gives (headerOf s false))
     (ifEq (getD s 0 0) nackId (gives (headerOf s true)) (refused 3)))
 

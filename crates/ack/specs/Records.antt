@@ -78,13 +78,13 @@ runs [] = []
 runs (x ∷ xs) = grow x (runs xs)
 
 -- what the laws say of runs: a Range names two numbers or more ("each run of two or more as one Range")
-unfoldable pub Proper : Record → Type 0
-Proper (Single r) = Unit
-Proper (Range r) = r .start < r .end
+unfoldable pub ProperRecord : Record → Type 0
+ProperRecord (Single r) = Unit
+ProperRecord (Range r) = r .start < r .end
 
 unfoldable pub AllProper : List Record → Type 0
 AllProper [] = Unit
-AllProper (r ∷ rs) = Proper r × AllProper rs
+AllProper (r ∷ rs) = ProperRecord r × AllProper rs
 
 -- and the records ascend, with a number between a record's last and the next one's first, so that no two can be one Range
 unfoldable pub Beyond : ℕ → List Record → Type 0

@@ -17,11 +17,11 @@ use Rattle.ack.specs.Read.{ackId, nackId}
 unfoldable pub idOf : Bool → ℕ
 idOf nack = ifTrue nack nackId ackId
 
-unfoldable pub headerBytes : Bool → ℕ → List ℕ
-headerBytes nack count = idOf nack ∷ be16Bytes count
+unfoldable pub ackHeaderBytes : Bool → ℕ → List ℕ
+ackHeaderBytes nack count = idOf nack ∷ be16Bytes count
 
 unfoldable pub listBytes : Bool → List ℕ → List ℕ
-listBytes nack l = andThen (headerBytes nack (length (runs l))) (recordsBytes (runs l))
+listBytes nack l = andThen (ackHeaderBytes nack (length (runs l))) (recordsBytes (runs l))
 
 -- some number is 2^24 or more
 unfoldable pub someOver : List ℕ → Bool
@@ -39,16 +39,16 @@ ascending (x ∷ []) = true
 ascending (x ∷ y ∷ l) = ifLt x y (ascending (y ∷ l)) false
 
 -- "13 list too long or number of 2^24 or more; 14 not strictly ascending; 12 output short": x, y or z by the first that holds, else w
-unfoldable pub byCase : {A : Type 0} → ℕ → Bool → List ℕ → (x y z w : A) → A
-byCase room nack l x y z w = ifTrue (tooLarge l) x (ifTrue (ascending l) (ifLt room (length (listBytes nack l)) z w) y)
+unfoldable pub byListCase : {A : Type 0} → ℕ → Bool → List ℕ → (x y z w : A) → A
+byListCase room nack l x y z w = ifTrue (tooLarge l) x (ifTrue (ascending l) (ifLt room (length (listBytes nack l)) z w) y)
 
 -- the answer, from the output's length: how many bytes are written
 unfoldable pub writeListOf : ℕ → Bool → List ℕ → Answer ℕ
-writeListOf room nack l = byCase room nack l (refused 13) (refused 14) (refused 12) (gives (length (listBytes nack l)))
+writeListOf room nack l = byListCase room nack l (refused 13) (refused 14) (refused 12) (gives (length (listBytes nack l)))
 
 -- the output afterwards
 unfoldable pub writtenOf : List ℕ → Bool → List ℕ → List ℕ
-writtenOf out nack l = byCase (length out) nack l out out out (put out 0 (listBytes nack l))
+writtenOf out nack l = byListCase (length out) nack l out out out (put out 0 (listBytes nack l))
 
 -- document 01's number or value for each answer of the code
 abbrev pub writeAnswer : WriteAck → Answer ℕ

@@ -6,7 +6,7 @@ ghost use Rattle.base.specs.Limits.{maxList};
 ghost use Rattle.base.specs.Put.{Run, andThen};
 ghost use Rattle.ack.specs.Records.{recordsBytes, runs};
 ghost use Rattle.ack.specs.Read.{headerAnswer, readHeaderOf, stepAnswer, readSingle, readRange, readRecordOf};
-ghost use Rattle.ack.specs.Write.{idOf, headerBytes, someOver, tooLarge, ascending, writeAnswer, writeListOf, writtenOf};
+ghost use Rattle.ack.specs.Write.{idOf, ackHeaderBytes, someOver, tooLarge, ascending, writeAnswer, writeListOf, writtenOf};
 
 mod runs;
 
@@ -42,6 +42,7 @@ pub enum Record {
 }
 
 // Where the next record stands, and how many are left.
+#[repr(C)]
 pub struct AckCursor {
     pub at: usize,
     pub left: u32,
@@ -238,7 +239,8 @@ fn id_of(nack: bool) -> u8
 // The header with the record count, and the records.
 fn put_list(out: &mut [u8], nack: bool, count: usize, numbers: &[u32]) -> usize
     requires { ⌜ count ≤ maxList ⌝ }
-    ensures { λ r. ⌜ Run 0 (andThen (headerBytes nack count) (recordsBytes (runs (now (numbers .entry))))) (now (out .entry)) r (now (out .exit)) ⌝ }
+    ensures { λ r. ⌜ Run 0 (andThen (ackHeaderBytes nack count) (recordsBytes (runs (now (numbers .entry))))) (now (out .entry)) r
+        (now (out .exit)) ⌝ }
 {
     let id = id_of(nack);
     let a = base::put8(out, 0, id);

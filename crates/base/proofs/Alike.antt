@@ -16,8 +16,10 @@ module _ {A : Type 0} where
 
   pub any-alike : (p : A → Bool) (l l′ : List A) → Alike l l′ → any p l ≡ any p l′
   any-alike p l l′ s = cases (any p l)
-      (λ t. let a = any-true p l t in t ∙ sym (cases (any p l′) (λ u. u) (λ u. neither (p (a .0)) (a .2) (any-false p l′ u (a .0) (s .there _ (a .1))))))
-      (λ t. t ∙ sym (cases (any p l′) (λ u. let a = any-true p l′ u in neither (p (a .0)) (a .2) (any-false p l t (a .0) (s .back _ (a .1)))) (λ u. u)))
+      (λ t. let a = any-true p l t in t ∙ sym (cases (any p l′) (λ u. u)
+      (λ u. neither (p (a .0)) (a .2) (any-false p l′ u (a .0) (s .there _ (a .1))))))
+      (λ t. t ∙ sym (cases (any p l′) (λ u. let a = any-true p l′ u in
+      neither (p (a .0)) (a .2) (any-false p l t (a .0) (s .back _ (a .1)))) (λ u. u)))
 
   pub without-alike : (p : A → Bool) (l l′ : List A) → Alike l l′ → Alike (without p l) (without p l′)
   without-alike p l l′ s = record {
@@ -33,7 +35,8 @@ module _ {A : Type 0} where
       up h x (List·Memᴰ·tail i) = List·Memᴰ·tail (h x i)
 
   -- A test that no two elements pass finds the same.
-  pub find-alike : (p : A → Bool) (l l′ : List A) → Alike l l′ → ((x y : A) → List·Memᴰ x l → List·Memᴰ y l → p x ≡ true → p y ≡ true → x ≡ y) → find p l ≡ find p l′
+  pub find-alike : (p : A → Bool) (l l′ : List A) → Alike l l′ → ((x y : A) → List·Memᴰ x l → List·Memᴰ y l → p x ≡ true → p y ≡ true → x
+      ≡ y) → find p l ≡ find p l′
   find-alike p l l′ s one = go (find p l) refl (find p l′) refl
     where
       go : (o : Option A) → find p l ≡ o → (o′ : Option A) → find p l′ ≡ o′ → find p l ≡ find p l′

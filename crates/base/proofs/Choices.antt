@@ -15,7 +15,8 @@ pub cases : {A : Type 0} (t : Bool) → (t ≡ true → A) → (t ≡ false → 
 cases true f g = f refl
 cases false f g = g refl
 
-pub byOption : {A B : Type 0} (P : B → Type 0) (o : Option A) {b : B} {f : A → B} → (o ≡ none → P b) → ((a : A) → o ≡ some a → P (f a)) → P (option o b f)
+pub byOption : {A B : Type 0} (P : B → Type 0) (o : Option A) {b : B} {f : A → B} → (o ≡ none → P b) → ((a : A) → o ≡ some a → P (f a))
+    → P (option o b f)
 byOption P none g h = g refl
 byOption P (some a) g h = h a refl
 
@@ -38,13 +39,15 @@ option-arm none b F G h = refl
 option-arm (some a) b F G h = h a
 
 -- Choices by equal tests, or from equal options, are related where their arms are.
-pub same-cond : {A : Type 0} (R : A → A → Type 0) (t t′ : Bool) → t ≡ t′ → {x y x′ y′ : A} → (t ≡ true → R x x′) → (t ≡ false → R y y′) → R (cond t x y) (cond t′ x′ y′)
+pub same-cond : {A : Type 0} (R : A → A → Type 0) (t t′ : Bool) → t ≡ t′ → {x y x′ y′ : A} → (t ≡ true → R x x′) → (t ≡ false → R y y′)
+    → R (cond t x y) (cond t′ x′ y′)
 same-cond R true true e f g = f refl
 same-cond R true false e f g = absurd (true≢false e)
 same-cond R false true e f g = absurd (false≢true e)
 same-cond R false false e f g = g refl
 
-pub same-option : {A B : Type 0} (R : B → B → Type 0) (o o′ : Option A) → o ≡ o′ → {b b′ : B} {f f′ : A → B} → (o ≡ none → R b b′) → ((a : A) → o ≡ some a → R (f a) (f′ a)) → R (option o b f) (option o′ b′ f′)
+pub same-option : {A B : Type 0} (R : B → B → Type 0) (o o′ : Option A) → o ≡ o′ → {b b′ : B} {f f′ : A → B} → (o ≡ none → R b b′)
+    → ((a : A) → o ≡ some a → R (f a) (f′ a)) → R (option o b f) (option o′ b′ f′)
 same-option {A} {B} R o o′ e {b} {b′} {f} {f′} g h = subst (λ (z : Option A). R (option o b f) (option z b′ f′)) e (diagonal o g h)
   where
     diagonal : (o : Option A) → (o ≡ none → R b b′) → ((a : A) → o ≡ some a → R (f a) (f′ a)) → R (option o b f) (option o b′ f′)

@@ -1,14 +1,14 @@
 -- Numbers and their bytes: the digits of a number make the number, and the other way round; a number read in the middle of a list is the
 -- number read at the start of the list's rest.
 -- Assumes nothing.
-use mathlib.Core.Path.{_≡_, _∙_, sym, ap, refl}
-use mathlib.Core.List.{List, [], _∷_, _++_}
+use mathlib.Core.Path.{_≡_, _∙_, sym, ap}
+use mathlib.Core.List.{List, _++_}
 use Prim.Native.Nat.{ℕ, _+_, _*_, _/_, _%_, _<_}
 use native.Mathlib.Nat.{add-zero, add-assoc}
 use native.Mathlib.Omega.{arith}
 use lib.ListN.{length, getD}
 use lib.Seq.{getD-append-add}
-use Rattle.base.specs.Bytes.{be16, be32, le24, be16Bytes, le24Bytes}
+use Rattle.base.specs.Bytes.{le24}
 use Rattle.base.specs.Limits.{numbers24}
 
 -- ---- from a number to its bytes and back
@@ -17,17 +17,6 @@ digits16 x h = omega arith
 
 pub digits24 : (x : ℕ) → x < numbers24 → x % 256 + x / 256 % 256 * 256 + x / 65536 % 256 * 65536 ≡ x
 digits24 x h = omega arith
-
-pub digits32 : (x : ℕ) → x < 4294967296 → (x / 65536 / 256 % 256 * 256 + x / 65536 % 256) * 65536 + (x / 256 % 256 * 256 + x % 256) ≡ x
-digits32 x h = omega arith
-
-pub be16-back : (x : ℕ) (t : List ℕ) → x < 65536 → be16 (be16Bytes x ++ t) 0 ≡ x
-unfolding be16 be16Bytes
-be16-back x t h = digits16 x h
-
-pub le24-back : (x : ℕ) (t : List ℕ) → x < numbers24 → le24 (le24Bytes x ++ t) 0 ≡ x
-unfolding le24 le24Bytes
-le24-back x t h = digits24 x h
 
 -- ---- from bytes to a number and back
 module _ (a b : ℕ) (ha : a < 256) (hb : b < 256) where
@@ -47,31 +36,10 @@ module _ (a b c : ℕ) (ha : a < 256) (hb : b < 256) (hc : c < 256) where
   pub d24-2 : (a + b * 256 + c * 65536) / 65536 % 256 ≡ c
   d24-2 = omega arith
 
-module _ (a b c d : ℕ) (ha : a < 256) (hb : b < 256) (hc : c < 256) (hd : d < 256) where
-  pub d32-0 : ((a * 256 + b) * 65536 + (c * 256 + d)) / 65536 / 256 % 256 ≡ a
-  d32-0 = omega arith
-
-  pub d32-1 : ((a * 256 + b) * 65536 + (c * 256 + d)) / 65536 % 256 ≡ b
-  d32-1 = omega arith
-
-  pub d32-2 : ((a * 256 + b) * 65536 + (c * 256 + d)) / 256 % 256 ≡ c
-  d32-2 = omega arith
-
-  pub d32-3 : ((a * 256 + b) * 65536 + (c * 256 + d)) % 256 ≡ d
-  d32-3 = omega arith
-
 -- ---- in the middle of a list
 module _ (u r : List ℕ) where
   pub byte-shift : (p : ℕ) → getD (u ++ r) (length u + p) 0 ≡ getD r p 0
   byte-shift p = getD-append-add u r p 0
-
-  pub be16-shift : (p : ℕ) → be16 (u ++ r) (length u + p) ≡ be16 r p
-  unfolding be16
-  be16-shift p = rw (add-assoc, byte-shift p, byte-shift (p + 1))
-
-  pub be32-shift : (p : ℕ) → be32 (u ++ r) (length u + p) ≡ be32 r p
-  unfolding be32
-  be32-shift p = rw (add-assoc, be16-shift p, be16-shift (p + 2))
 
   pub le24-shift : (p : ℕ) → le24 (u ++ r) (length u + p) ≡ le24 r p
   unfolding le24

@@ -20,7 +20,8 @@ ltb-suc t k T e = cases (ltb t k)
     (λ z. let q : t ≡ k → ⊥ = eqb-false t k z in rw (y, z, le-ltb t T (omega arith))))
 
 -- c of n indices, and the next one where t: all of suc n?
-one-more : (c k n : ℕ) (t : Bool) → c ≤ n → k ≤ 1 → (t ≡ true → 1 ≤ k) → (t ≡ false → k ≡ 0) → (d : ℕ) → d ≡ c + k → (eqb c n && t) ≡ eqb d (suc n)
+one-more : (c k n : ℕ) (t : Bool) → c ≤ n → k ≤ 1 → (t ≡ true → 1 ≤ k) → (t ≡ false → k ≡ 0) → (d : ℕ) → d ≡ c + k → (eqb c n && t)
+    ≡ eqb d (suc n)
 one-more c k n true le one there gone d e = let y = there refl in cases (eqb c n)
     (λ z. let p = eqb-true c n z in rw z (sym (eq-eqb d (suc n) (omega arith))))
     (λ z. let p : c ≡ n → ⊥ = eqb-false c n z in rw z (sym (ne-eqb d (suc n) (λ w. p (omega arith)))))
@@ -28,8 +29,10 @@ one-more c k n false le one there gone d e = let y = gone refl in and-false (eqb
 
 module _ {A : Type 0} (q : A → Bool) (index : A → ℕ) (l : List A) where
   -- One index more: those below it, and those at it.
-  pub count-below-suc : (n T : ℕ) → T ≡ suc n → countOf (λ x. q x && ltb (index x) T) l ≡ countOf (λ x. q x && ltb (index x) n) l + countOf (λ x. q x && eqb (index x) n) l
-  count-below-suc n T e = count-split (λ x. q x && ltb (index x) T) (λ x. q x && ltb (index x) n) (λ x. q x && eqb (index x) n) l (λ x. (rw (ltb-suc (index x) n T e) (and-or-distrib-left (q x) (ltb (index x) n) (eqb (index x) n)), apart x))
+  pub count-below-suc : (n T : ℕ) → T ≡ suc n → countOf (λ x. q x && ltb (index x) T) l ≡ countOf (λ x. q x && ltb (index x) n) l + countOf
+      (λ x. q x && eqb (index x) n) l
+  count-below-suc n T e = count-split (λ x. q x && ltb (index x) T) (λ x. q x && ltb (index x) n) (λ x. q x && eqb (index x) n) l
+      (λ x. (rw (ltb-suc (index x) n T e) (and-or-distrib-left (q x) (ltb (index x) n) (eqb (index x) n)), apart x))
     where
       differ : (a b c : Bool) → (b && c) ≡ false → ((a && b) && (a && c)) ≡ false
       differ true b c e = e
@@ -42,17 +45,21 @@ module _ {A : Type 0} (q : A → Bool) (index : A → ℕ) (l : List A) where
 
   module _ (once : (i : ℕ) → countOf (λ x. q x && eqb (index x) i) l ≤ 1) where
     few-below : (n : ℕ) → countOf (λ x. q x && ltb (index x) n) l ≤ n
-    few-below zero = rw (count-none (λ x. q x && ltb (index x) 0) l (any-all (λ x. q x && ltb (index x) 0) l (λ x m. rw (le-ltb (index x) 0 (omega arith)) (and-false (q x))))) (omega arith)
+    few-below zero = rw (count-none (λ x. q x && ltb (index x) 0) l
+        (any-all (λ x. q x && ltb (index x) 0) l (λ x m. rw (le-ltb (index x) 0 (omega arith)) (and-false (q x))))) (omega arith)
     few-below (suc n) = let a = few-below n in let b = once n in let c = count-below-suc n (suc n) refl in omega arith
 
     all-below : (n : ℕ) → below n (λ i. any (λ x. q x && eqb (index x) i) l) ≡ eqb (countOf (λ x. q x && ltb (index x) n) l) n
     unfolding below
     all-below zero = let a = few-below zero in sym (eq-eqb (countOf (λ x. q x && ltb (index x) 0) l) 0 (omega arith))
-    all-below (suc n) = rw (all-below n) (one-more (countOf (λ x. q x && ltb (index x) n) l) (countOf (λ x. q x && eqb (index x) n) l) n (any (λ x. q x && eqb (index x) n) l)
-        (few-below n) (once n) (count-some (λ x. q x && eqb (index x) n) l) (count-none (λ x. q x && eqb (index x) n) l) _ (count-below-suc n (suc n) refl))
+    all-below (suc n) = rw (all-below n) (one-more (countOf (λ x. q x && ltb (index x) n) l) (countOf (λ x. q x && eqb (index x) n) l) n
+        (any (λ x. q x && eqb (index x) n) l)
+        (few-below n) (once n) (count-some (λ x. q x && eqb (index x) n) l) (count-none (λ x. q x && eqb (index x) n) l) _
+        (count-below-suc n (suc n) refl))
 
     -- Different indices below n, as many as n, are all of them; and fewer are not.
-    pub indices-all : (n : ℕ) → ((x : A) → List·Memᴰ x l → q x ≡ true → index x < n) → below n (λ i. any (λ x. q x && eqb (index x) i) l) ≡ eqb (countOf q l) n
+    pub indices-all : (n : ℕ) → ((x : A) → List·Memᴰ x l → q x ≡ true → index x < n) → below n (λ i. any (λ x. q x && eqb (index x) i) l)
+        ≡ eqb (countOf q l) n
     indices-all n within = all-below n ∙ ap (λ (c : ℕ). eqb c n) (count-ext (λ x. q x && ltb (index x) n) q l (λ x m. cases (q x)
         (λ y. rw (y, lt-ltb (index x) n (within x m y)))
         (λ y. rw y)))

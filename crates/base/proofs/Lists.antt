@@ -5,7 +5,8 @@ use mathlib.Core.Path.{_≡_, refl, sym, _∙_, ap}
 use mathlib.Core.Logic.{_⊎_, inl, inr}
 use mathlib.Core.Bool.{Bool, true, false, cond, not, _&&_, _||_, true≢false, false≢true}
 use mathlib.Core.Option.{Option, none, some}
-use mathlib.Core.List.{List, [], _∷_, _++_, map, append-nil, List·Memᴰ, List·Memᴰ·head, List·Memᴰ·tail, List·Memᴰ·cases-cons, List·Memᴰ·not-nil}
+use mathlib.Core.List.{List, [], _∷_, _++_, map, append-nil, List·Memᴰ, List·Memᴰ·head, List·Memᴰ·tail, List·Memᴰ·cases-cons}
+use mathlib.Core.List.{List·Memᴰ·not-nil}
 use native.Mathlib.Omega.{arith}
 use lib.ListN.{length, replicate}
 use lib.Dec.{eqb}
@@ -19,7 +20,8 @@ module _ {A : Type 0} where
   find-some p [] e = absurd (let z : _≡_ {A = ℕ} 0 1 = cc in omega arith)
   find-some p (y ∷ ys) {x} e = go (p y) refl e (λ e′. find-some p ys e′)
     where
-      go : (t : Bool) → p y ≡ t → cond t (some y) (find p ys) ≡ some x → (find p ys ≡ some x → List·Memᴰ x ys × (p x ≡ true)) → List·Memᴰ x (y ∷ ys) × (p x ≡ true)
+      go : (t : Bool) → p y ≡ t → cond t (some y) (find p ys) ≡ some x → (find p ys ≡ some x → List·Memᴰ x ys × (p x ≡ true))
+          → List·Memᴰ x (y ∷ ys) × (p x ≡ true)
       go true t e rest = let q : x ≡ y = cc in (List·Memᴰ·head q, ap p q ∙ t)
       go false t e rest = (List·Memᴰ·tail ((rest e) .0), (rest e) .1)
 
@@ -28,7 +30,8 @@ module _ {A : Type 0} where
   find-none p [] e x m = absurd (List·Memᴰ·not-nil m)
   find-none p (y ∷ ys) e x m = go (p y) refl e (λ e′ m′. find-none p ys e′ x m′) (List·Memᴰ·cases-cons m)
     where
-      go : (t : Bool) → p y ≡ t → cond t (some y) (find p ys) ≡ none → (find p ys ≡ none → List·Memᴰ x ys → p x ≡ false) → (x ≡ y) ⊎ List·Memᴰ x ys → p x ≡ false
+      go : (t : Bool) → p y ≡ t → cond t (some y) (find p ys) ≡ none → (find p ys ≡ none → List·Memᴰ x ys → p x ≡ false)
+          → (x ≡ y) ⊎ List·Memᴰ x ys → p x ≡ false
       go true t e rest c = absurd (let z : _≡_ {A = ℕ} 0 1 = cc in omega arith)
       go false t e rest (inl q) = ap p q ∙ t
       go false t e rest (inr m′) = rest e m′
@@ -38,7 +41,8 @@ module _ {A : Type 0} where
   any-true p [] e = absurd (false≢true e)
   any-true p (y ∷ ys) e = go (p y) refl e (λ e′. any-true p ys e′)
     where
-      go : (t : Bool) → p y ≡ t → (t || any p ys) ≡ true → (any p ys ≡ true → (x : A) × List·Memᴰ x ys × (p x ≡ true)) → (x : A) × List·Memᴰ x (y ∷ ys) × (p x ≡ true)
+      go : (t : Bool) → p y ≡ t → (t || any p ys) ≡ true → (any p ys ≡ true → (x : A) × List·Memᴰ x ys × (p x ≡ true)) → (x : A)
+          × List·Memᴰ x (y ∷ ys) × (p x ≡ true)
       go true t e rest = (y, List·Memᴰ·head refl, t)
       go false t e rest = let r = rest e in (r .0, List·Memᴰ·tail (r .1), r .2)
 
@@ -47,7 +51,8 @@ module _ {A : Type 0} where
   any-false p [] e x m = absurd (List·Memᴰ·not-nil m)
   any-false p (y ∷ ys) e x m = go (p y) refl e (λ e′ m′. any-false p ys e′ x m′) (List·Memᴰ·cases-cons m)
     where
-      go : (t : Bool) → p y ≡ t → (t || any p ys) ≡ false → (any p ys ≡ false → List·Memᴰ x ys → p x ≡ false) → (x ≡ y) ⊎ List·Memᴰ x ys → p x ≡ false
+      go : (t : Bool) → p y ≡ t → (t || any p ys) ≡ false → (any p ys ≡ false → List·Memᴰ x ys → p x ≡ false) → (x ≡ y) ⊎ List·Memᴰ x ys
+          → p x ≡ false
       go true t e rest c = absurd (true≢false e)
       go false t e rest (inl q) = ap p q ∙ t
       go false t e rest (inr m′) = rest e m′
@@ -57,11 +62,13 @@ module _ {A : Type 0} where
   without-mem p [] x m = absurd (List·Memᴰ·not-nil m)
   without-mem p (y ∷ ys) x m = go (p y) refl m (λ m′. without-mem p ys x m′)
     where
-      here : p y ≡ false → (x ≡ y) ⊎ List·Memᴰ x (without p ys) → (List·Memᴰ x (without p ys) → List·Memᴰ x ys × (p x ≡ false)) → List·Memᴰ x (y ∷ ys) × (p x ≡ false)
+      here : p y ≡ false → (x ≡ y) ⊎ List·Memᴰ x (without p ys) → (List·Memᴰ x (without p ys) → List·Memᴰ x ys × (p x ≡ false))
+          → List·Memᴰ x (y ∷ ys) × (p x ≡ false)
       here t (inl q) rest = (List·Memᴰ·head q, ap p q ∙ t)
       here t (inr m′) rest = (List·Memᴰ·tail ((rest m′) .0), (rest m′) .1)
 
-      go : (t : Bool) → p y ≡ t → List·Memᴰ x (cond t (without p ys) (y ∷ without p ys)) → (List·Memᴰ x (without p ys) → List·Memᴰ x ys × (p x ≡ false)) → List·Memᴰ x (y ∷ ys) × (p x ≡ false)
+      go : (t : Bool) → p y ≡ t → List·Memᴰ x (cond t (without p ys) (y ∷ without p ys))
+          → (List·Memᴰ x (without p ys) → List·Memᴰ x ys × (p x ≡ false)) → List·Memᴰ x (y ∷ ys) × (p x ≡ false)
       go true t m rest = (List·Memᴰ·tail ((rest m) .0), (rest m) .1)
       go false t m rest = here t (List·Memᴰ·cases-cons m) rest
 
@@ -70,7 +77,8 @@ module _ {A : Type 0} where
   mem-without p [] x m e = m
   mem-without p (y ∷ ys) x m e = go (p y) refl (List·Memᴰ·cases-cons m) (λ m′. mem-without p ys x m′ e)
     where
-      go : (t : Bool) → p y ≡ t → (x ≡ y) ⊎ List·Memᴰ x ys → (List·Memᴰ x ys → List·Memᴰ x (without p ys)) → List·Memᴰ x (cond t (without p ys) (y ∷ without p ys))
+      go : (t : Bool) → p y ≡ t → (x ≡ y) ⊎ List·Memᴰ x ys → (List·Memᴰ x ys → List·Memᴰ x (without p ys))
+          → List·Memᴰ x (cond t (without p ys) (y ∷ without p ys))
       go true t (inl q) rest = neither (p y) t (sym (ap p q) ∙ e)
       go true t (inr m′) rest = rest m′
       go false t (inl q) rest = List·Memᴰ·head q
@@ -100,7 +108,8 @@ module _ {A : Type 0} where
   length-without-lt p [] x m e = absurd (List·Memᴰ·not-nil m)
   length-without-lt p (y ∷ ys) x m e = go (p y) refl (List·Memᴰ·cases-cons m) (λ m′. length-without-lt p ys x m′ e) (length-without-le p ys)
     where
-      go : (t : Bool) → p y ≡ t → (x ≡ y) ⊎ List·Memᴰ x ys → (List·Memᴰ x ys → length (without p ys) < length ys) → length (without p ys) ≤ length ys → length (cond t (without p ys) (y ∷ without p ys)) < suc (length ys)
+      go : (t : Bool) → p y ≡ t → (x ≡ y) ⊎ List·Memᴰ x ys → (List·Memᴰ x ys → length (without p ys) < length ys) → length (without p ys) ≤
+          length ys → length (cond t (without p ys) (y ∷ without p ys)) < suc (length ys)
       go true t c rest le = omega arith
       go false t (inl q) rest le = neither (p y) (sym (ap p q) ∙ e) t
       go false t (inr m′) rest le = let r : length (without p ys) < length ys = rest m′ in omega arith
@@ -110,7 +119,8 @@ module _ {A : Type 0} where
   only-append p [] r = refl
   only-append p (y ∷ ys) r = go (p y) (only-append p ys r)
     where
-      go : (t : Bool) → only p (ys ++ r) ≡ only p ys ++ only p r → cond t (y ∷ only p (ys ++ r)) (only p (ys ++ r)) ≡ cond t (y ∷ only p ys) (only p ys) ++ only p r
+      go : (t : Bool) → only p (ys ++ r) ≡ only p ys ++ only p r → cond t (y ∷ only p (ys ++ r)) (only p (ys ++ r)) ≡ cond t (y ∷ only p ys)
+          (only p ys) ++ only p r
       go true e = ap {B = List A} (λ s. y ∷ s) e
       go false e = e
 
@@ -134,7 +144,8 @@ module _ {A : Type 0} where
   any-find p [] = refl
   any-find p (x ∷ l) = go (p x) (any-find p l)
     where
-      go : (t : Bool) → any p l ≡ option (find p l) false (λ x. true) → (t || any p l) ≡ option (cond t (some x) (find p l)) false (λ x. true)
+      go : (t : Bool) → any p l ≡ option (find p l) false (λ x. true) → (t || any p l) ≡ option (cond t (some x) (find p l)) false
+          (λ x. true)
       go true e = refl
       go false e = e
 
@@ -146,7 +157,8 @@ module _ {A : Type 0} where
   any-without p q [] = refl
   any-without p q (x ∷ l) = go (q x) (p x) refl (any-without p q l)
     where
-      go : (t u : Bool) → p x ≡ u → any p (without q l) ≡ any (λ x. p x && not (q x)) l → any p (cond t (without q l) (x ∷ without q l)) ≡ ((u && not t) || any (λ x. p x && not (q x)) l)
+      go : (t u : Bool) → p x ≡ u → any p (without q l) ≡ any (λ x. p x && not (q x)) l → any p (cond t (without q l) (x ∷ without q l))
+          ≡ ((u && not t) || any (λ x. p x && not (q x)) l)
       go true true y e = e
       go true false y e = e
       go false true y e = rw y
@@ -162,14 +174,17 @@ module _ {A : Type 0} where
       rw (a, r)
 
   -- What is found, as far as v shows it.
-  pub find-map : {B : Type 0} (v : A → B) (p q : A → Bool) (h : A → A) (l : List A) → ((x : A) → List·Memᴰ x l → p (h x) ≡ q x) → ((x : A) → List·Memᴰ x l → q x ≡ true → v (h x) ≡ v x)
+  pub find-map : {B : Type 0} (v : A → B) (p q : A → Bool) (h : A → A) (l : List A) → ((x : A) → List·Memᴰ x l → p (h x) ≡ q x)
+      → ((x : A) → List·Memᴰ x l → q x ≡ true → v (h x) ≡ v x)
       → option (find p (map h l)) none (λ x. some (v x)) ≡ option (find q l) none (λ x. some (v x))
   unfolding find
   find-map v p q h [] e s = refl
-  find-map {B} v p q h (x ∷ l) e s = rw (e x (List·Memᴰ·head refl)) (go (q x) refl (find-map v p q h l (λ y m. e y (List·Memᴰ·tail m)) (λ y m. s y (List·Memᴰ·tail m))))
+  find-map {B} v p q h (x ∷ l) e s = rw (e x (List·Memᴰ·head refl))
+      (go (q x) refl (find-map v p q h l (λ y m. e y (List·Memᴰ·tail m)) (λ y m. s y (List·Memᴰ·tail m))))
     where
       go : (t : Bool) → q x ≡ t → option (find p (map h l)) none (λ x. some (v x)) ≡ option (find q l) none (λ x. some (v x))
-          → _≡_ {A = Option B} (option (cond t (some (h x)) (find p (map h l))) none (λ x. some (v x))) (option (cond t (some x) (find q l)) none (λ x. some (v x)))
+          → _≡_ {A = Option B} (option (cond t (some (h x)) (find p (map h l))) none (λ x. some (v x)))
+          (option (cond t (some x) (find q l)) none (λ x. some (v x)))
       go true t r = ap {B = Option B} some (s x (List·Memᴰ·head refl) t)
       go false t r = r
 
@@ -190,12 +205,14 @@ module _ {A : Type 0} where
   pub pairs-mem : (p : A → A → Bool) (l : List A) → pairs p l ≡ true → (x y : A) → List·Memᴰ x l → List·Memᴰ y l → (x ≡ y) ⊎ (p x y ≡ true)
   unfolding pairs
   pairs-mem p [] e x y i j = absurd (List·Memᴰ·not-nil i)
-  pairs-mem p (z ∷ zs) e x y i j = go (List·Memᴰ·cases-cons i) (List·Memᴰ·cases-cons j) (λ i′ j′. pairs-mem p zs (and-right (every (λ y. p z y && p y z) zs) _ e) x y i′ j′)
+  pairs-mem p (z ∷ zs) e x y i j = go (List·Memᴰ·cases-cons i) (List·Memᴰ·cases-cons j)
+      (λ i′ j′. pairs-mem p zs (and-right (every (λ y. p z y && p y z) zs) _ e) x y i′ j′)
     where
       both : (w : A) → List·Memᴰ w zs → (p z w && p w z) ≡ true
       both w k = every-mem (λ y. p z y && p y z) zs (and-left _ (pairs p zs) e) w k
 
-      go : (x ≡ z) ⊎ List·Memᴰ x zs → (y ≡ z) ⊎ List·Memᴰ y zs → (List·Memᴰ x zs → List·Memᴰ y zs → (x ≡ y) ⊎ (p x y ≡ true)) → (x ≡ y) ⊎ (p x y ≡ true)
+      go : (x ≡ z) ⊎ List·Memᴰ x zs → (y ≡ z) ⊎ List·Memᴰ y zs → (List·Memᴰ x zs → List·Memᴰ y zs → (x ≡ y) ⊎ (p x y ≡ true))
+          → (x ≡ y) ⊎ (p x y ≡ true)
       go (inl q) (inl r) rest = inl (q ∙ sym r)
       go (inl q) (inr k) rest = inr (rw q (and-left (p z y) _ (both y k)))
       go (inr k) (inl r) rest = inr (rw r (and-right (p z x) _ (both x k)))

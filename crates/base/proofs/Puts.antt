@@ -10,7 +10,8 @@ use native.Mathlib.Numerals.{add-one}
 use native.Mathlib.Omega.{arith}
 use lib.Dec.{ltb}
 use lib.ListN.{length, getD, set, take, drop, length-set, length-append, length-take, length-drop, take-append-drop}
-use lib.Seq.{getD-set-same, getD-set-other, set-out, take-suc, take-suc-set, take-all, length-take-le, drop-drop, sets, sets-eq, drop-length}
+use lib.Seq.{getD-set-same, getD-set-other, set-out, take-suc, take-suc-set, take-all, length-take-le, drop-drop, sets, sets-eq}
+use lib.Seq.{drop-length}
 use borrow.Author.Tests.{lt-ltb, le-ltb, ltb-true, ltb-false}
 use Rattle.base.specs.If.{ifTrue, ifLt}
 use Rattle.base.proofs.Ifs.{lt-yes, lt-no}
@@ -61,12 +62,19 @@ put-append l p (a ∷ xs) bs = go (ltb p (length l)) refl (put-append (set l p a
   where
     go : (t : Bool) → ltb p (length l) ≡ t
         → put (put (set l p a) (suc p) xs) (after (length (set l p a)) (suc p) (length xs)) bs ≡ put (set l p a) (suc p) (xs ++ bs)
-        → put (put (set l p a) (suc p) xs) (after (length l) (ifLt p (length l) (suc p) p) (length xs)) bs ≡ put (set l p a) (suc p) (xs ++ bs)
+        → put (put (set l p a) (suc p) xs) (after (length l) (ifLt p (length l) (suc p) p) (length xs)) bs ≡ put (set l p a) (suc p)
+        (xs ++ bs)
     go true t r = rw (← lt-yes p (length l) _ (suc p) p (ltb-true p (length l) t) refl, ← length-set l p a) r
     go false t r =
         let h : length l ≤ p = ltb-false p (length l) t in
         let h′ : length l ≤ suc p = omega arith in
-        rw (← lt-no p (length l) _ (suc p) p h refl, set-out l p a h, put-past l (suc p) xs h′, after-past (length l) p (length xs) h, put-past l (suc p) (xs ++ bs) h′)
+        rw (
+          ← lt-no p (length l) _ (suc p) p h refl,
+          set-out l p a h,
+          put-past l (suc p) xs h′,
+          after-past (length l) p (length xs) h,
+          put-past l (suc p) (xs ++ bs) h′,
+        )
         (put-past l p bs h)
 
 -- what stands before the run, and in it
@@ -75,7 +83,8 @@ unfolding put
 put-before l p [] i h = refl
 put-before l p (b ∷ bs) i h = put-before (set l p b) (suc p) bs i (omega arith) ∙ getD-set-other l p i b 0 (omega arith)
 
-pub put-in : (l : List ℕ) (p : ℕ) (bs : List ℕ) (i : ℕ) → p + length bs ≤ length l → i < length bs → getD (put l p bs) (p + i) 0 ≡ getD bs i 0
+pub put-in : (l : List ℕ) (p : ℕ) (bs : List ℕ) (i : ℕ) → p + length bs ≤ length l → i < length bs → getD (put l p bs) (p + i) 0
+    ≡ getD bs i 0
 unfolding put
 put-in l p [] i h k = absurd (not-suc-le-zero k)
 put-in l p (b ∷ bs) zero h k =
@@ -97,7 +106,8 @@ pub put-back : (l : List ℕ) (at : ℕ) (bs : List ℕ) → at ≤ length l
     → take at l ++ (put (drop at l) 0 bs ++ drop (length l - at) (drop at l)) ≡ put l at bs
 put-back l at bs h =
     let n : length (take at l) ≡ at = simp length-take (omega arith) in
-    let e : put (take at l ++ drop at l) (length (take at l) + 0) bs ≡ take at l ++ put (drop at l) 0 bs = put-front (take at l) (drop at l) 0 bs in
+    let e : put (take at l ++ drop at l) (length (take at l) + 0) bs ≡ take at l ++ put (drop at l) 0 bs =
+    put-front (take at l) (drop at l) 0 bs in
     let d : drop (length l - at) (drop at l) ≡ [] = rw (← length-drop at l) (drop-length (drop at l)) in
     rw (d, append-nil) (sym (rw (take-append-drop, n, add-zero) at e))
 
@@ -115,7 +125,8 @@ pub run-none : (p : ℕ) (bs l : List ℕ) → bs ≡ [] → Run p bs l p l
 unfolding after
 run-none p bs l e = record { next = rw e; is = rw e (sym (put-none l p)) }
 
-pub run-then : (p : ℕ) (xs ys l : List ℕ) (q : ℕ) (L : List ℕ) (r : ℕ) (M : List ℕ) → Run p xs l q L → Run q ys L r M → Run p (andThen xs ys) l r M
+pub run-then : (p : ℕ) (xs ys l : List ℕ) (q : ℕ) (L : List ℕ) (r : ℕ) (M : List ℕ) → Run p xs l q L → Run q ys L r M
+    → Run p (andThen xs ys) l r M
 unfolding andThen
 run-then p xs ys l q L r M a b =
     let n : length L ≡ length l = ap length (a .is) ∙ length-put l p xs in
@@ -124,7 +135,8 @@ run-then p xs ys l q L r M a b =
       is = b .is ∙ rw (a .is, a .next) (put-append l p xs ys);
     }
 
-pub run-cons : (p a : ℕ) (bs l : List ℕ) (q : ℕ) (L : List ℕ) (r : ℕ) (M : List ℕ) → Run p (a ∷ []) l q L → Run q bs L r M → Run p (a ∷ bs) l r M
+pub run-cons : (p a : ℕ) (bs l : List ℕ) (q : ℕ) (L : List ℕ) (r : ℕ) (M : List ℕ) → Run p (a ∷ []) l q L → Run q bs L r M
+    → Run p (a ∷ bs) l r M
 unfolding andThen
 run-cons p a bs l q L r M x y = run-then p (a ∷ []) bs l q L r M x y
 
@@ -165,7 +177,8 @@ module _ (p m : ℕ) (body l : List ℕ) (h : p < length l) (e : m ≡ min (leng
       go (no i) =
           let f : after (length l) p (length (take m body)) ≡ p + m = rw part-long (after-fits (length l) p m (omega arith)) in
           let full : length (put l p (take m body)) ≤ p + m = rw length-put (omega arith) in
-          let a : put (put l p (take m body)) (after (length l) p (length (take m body))) (drop m body) ≡ put l p (take m body ++ drop m body) =
+          let a : put (put l p (take m body)) (after (length l) p (length (take m body))) (drop m body)
+          ≡ put l p (take m body ++ drop m body) =
           put-append l p (take m body) (drop m body) in
           sym (rw (f, put-past (put l p (take m body)) (p + m) (drop m body) full, take-append-drop) at a)
 
@@ -188,7 +201,8 @@ module _ (p m : ℕ) (body l : List ℕ) (h : p < length l) (e : m ≡ min (leng
 
   pub part-run : (part : List ℕ) → part ≡ take m body → Run p body l (p + m) (take p l ++ (part ++ drop (p + m - p) (drop p l)))
   part-run part i =
-      let s : put l p (take m body) ≡ take p l ++ (take m body ++ drop (p + length (take m body)) l) = put-split l p (take m body) (rw part-long (omega arith)) in
+      let s : put l p (take m body) ≡ take p l ++ (take m body ++ drop (p + length (take m body)) l) =
+      put-split l p (take m body) (rw part-long (omega arith)) in
       let d : p + (p + m - p) ≡ p + m = omega arith in
       record { next = sym part-next; is = rw (i, drop-drop, d) (sym (part-put ∙ (rw part-long at s))) }
 

@@ -35,7 +35,8 @@ pub record Left (p : ℕ) (bs l : List ℕ) (q : ℕ) (cs m : List ℕ) : Type 0
 pub left-all : (p : ℕ) (bs l : List ℕ) → Left p bs l p bs l
 left-all p bs l = record { next = refl; is = refl }
 
-pub left-less : (p : ℕ) (bs l : List ℕ) (q : ℕ) (xs ys m : List ℕ) (r : ℕ) (M : List ℕ) → Run q xs m r M → Left p bs l q (andThen xs ys) m → Left p bs l r ys M
+pub left-less : (p : ℕ) (bs l : List ℕ) (q : ℕ) (xs ys m : List ℕ) (r : ℕ) (M : List ℕ) → Run q xs m r M → Left p bs l q (andThen xs ys) m
+    → Left p bs l r ys M
 unfolding andThen
 left-less p bs l q xs ys m r M a b =
     let n : length M ≡ length m = run-long q xs m r M a in

@@ -1,4 +1,5 @@
--- Numbers in bytes: document 01, "Bytes" ("16 bits big-endian", "24 bits little-endian each", "count (32), id (16), index (32), big-endian").
+-- Numbers in bytes: document 01, "Bytes" ("16 bits big-endian", "24 bits little-endian each", "count (32), id (16), index (32),
+-- big-endian").
 -- Reading is total: past the end of a list a byte is 0, so only the calls' own tests speak of lengths.
 use Prim.Native.Nat.{ℕ, _+_, _*_, _/_, _%_, _<_}
 use mathlib.Core.List.{List, [], _∷_}

@@ -1,4 +1,4 @@
--- The order of numbers of 24 bits: every definition that compares two such numbers or counts on from one goes through these.
+-- The order of numbers of 24 bits: the windows, receive and step 4 compare two such numbers, and count on from one, through these names.
 use Prim.Native.Nat.{ℕ, _+_, _-_}
 use mathlib.Core.Bool.{Bool}
 use lib.Dec.{ltb}

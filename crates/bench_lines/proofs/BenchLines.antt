@@ -1,5 +1,5 @@
--- The starred bench lines, by computation over the definitions. A receive asks first whether receiver, records and store are sound; those just made are
--- (recv's law `start-sane`).
+-- The starred bench lines, by computation over the definitions. A receive asks first whether receiver, records and store are sound; those
+-- just made are (receiver's law `start-sane`).
 -- Assumes nothing.
 use Prim.Native.Nat.{ℕ}
 use mathlib.Core.Path.{_≡_, refl}
@@ -14,35 +14,37 @@ use Rattle.ack.specs.Records as records
 use Rattle.ack.specs.Write as ack
 use Rattle.window.specs.Places as places
 use Rattle.window.specs.Window as window
-use Rattle.queue.specs.Split as split
-use Rattle.line.specs.Frame as line
-use Rattle.line.specs.Bare as bare
+use Rattle.split.specs.Split as split
+use Rattle.bare.specs.Frame as line
+use Rattle.bare.specs.Bare as bare
 use Rattle.cells.specs.Datagram as datagram
-use Rattle.recv.specs.Queue as queue
-use Rattle.recv.specs.Receive as receive
-use Rattle.recv.specs.Calls as calls
-use Rattle.recv.specs.Claim.{Start, begun}
-use Rattle.recv.proofs.Demand.{start-sane}
+use Rattle.receiver.specs.Queue as queue
+use Rattle.receiver.specs.Receive as receive
+use Rattle.receiver.specs.Calls as calls
+use Rattle.receiver.specs.Claim.{Start, begun}
+use Rattle.receiver.proofs.Demand.{start-sane}
 use Rattle.bench_lines.specs.BenchLines.{reported, withPiece, BenchLines}
 
-piece-dropped : (s : Start) (id₁ id₂ byte : ℕ) → reported (begun s) (withPiece id₁ id₂ byte) ≡ gives (record { ready = 0; dropped = 1; left = 0 })
+piece-dropped : (s : Start) (id₁ id₂ byte : ℕ) → reported (begun s) (withPiece id₁ id₂ byte)
+    ≡ gives (record { ready = 0; dropped = 1; left = 0 })
 unfolding ifTrue ifLt ifLe ifEq be16 be32 le24
     fieldsOf frame.frameAt frame.placedAt frame.readFrameOf frames.onRead frames.framesFrom frames.endFrom frames.framesOf frames.endOf
     places.bit places.placeSet window.newWindow window.accepted
     line.carriesReliable line.inLimits bare.seenBefore
     datagram.dropOne datagram.acceptIn datagram.frame datagram.frames datagram.begin datagram.datagram
-    queue.newQueue receive.frameIn receive.framesIn receive.bytesLeft receive.acceptAll receive.stateOf receive.acceptedOf receive.receiveOf calls.made
+    queue.newQueue receive.frameIn receive.framesIn receive.bytesLeft receive.acceptAll receive.stateOf receive.acceptedResult
+    receive.receiveOf calls.made
 piece-dropped s id₁ id₂ byte = rw (start-sane s .sound, reported)
 
 pub bench-lines : BenchLines
 unfolding ifTrue ifLt ifLe ifEq be16 be32 le24 be16Bytes le24Bytes put andThen
     fieldsOf frame.frameAt frame.placedAt frame.readFrameOf
     records.firstOf records.lastOf records.recordBytes records.recordsBytes records.grow records.runs
-    ack.idOf ack.headerBytes ack.listBytes ack.someOver ack.tooLarge ack.ascending ack.byCase ack.writeListOf ack.writtenOf
+    ack.idOf ack.ackHeaderBytes ack.listBytes ack.someOver ack.tooLarge ack.ascending ack.byListCase ack.writeListOf ack.writtenOf
     places.bit places.placeSet places.setPlace places.clearPlace
     window.newWindow window.accepted window.advance window.accept window.insertOf
-    split.chunksOf split.pieceOf
-    line.carriesReliable line.inLimits bare.new bare.seenBefore bare.accept bare.dropIn bare.step
+    split.chunksOf split.splitPieceOf
+    line.carriesReliable line.inLimits bare.new bare.seenBefore bare.acceptReliable bare.dropIn bare.step
 bench-lines =
     record {
       zero-accepted = (refl, refl);

@@ -2,16 +2,16 @@
 -- Assumes nothing.
 use mathlib.Core.Path.{_≡_, refl}
 use mathlib.Core.Bool.{true, false}
-use mathlib.Core.List.{List, [], _∷_, flatten}
+use mathlib.Core.List.{List, [], _∷_, map}
 use lib.ListN.{replicate}
-use Rattle.line.specs.Frame.{Frame}
-use Rattle.line.specs.Bare.{new, feed}
-use Rattle.line.proofs.Shown.{whole-frame, piece-frame, msg}
+use Rattle.bare.specs.Frame.{Frame}
+use Rattle.bare.specs.Bare.{new, feed}
+use Rattle.bare.proofs.Shown.{whole-frame, piece-frame, msg}
 use Rattle.cells.specs.Cell.{Slot, emptySlot}
 use Rattle.cells.specs.Take.{drain}
 use Rattle.cells.specs.Room.{keptAsFrame, bodies, exceeds}
-use Rattle.cells.specs.Calls.{Call, receive, take, calls, newSession, acceptedOf, countsOf, read, handedOut, stillOut}
-use Rattle.cells.proofs.Shown.{slot, open-cell, held-cell, ready-cell, gave, took, refused, saw, run, sessionOf, runFrom, soundAt}
+use Rattle.cells.proofs.Shown.{slot, open-cell, held-cell, ready-cell, SlotCall, receive, take, gave, took, refused, Seen, saw}
+use Rattle.cells.proofs.Shown.{stateAfter, stateAt, run, runFrom, soundAt}
 
 -- Order number 1 is held, 0 releases it; takes hand them out in order and free their cells; then 20.
 pub held-then-released : run 2 (receive (whole-frame 3 0 0 1 66 ∷ []) ∷ receive (whole-frame 3 1 0 0 65 ∷ []) ∷ take ∷ take ∷ take ∷ [])
@@ -26,24 +26,29 @@ held-then-released = refl
 
 -- A split of three, joined late, with a frame sent twice and piece index 2 of count 2: 5 cells do, 4 do not.
 unfoldable pub split-frames : List Frame
-split-frames = whole-frame 7 0 5 2 12 ∷ piece-frame 3 1 5 0 3 9 2 102 ∷ whole-frame 3 2 5 1 11 ∷ piece-frame 3 3 5 0 3 9 0 100 ∷ whole-frame 3 2 5 1 11 ∷ piece-frame 3 6 0 0 2 4 2 1 ∷ piece-frame 3 4 5 0 3 9 1 101 ∷ []
+split-frames = whole-frame 7 0 5 2 12 ∷ piece-frame 3 1 5 0 3 9 2 102 ∷ whole-frame 3 2 5 1 11 ∷ piece-frame 3 3 5 0 3 9 0 100
+    ∷ whole-frame 3 2 5 1 11 ∷ piece-frame 3 6 0 0 2 4 2 1 ∷ piece-frame 3 4 5 0 3 9 1 101 ∷ []
 
-pub split-needs-5 : (handedOut 5 (receive split-frames ∷ take ∷ take ∷ take ∷ []) ≡ msg 3 5 0 (100 ∷ 101 ∷ 102 ∷ []) ∷ msg 3 5 1 (11 ∷ []) ∷ msg 7 5 2 (12 ∷ []) ∷ [])
-    × (stillOut 5 (receive split-frames ∷ take ∷ []) ≡ msg 3 5 1 (11 ∷ []) ∷ msg 7 5 2 (12 ∷ []) ∷ [])
-    × (countsOf (newSession 5) (receive split-frames ∷ []) ≡ (3 ∷ 2 ∷ []) ∷ [])
+pub split-needs-5 : (map (λ (v : Seen). v .told) (run 5 (receive split-frames ∷ take ∷ take ∷ take ∷ []))
+    ≡ gave 3 2 ∷ took (msg 3 5 0 (100 ∷ 101 ∷ 102 ∷ [])) ∷ took (msg 3 5 1 (11 ∷ [])) ∷ took (msg 7 5 2 (12 ∷ [])) ∷ [])
+    × (drain (stateAfter (stateAfter (stateAt 0 (replicate 5 emptySlot)) (receive split-frames)) take .slots)
+    ≡ msg 3 5 1 (11 ∷ []) ∷ msg 7 5 2 (12 ∷ []) ∷ [])
     × (run 4 (receive split-frames ∷ []) ≡ saw (refused 8) (emptySlot ∷ emptySlot ∷ emptySlot ∷ emptySlot ∷ []) ∷ [])
-unfolding run split-frames handedOut stillOut countsOf
-split-needs-5 = (refl, refl, refl, refl)
+unfolding run split-frames
+split-needs-5 = (refl, refl, refl)
 
 -- Refusal 8's condition counts the same: five of the seven frames are not dropped as frames.
-pub room-condition : (bodies new split-frames ≡ 5) × (exceeds new (replicate 5 emptySlot) split-frames ≡ false) × (exceeds new (replicate 4 emptySlot) split-frames ≡ true)
+pub room-condition : (bodies new split-frames ≡ 5) × (exceeds new (replicate 5 emptySlot) split-frames ≡ false)
+    × (exceeds new (replicate 4 emptySlot) split-frames ≡ true)
 unfolding run split-frames bodies keptAsFrame exceeds
 room-condition = (refl, refl, refl)
 
--- A late join: order number 0 comes whole, then the second piece of its split. The joined message is dropped and counts one; its two cells count for
--- 8, are not used again within the datagram, and are free afterwards. So the frames behind it need two more cells: 3 do not do, 4 do.
-unfoldable pub late-join : List Call
-late-join = receive (piece-frame 3 0 0 0 2 5 0 8 ∷ whole-frame 3 1 0 0 9 ∷ []) ∷ take ∷ receive (piece-frame 3 2 0 0 2 5 1 8 ∷ whole-frame 0 0 0 0 1 ∷ whole-frame 0 0 0 0 2 ∷ []) ∷ []
+-- A late join: order number 0 comes whole, then the second piece of its split. The joined message is dropped and counts one; its two cells
+-- count for 8, are not used again within the datagram, and are free afterwards. So the frames behind it need two more cells: 3 do not do, 4
+-- do.
+unfoldable pub late-join : List SlotCall
+late-join = receive (piece-frame 3 0 0 0 2 5 0 8 ∷ whole-frame 3 1 0 0 9 ∷ []) ∷ take
+    ∷ receive (piece-frame 3 2 0 0 2 5 1 8 ∷ whole-frame 0 0 0 0 1 ∷ whole-frame 0 0 0 0 2 ∷ []) ∷ []
 
 pub late-join-of-3 : run 3 late-join
     ≡ saw (gave 1 0) (open-cell 5 0 2 0 8 ∷ ready-cell 0 3 0 9 ∷ emptySlot ∷ [])
@@ -62,54 +67,61 @@ unfolding run late-join
 late-join-of-4 = refl
 
 -- Refusal 8's condition counts the late piece too: three bodies are not dropped as frames.
-pub late-join-takes-a-cell : bodies (feed new (piece-frame 3 0 0 0 2 5 0 8 ∷ whole-frame 3 1 0 0 9 ∷ []) .after) (piece-frame 3 2 0 0 2 5 1 8 ∷ whole-frame 0 0 0 0 1 ∷ whole-frame 0 0 0 0 2 ∷ []) ≡ 3
+pub late-join-takes-a-cell : bodies (feed new (piece-frame 3 0 0 0 2 5 0 8 ∷ whole-frame 3 1 0 0 9 ∷ []) .after)
+    (piece-frame 3 2 0 0 2 5 1 8 ∷ whole-frame 0 0 0 0 1 ∷ whole-frame 0 0 0 0 2 ∷ []) ≡ 3
 unfolding run bodies keptAsFrame
 late-join-takes-a-cell = refl
 
 -- An id is used again while its first message is held: its cells keep the id, and both messages come whole.
-pub id-used-again : run 5 (receive (piece-frame 3 0 0 1 2 7 0 1 ∷ piece-frame 3 1 0 1 2 7 1 2 ∷ piece-frame 3 2 0 2 2 7 1 4 ∷ []) ∷ receive (piece-frame 3 3 0 2 2 7 0 3 ∷ whole-frame 3 4 0 0 9 ∷ []) ∷ [])
+pub id-used-again : run 5 (receive (piece-frame 3 0 0 1 2 7 0 1 ∷ piece-frame 3 1 0 1 2 7 1 2 ∷ piece-frame 3 2 0 2 2 7 1 4 ∷ [])
+    ∷ receive (piece-frame 3 3 0 2 2 7 0 3 ∷ whole-frame 3 4 0 0 9 ∷ []) ∷ [])
     ≡ saw (gave 0 0) (slot 2 7 0 3 0 2 0 1 0 (1 ∷ []) ∷ slot 2 7 1 3 0 2 0 1 0 (2 ∷ []) ∷ open-cell 7 1 2 2 4 ∷ emptySlot ∷ emptySlot ∷ [])
-    ∷ saw (gave 3 0) (slot 3 7 0 3 0 2 0 1 1 (1 ∷ []) ∷ slot 3 7 1 3 0 2 0 1 1 (2 ∷ []) ∷ slot 3 7 1 3 0 2 0 2 2 (4 ∷ []) ∷ slot 3 7 0 3 0 2 0 2 2 (3 ∷ []) ∷ ready-cell 0 3 0 9 ∷ [])
+    ∷ saw (gave 3 0) (slot 3 7 0 3 0 2 0 1 1 (1 ∷ []) ∷ slot 3 7 1 3 0 2 0 1 1 (2 ∷ []) ∷ slot 3 7 1 3 0 2 0 2 2 (4 ∷ [])
+    ∷ slot 3 7 0 3 0 2 0 2 2 (3 ∷ []) ∷ ready-cell 0 3 0 9 ∷ [])
     ∷ []
 unfolding run
 id-used-again = refl
 
 -- A jam: the only cell is held. The empty datagram and one whose frames are all dropped are accepted; the one that would release it gets 8.
-pub jam : run 1 (receive (whole-frame 3 0 0 1 1 ∷ []) ∷ receive [] ∷ receive (whole-frame 3 0 0 1 1 ∷ whole-frame 3 1 0 1 2 ∷ whole-frame 3 2 32 0 3 ∷ []) ∷ receive (whole-frame 3 3 0 0 4 ∷ []) ∷ take ∷ [])
-    ≡ saw (gave 0 0) (held-cell 1 1 ∷ []) ∷ saw (gave 0 0) (held-cell 1 1 ∷ []) ∷ saw (gave 0 3) (held-cell 1 1 ∷ []) ∷ saw (refused 8) (held-cell 1 1 ∷ []) ∷ saw (refused 20) (held-cell 1 1 ∷ []) ∷ []
+pub jam : run 1 (receive (whole-frame 3 0 0 1 1 ∷ []) ∷ receive [] ∷ receive (whole-frame 3 0 0 1 1 ∷ whole-frame 3 1 0 1 2
+    ∷ whole-frame 3 2 32 0 3 ∷ []) ∷ receive (whole-frame 3 3 0 0 4 ∷ []) ∷ take ∷ [])
+    ≡ saw (gave 0 0) (held-cell 1 1 ∷ []) ∷ saw (gave 0 0) (held-cell 1 1 ∷ []) ∷ saw (gave 0 3) (held-cell 1 1 ∷ [])
+    ∷ saw (refused 8) (held-cell 1 1 ∷ []) ∷ saw (refused 20) (held-cell 1 1 ∷ []) ∷ []
 unfolding run
 jam = refl
 
 -- A refused datagram accepted no reliable number: the same frame passes once there is room.
-pub refused-leaves-no-trace : run 1 (receive (whole-frame 0 0 0 0 1 ∷ []) ∷ receive (whole-frame 3 7 0 0 2 ∷ []) ∷ take ∷ receive (whole-frame 3 7 0 0 2 ∷ []) ∷ [])
-    ≡ saw (gave 1 0) (ready-cell 0 0 0 1 ∷ []) ∷ saw (refused 8) (ready-cell 0 0 0 1 ∷ []) ∷ saw (took (msg 0 0 0 (1 ∷ []))) (emptySlot ∷ []) ∷ saw (gave 1 0) (ready-cell 0 3 0 2 ∷ []) ∷ []
+pub refused-leaves-no-trace : run 1 (receive (whole-frame 0 0 0 0 1 ∷ []) ∷ receive (whole-frame 3 7 0 0 2 ∷ []) ∷ take
+    ∷ receive (whole-frame 3 7 0 0 2 ∷ []) ∷ [])
+    ≡ saw (gave 1 0) (ready-cell 0 0 0 1 ∷ []) ∷ saw (refused 8) (ready-cell 0 0 0 1 ∷ []) ∷ saw (took (msg 0 0 0 (1 ∷ [])))
+    (emptySlot ∷ []) ∷ saw (gave 1 0) (ready-cell 0 3 0 2 ∷ []) ∷ []
 unfolding run
 refused-leaves-no-trace = refl
 
--- What the bare receiver is fed: the frames of the accepted datagrams. With one cell in use the second datagram gets 8; after the take the third does not.
-pub read-if-accepted : read 1 (receive (whole-frame 0 0 0 0 1 ∷ []) ∷ receive (whole-frame 0 0 0 0 2 ∷ []) ∷ take ∷ receive (whole-frame 0 0 0 0 3 ∷ []) ∷ []) ≡ whole-frame 0 0 0 0 1 ∷ whole-frame 0 0 0 0 3 ∷ []
-unfolding run read acceptedOf flatten
-read-if-accepted = refl
-
 -- A piece of count 1 gives the message that a whole frame gives; only the id in the record tells them apart.
-pub count-1 : run 2 (receive (piece-frame 0 0 0 0 1 7 0 5 ∷ whole-frame 0 0 0 0 5 ∷ []) ∷ []) ≡ saw (gave 2 0) (slot 3 7 0 0 0 1 0 0 0 (5 ∷ []) ∷ ready-cell 1 0 0 5 ∷ []) ∷ []
+pub count-1 : run 2 (receive (piece-frame 0 0 0 0 1 7 0 5 ∷ whole-frame 0 0 0 0 5 ∷ []) ∷ [])
+    ≡ saw (gave 2 0) (slot 3 7 0 0 0 1 0 0 0 (5 ∷ []) ∷ ready-cell 1 0 0 5 ∷ []) ∷ []
 unfolding run
 count-1 = refl
 
--- A sound state that no list of calls reaches: a held message of kind 0 in two cells (their ids differ, their turns are rubbish) is released like
--- any other and raises next; ready turns 9 and 4 become 1 and 0; an unused record keeps what it holds until a body gets its cell.
+-- A sound state that no list of calls reaches: a held message of kind 0 in two cells (their ids differ, their turns are rubbish) is
+-- released like any other and raises next; ready turns 9 and 4 become 1 and 0; an unused record keeps what it holds until a body gets its
+-- cell.
 unfoldable pub odd : List Slot
-odd = slot 2 3 1 0 0 2 5 1 77 (2 ∷ []) ∷ slot 3 0 0 3 0 1 0 0 9 (9 ∷ []) ∷ slot 0 9 9 9 99 9 9 9 9 [] ∷ slot 2 8 0 0 0 2 5 1 66 (1 ∷ []) ∷ slot 3 0 0 6 5 1 0 7 4 [] ∷ slot 0 1 1 1 1 1 1 1 1 [] ∷ []
+odd = slot 2 3 1 0 0 2 5 1 77 (2 ∷ []) ∷ slot 3 0 0 3 0 1 0 0 9 (9 ∷ []) ∷ slot 0 9 9 9 99 9 9 9 9 [] ∷ slot 2 8 0 0 0 2 5 1 66 (1 ∷ [])
+    ∷ slot 3 0 0 6 5 1 0 7 4 [] ∷ slot 0 1 1 1 1 1 1 1 1 [] ∷ []
 
 pub odd-is-sound : soundAt 0 odd ≡ true
 unfolding run soundAt odd
 odd-is-sound = refl
 
 pub odd-runs : runFrom 0 odd (receive (whole-frame 3 0 0 0 7 ∷ []) ∷ [])
-    ≡ saw (gave 2 0) (slot 3 3 1 0 0 2 5 1 3 (2 ∷ []) ∷ ready-cell 1 3 0 9 ∷ ready-cell 2 3 0 7 ∷ slot 3 8 0 0 0 2 5 1 3 (1 ∷ []) ∷ slot 3 0 0 6 5 1 0 7 0 [] ∷ slot 0 1 1 1 1 1 1 1 1 [] ∷ []) ∷ []
-unfolding run runFrom sessionOf odd
+    ≡ saw (gave 2 0) (slot 3 3 1 0 0 2 5 1 3 (2 ∷ []) ∷ ready-cell 1 3 0 9 ∷ ready-cell 2 3 0 7 ∷ slot 3 8 0 0 0 2 5 1 3 (1 ∷ [])
+    ∷ slot 3 0 0 6 5 1 0 7 0 [] ∷ slot 0 1 1 1 1 1 1 1 1 [] ∷ []) ∷ []
+unfolding run runFrom odd
 odd-runs = refl
 
-pub odd-hands-out : drain (calls (sessionOf 0 odd) (receive (whole-frame 3 0 0 0 7 ∷ []) ∷ []) .state .slots) ≡ msg 6 5 7 [] ∷ msg 3 0 0 (9 ∷ []) ∷ msg 3 0 0 (7 ∷ []) ∷ msg 0 0 1 (1 ∷ 2 ∷ []) ∷ []
-unfolding run sessionOf odd
+pub odd-hands-out : drain (stateAfter (stateAt 0 odd) (receive (whole-frame 3 0 0 0 7 ∷ [])) .slots) ≡ msg 6 5 7 []
+    ∷ msg 3 0 0 (9 ∷ []) ∷ msg 3 0 0 (7 ∷ []) ∷ msg 0 0 1 (1 ∷ 2 ∷ []) ∷ []
+unfolding run odd
 odd-hands-out = refl

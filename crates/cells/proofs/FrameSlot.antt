@@ -10,10 +10,11 @@ use lib.Dec.{eqb}
 use borrow.Author.Tests.{eqb-true, eq-eqb, ne-eqb, not-false}
 use Rattle.base.specs.Lists.{any}
 use Rattle.base.proofs.Choices.{and-left, and-right, or-left, neither}
-use Rattle.line.specs.Frame.{Frame, pieceOf, message}
-use Rattle.line.specs.Bare.{isAt, conflict}
-use Rattle.line.proofs.Tests.{isAt-true}
-use Rattle.cells.specs.Cell.{Slot, Key, openAs, heldAs, readyAs, bears, of, sits, isFree, isOpen, messageOf, pieceIn, clash, putSlot, slotOf}
+use Rattle.bare.specs.Frame.{Frame, pieceOf, message}
+use Rattle.bare.specs.Bare.{isAt, conflict}
+use Rattle.bare.proofs.Tests.{isAt-true}
+use Rattle.cells.specs.Cell.{Slot, Key, openAs, heldAs, readyAs, bears, of, sits, isFree, isOpen, messageOf, pieceIn, clash, putSlot}
+use Rattle.cells.specs.Cell.{slotOf}
 use Rattle.cells.proofs.PutSlot.{mem-put}
 use Rattle.cells.proofs.Keys.{useOf, of-other, sits-not, sits-is, none-sits}
 use Rattle.cells.proofs.Pieces.{open-of, no-clash, fresh-open}
@@ -53,25 +54,32 @@ pub slot-free : (f : Frame) (u t : ℕ) → (u ≡ 0 → ⊥) → isFree (slotOf
 unfolding isFree slotOf
 slot-free f u t ne = ne-eqb u 0 ne
 
-pub put-fresh : (x : Slot) (l : List Slot) → any isFree l ≡ true → ((k : Key) → of k x ≡ true → any (of k) l ≡ false) → Unique l → Unique (putSlot x l)
+pub put-fresh : (x : Slot) (l : List Slot) → any isFree l ≡ true → ((k : Key) → of k x ≡ true → any (of k) l ≡ false) → Unique l
+    → Unique (putSlot x l)
 put-fresh x l room h u = put-unique x l room (λ k i y. none-sits k i l (h k ((sits-is k i x y) .0))) u
 
-pub fresh-held : (f : Frame) (l : List Slot) → any (of (heldAs (f .channel) (f .order))) l ≡ false → (k : Key) → of k (slotOf f 2 0) ≡ true → any (of k) l ≡ false
+pub fresh-held : (f : Frame) (l : List Slot) → any (of (heldAs (f .channel) (f .order))) l ≡ false → (k : Key) → of k (slotOf f 2 0) ≡ true
+    → any (of k) l ≡ false
 unfolding message
 fresh-held f l away (openAs id) y = neither (of (openAs id) (slotOf f 2 0)) y (of-slot-other f 2 0 (openAs id) (λ q. omega arith))
-fresh-held f l away (heldAs c k) y = let r = isAt-true c k (message f (f .body)) (sym (of-slot-held f 0 c k (f .body)) ∙ y) in rw (← r .0, ← r .1) away
+fresh-held f l away (heldAs c k) y = let r = isAt-true c k (message f (f .body)) (sym (of-slot-held f 0 c k (f .body)) ∙ y) in
+    rw (← r .0, ← r .1) away
 fresh-held f l away (readyAs t) y = neither (of (readyAs t) (slotOf f 2 0)) y (of-slot-other f 2 0 (readyAs t) (λ q. omega arith))
 
-pub fresh-ready : (f : Frame) (T : ℕ) (l : List Slot) → any (of (readyAs T)) l ≡ false → (k : Key) → of k (slotOf f 3 T) ≡ true → any (of k) l ≡ false
+pub fresh-ready : (f : Frame) (T : ℕ) (l : List Slot) → any (of (readyAs T)) l ≡ false → (k : Key) → of k (slotOf f 3 T) ≡ true
+    → any (of k) l ≡ false
 fresh-ready f T l away (openAs id) y = neither (of (openAs id) (slotOf f 3 T)) y (of-slot-other f 3 T (openAs id) (λ q. omega arith))
 fresh-ready f T l away (heldAs c k) y = neither (of (heldAs c k) (slotOf f 3 T)) y (of-slot-other f 3 T (heldAs c k) (λ q. omega arith))
 fresh-ready f T l away (readyAs t) y = rw (← eqb-true T t (sym (of-slot-ready f T t) ∙ y)) away
 
 -- A piece put.
-pub fresh-piece : (f : Frame) (l : List Slot) → f .piece ≡ true → any (clash f) l ≡ false → (k : Key) (i : ℕ) → sits k i (slotOf f 1 0) ≡ true → any (sits k i) l ≡ false
+pub fresh-piece : (f : Frame) (l : List Slot) → f .piece ≡ true → any (clash f) l ≡ false → (k : Key) (i : ℕ) → sits k i (slotOf f 1 0)
+    ≡ true → any (sits k i) l ≡ false
 fresh-piece f l e c (openAs id) i y = fresh-open f l e c id i y
-fresh-piece f l e c (heldAs d k) i y = neither (sits (heldAs d k) i (slotOf f 1 0)) y (sits-not (heldAs d k) i (slotOf f 1 0) (of-slot-other f 1 0 (heldAs d k) (λ q. omega arith)))
-fresh-piece f l e c (readyAs t) i y = neither (sits (readyAs t) i (slotOf f 1 0)) y (sits-not (readyAs t) i (slotOf f 1 0) (of-slot-other f 1 0 (readyAs t) (λ q. omega arith)))
+fresh-piece f l e c (heldAs d k) i y = neither (sits (heldAs d k) i (slotOf f 1 0)) y
+    (sits-not (heldAs d k) i (slotOf f 1 0) (of-slot-other f 1 0 (heldAs d k) (λ q. omega arith)))
+fresh-piece f l e c (readyAs t) i y = neither (sits (readyAs t) i (slotOf f 1 0)) y
+    (sits-not (readyAs t) i (slotOf f 1 0) (of-slot-other f 1 0 (readyAs t) (λ q. omega arith)))
 
 -- The slots of a piece's id agree with it.
 pub record Agrees (f : Frame) (s : Slot) : Type 0 where
@@ -81,7 +89,8 @@ pub record Agrees (f : Frame) (s : Slot) : Type 0 where
   pub order : s .cell .order ≡ f .order
   pub channel : s .cell .channel ≡ f .channel
 
-all-five : (a b c d e x : Bool) → (not (a && b && c && d && e) || x) ≡ false → (a ≡ true) × (b ≡ true) × (c ≡ true) × (d ≡ true) × (e ≡ true)
+all-five : (a b c d e x : Bool) → (not (a && b && c && d && e) || x) ≡ false → (a ≡ true) × (b ≡ true) × (c ≡ true) × (d ≡ true)
+    × (e ≡ true)
 all-five a b c d e x h =
     let p₄ = not-false (a && b && c && d && e) (or-left (not (a && b && c && d && e)) x h) in
     let p₃ = and-left (a && b && c && d) e p₄ in
@@ -89,20 +98,29 @@ all-five a b c d e x h =
     let p₁ = and-left (a && b) c p₂ in
     (and-left a b p₁, and-right a b p₁, and-right (a && b) c p₂, and-right (a && b && c) d p₃, and-right (a && b && c && d) e p₄)
 
-pub agrees-no-clash : (f : Frame) (l : List Slot) → any (clash f) l ≡ false → (s : Slot) → List·Memᴰ s l → of (openAs (f .id)) s ≡ true → Agrees f s
+pub agrees-no-clash : (f : Frame) (l : List Slot) → any (clash f) l ≡ false → (s : Slot) → List·Memᴰ s l → of (openAs (f .id)) s ≡ true
+    → Agrees f s
 unfolding conflict pieceOf pieceIn
 agrees-no-clash f l e s m o =
     let c = no-clash f l e s m o in
     let i = open-of (f .id) s o in
     let d = rw (eq-eqb _ _ (i .1)) at c in
-    let g = all-five (eqb (s .cell .count) (f .count)) (eqb (s .cell .kind) (f .kind)) (eqb (s .cell .sequence) (f .sequence)) (eqb (s .cell .order) (f .order)) (eqb (s .cell .channel) (f .channel)) (eqb (s .cell .index) (f .index)) d in
-    record { count = eqb-true _ _ (g .0); kind = eqb-true _ _ (g .1); sequence = eqb-true _ _ (g .2); order = eqb-true _ _ (g .3); channel = eqb-true _ _ (g .4) }
+    let g = all-five (eqb (s .cell .count) (f .count)) (eqb (s .cell .kind) (f .kind)) (eqb (s .cell .sequence) (f .sequence))
+    (eqb (s .cell .order) (f .order)) (eqb (s .cell .channel) (f .channel)) (eqb (s .cell .index) (f .index)) d in
+    record {
+      count = eqb-true _ _ (g .0);
+      kind = eqb-true _ _ (g .1);
+      sequence = eqb-true _ _ (g .2);
+      order = eqb-true _ _ (g .3);
+      channel = eqb-true _ _ (g .4);
+    }
 
 pub agrees-new : (f : Frame) (u t : ℕ) → f .piece ≡ true → Agrees f (slotOf f u t)
 unfolding slotOf
 agrees-new f u t e = record { count = rw e; kind = refl; sequence = refl; order = refl; channel = refl }
 
-pub agrees-put : (f : Frame) (l : List Slot) → f .piece ≡ true → any (clash f) l ≡ false → (s : Slot) → List·Memᴰ s (putSlot (slotOf f 1 0) l) → of (openAs (f .id)) s ≡ true → Agrees f s
+pub agrees-put : (f : Frame) (l : List Slot) → f .piece ≡ true → any (clash f) l ≡ false → (s : Slot)
+    → List·Memᴰ s (putSlot (slotOf f 1 0) l) → of (openAs (f .id)) s ≡ true → Agrees f s
 agrees-put f l e c s m o = go (mem-put (slotOf f 1 0) l s m)
   where
     go : (s ≡ slotOf f 1 0) ⊎ List·Memᴰ s l → Agrees f s

@@ -8,11 +8,13 @@ use native.Mathlib.Omega.{arith}
 use lib.ListN.{length}
 use Rattle.base.specs.Lists.{option, any, without}
 use Rattle.base.proofs.Choices.{byBool, cases, cond-test, neither}
-use Rattle.line.specs.Frame.{Frame, Message, inLimits, pieceOf, message}
-use Rattle.line.specs.Bare.{Bare, Fed, deliver, hasId, joined, waiting, complete, keep, assemble, seenBefore, accept, dropIn, finish, step, feed}
-use Rattle.line.proofs.Tests.{piece-limits}
+use Rattle.bare.specs.Frame.{Frame, Message, inLimits, pieceOf, message}
+use Rattle.bare.specs.Bare.{Bare, Fed, deliver, hasId, joined, waiting, complete, keep, assemble, seenBefore, acceptReliable, dropIn}
+use Rattle.bare.specs.Bare.{finish, step, feed}
+use Rattle.bare.proofs.Tests.{piece-limits}
 use Rattle.cells.specs.Cell.{Slot, openAs, heldAs, readyAs, of, isFree, allThere, clash, turnTo, putSlot, slotOf}
-use Rattle.cells.specs.Datagram.{Work, dropOne, fillUp, place, made, rise, acceptIn, isHeld, goOn, cascade, follows, Fate, late, early, due, free, fateOf, roomy, whole, joins, kept, piece, keepIn, frame, frames}
+use Rattle.cells.specs.Datagram.{Work, dropOne, fillUp, place, made, rise, acceptIn, isHeld, goOn, cascade, follows, Fate, late}
+use Rattle.cells.specs.Datagram.{early, due, free, fateOf, roomy, whole, joins, kept, piece, keepIn, frame, frames}
 use Rattle.cells.proofs.Pieces.{Pieces, joined-join, tests-clash, pieces-put}
 use Rattle.cells.proofs.Ready.{same-put, Outs, outs-keep}
 use Rattle.cells.proofs.Moves.{put-unique}
@@ -23,34 +25,36 @@ use Rattle.cells.proofs.Step.{settle, early≢late, free≢late, due≢
 
 -- The working state w has what the bare receiver b has; h are the messages handed out before.
 pub record Rel (b : Bare) (w : Work) (h : List Message) : Type 0 where
-  pub accepted : b .accepted ≡ w .accepted
-  pub pieces : Pieces (b .pieces) (w .slots)
-  pub outs : Outs (b .out) (w .next) (w .slots) 0 (w .turn) h
+  pub accepted : b .accepted ≡ w .state .accepted
+  pub pieces : Pieces (b .pieces) (w .state .slots)
+  pub outs : Outs (b .out) (w .state .next) (w .state .slots) 0 (w .turn) h
 
 pub sim-rel : {x : Fed} {w : Work} {r d : ℕ} {h : List Message} → Sim x w r d h → Rel (x .after) w h
 sim-rel v = record { accepted = v .accepted; pieces = v .pieces; outs = v .outs }
 
-drop-sim : (b : Bare) (w : Work) (h : List Message) → Rel b w h → Sim (dropIn b) (dropOne w) (w .ready) (w .dropped) h
+drop-sim : (b : Bare) (w : Work) (h : List Message) → Rel b w h → Sim (dropIn b) (dropOne w) (w .counts .ready) (w .counts .dropped) h
 unfolding dropIn dropOne
 drop-sim b w h v = record { accepted = v .accepted; pieces = v .pieces; outs = v .outs; ready = omega arith; dropped = omega arith }
 
 -- Where there is no room the working state says so.
-roomy-room : (w r : Work) → roomy w r .full ≡ false → any isFree (w .slots) ≡ true
+roomy-room : (w r : Work) → roomy w r .full ≡ false → any isFree (w .state .slots) ≡ true
 unfolding roomy fillUp
-roomy-room w r e = cases (any isFree (w .slots)) (λ t. t) (λ t. absurd (true≢false (rw t at e)))
+roomy-room w r e = cases (any isFree (w .state .slots)) (λ t. t) (λ t. absurd (true≢false (rw t at e)))
 
-roomy-is : (w r : Work) → any isFree (w .slots) ≡ true → roomy w r ≡ r
+roomy-is : (w r : Work) → any isFree (w .state .slots) ≡ true → roomy w r ≡ r
 unfolding roomy
 roomy-is w r e = rw e
 
-whole-settle : (x : Fate) (f : Frame) (w : Work) → ((x ≡ late → ⊥) → any isFree (w .slots) ≡ true) → whole x f w ≡ settle x (f .channel) w (putSlot (slotOf f 2 0) (w .slots)) (putSlot (slotOf f 3 (w .turn)) (w .slots)) (w .slots)
+whole-settle : (x : Fate) (f : Frame) (w : Work) → ((x ≡ late → ⊥) → any isFree (w .state .slots) ≡ true) → whole x f w
+    ≡ settle x (f .channel) w
+    (putSlot (slotOf f 2 0) (w .state .slots)) (putSlot (slotOf f 3 (w .turn)) (w .state .slots)) (w .state .slots)
 unfolding whole settle dropOne place
 whole-settle late f w room = refl
 whole-settle early f w room = roomy-is w _ (room early≢late)
 whole-settle free f w room = roomy-is w _ (room free≢late)
 whole-settle due f w room = roomy-is w _ (room due≢late)
 
-whole-room : (x : Fate) (f : Frame) (w : Work) → whole x f w .full ≡ false → (x ≡ late → ⊥) → any isFree (w .slots) ≡ true
+whole-room : (x : Fate) (f : Frame) (w : Work) → whole x f w .full ≡ false → (x ≡ late → ⊥) → any isFree (w .state .slots) ≡ true
 unfolding whole
 whole-room late f w full ne = absurd (ne refl)
 whole-room early f w full ne = roomy-room w _ full
@@ -58,88 +62,109 @@ whole-room free f w full ne = roomy-room w _ full
 whole-room due f w full ne = roomy-room w _ full
 
 whole-sim : (b : Bare) (w : Work) (h : List Message) (f : Frame) → Rel b w h → f .piece ≡ false → whole (fateOf f w) f w .full ≡ false
-    → Sim (answer (b .accepted) (b .pieces) (deliver (message f (f .body)) (b .out))) (whole (fateOf f w) f w) (w .ready) (w .dropped) h
+    → Sim (answer (b .accepted) (b .pieces) (deliver (message f (f .body)) (b .out))) (whole (fateOf f w) f w) (w .counts .ready)
+    (w .counts .dropped) h
 unfolding message fateOf
 whole-sim b w h f v e full =
     let room = whole-room (fateOf f w) f w full in
     rw (whole-settle (fateOf f w) f w room)
-    (deliver-sim (fateOf f w) (b .accepted) (b .pieces) h (message f (f .body)) (b .out) w _ _ _ (whole-placing (fateOf f w) f (b .pieces) (w .turn) (w .slots) e room (v .outs .unique) (v .pieces)) (v .accepted) (v .outs) refl)
+    (deliver-sim (fateOf f w) (b .accepted) (b .pieces) h (message f (f .body)) (b .out) w _ _ _
+    (whole-placing (fateOf f w) f (b .pieces) (w .turn) (w .state .slots) e room (v .outs .unique) (v .pieces)) (v .accepted)
+    (v .outs) refl)
 
-joins-settle : (x : Fate) (f : Frame) (w : Work) → joins x f w ≡ settle x (f .channel) w (turnTo (openAs (f .id)) 2 0 (w .slots)) (turnTo (openAs (f .id)) 3 (w .turn) (w .slots)) (turnTo (openAs (f .id)) 4 0 (w .slots))
+joins-settle : (x : Fate) (f : Frame) (w : Work) → joins x f w ≡ settle x (f .channel) w (turnTo (openAs (f .id)) 2 0 (w .state .slots))
+    (turnTo (openAs (f .id)) 3 (w .turn) (w .state .slots)) (turnTo (openAs (f .id)) 4 0 (w .state .slots))
 unfolding joins settle
 joins-settle late f w = refl
 joins-settle early f w = refl
 joins-settle free f w = refl
 joins-settle due f w = refl
 
-put-rel : (b : Bare) (w : Work) (h : List Message) (f : Frame) → Rel b w h → f .piece ≡ true → any (clash f) (w .slots) ≡ false → any isFree (w .slots) ≡ true
-    → Rel (record { accepted = b .accepted; pieces = pieceOf f ∷ b .pieces; out = b .out }) (place (putSlot (slotOf f 1 0) (w .slots)) w) h
+put-rel : (b : Bare) (w : Work) (h : List Message) (f : Frame) → Rel b w h → f .piece ≡ true → any (clash f) (w .state .slots) ≡ false
+    → any isFree (w .state .slots) ≡ true
+    → Rel (record { accepted = b .accepted; pieces = pieceOf f ∷ b .pieces; out = b .out })
+    (place (putSlot (slotOf f 1 0) (w .state .slots)) w) h
 unfolding place
 put-rel b w h f v e c room = record {
   accepted = v .accepted;
-  pieces = pieces-put f (b .pieces) (w .slots) room e c (v .pieces);
-  outs = outs-keep (putSlot (slotOf f 1 0) (w .slots)) (v .outs)
-      (λ c k. same-put (slotOf f 1 0) (w .slots) room (heldAs c k) (of-slot-other f 1 0 (heldAs c k) (λ q. omega arith)))
-      (λ t. same-put (slotOf f 1 0) (w .slots) room (readyAs t) (of-slot-other f 1 0 (readyAs t) (λ q. omega arith)))
-      (put-unique (slotOf f 1 0) (w .slots) room (fresh-piece f (w .slots) e c) (v .outs .unique));
+  pieces = pieces-put f (b .pieces) (w .state .slots) room e c (v .pieces);
+  outs = outs-keep (putSlot (slotOf f 1 0) (w .state .slots)) (v .outs)
+      (λ c k. same-put (slotOf f 1 0) (w .state .slots) room (heldAs c k) (of-slot-other f 1 0 (heldAs c k) (λ q. omega arith)))
+      (λ t. same-put (slotOf f 1 0) (w .state .slots) room (readyAs t) (of-slot-other f 1 0 (readyAs t) (λ q. omega arith)))
+      (put-unique (slotOf f 1 0) (w .state .slots) room (fresh-piece f (w .state .slots) e c) (v .outs .unique));
 }
 
-kept-sim : (b : Bare) (w : Work) (h : List Message) (f : Frame) → Rel (record { accepted = b .accepted; pieces = pieceOf f ∷ b .pieces; out = b .out }) w h → 1 ≤ f .count
-    → ((s : Slot) → List·Memᴰ s (w .slots) → of (openAs (f .id)) s ≡ true → Agrees f s)
-    → Sim (finish (b .accepted) (b .pieces) (b .out) (option (joined (pieceOf f ∷ b .pieces) (f .id) (f .count)) (waiting (pieceOf f ∷ b .pieces)) (λ body. complete (without (hasId (f .id)) (b .pieces)) (message f body)))) (kept f w) (w .ready) (w .dropped) h
+kept-sim : (b : Bare) (w : Work) (h : List Message) (f : Frame)
+    → Rel (record { accepted = b .accepted; pieces = pieceOf f ∷ b .pieces; out = b .out }) w h → 1 ≤ f .count
+    → ((s : Slot) → List·Memᴰ s (w .state .slots) → of (openAs (f .id)) s ≡ true → Agrees f s)
+    → Sim (finish (b .accepted) (b .pieces) (b .out) (option (joined (pieceOf f ∷ b .pieces) (f .id) (f .count))
+    (waiting (pieceOf f ∷ b .pieces)) (λ body. complete (without (hasId (f .id)) (b .pieces)) (message f body)))) (kept f w)
+    (w .counts .ready) (w .counts .dropped) h
 unfolding finish kept message fateOf
-kept-sim b w h f v le agree = rw (joined-join (pieceOf f ∷ b .pieces) (w .slots) (v .pieces) (f .id) (f .count)) (cases (allThere (openAs (f .id)) (w .slots) (f .count))
-    (λ t. rw (t, joins-settle (fateOf f w) f w)
-    (deliver-sim (fateOf f w) (b .accepted) (without (hasId (f .id)) (b .pieces)) h (joinedOf f (w .slots)) (b .out) w _ _ _
-    (joined-placing f (b .pieces) (w .turn) (w .slots) agree le t (v .outs .unique) (v .pieces) (fateOf f w)) (v .accepted) (v .outs) refl))
+kept-sim b w h f v le agree = rw (joined-join (pieceOf f ∷ b .pieces) (w .state .slots) (v .pieces) (f .id) (f .count))
+    (cases (allThere (openAs (f .id)) (w .state .slots) (f .count)) (λ t. rw (t, joins-settle (fateOf f w) f w)
+    (deliver-sim (fateOf f w) (b .accepted) (without (hasId (f .id)) (b .pieces)) h (joinedOf f (w .state .slots)) (b .out) w _ _ _
+    (joined-placing f (b .pieces) (w .turn) (w .state .slots) agree le t (v .outs .unique) (v .pieces) (fateOf f w)) (v .accepted)
+    (v .outs) refl))
     (λ t. rw t (record { accepted = v .accepted; pieces = v .pieces; outs = v .outs; ready = omega arith; dropped = omega arith })))
 
 piece-sim : (b : Bare) (w : Work) (h : List Message) (f : Frame) → Rel b w h → f .piece ≡ true → 1 ≤ f .count → piece f w .full ≡ false
-    → Sim (finish (b .accepted) (b .pieces) (b .out) (keep f (b .pieces))) (piece f w) (w .ready) (w .dropped) h
+    → Sim (finish (b .accepted) (b .pieces) (b .out) (keep f (b .pieces))) (piece f w) (w .counts .ready) (w .counts .dropped) h
 unfolding piece keep finish place
-piece-sim b w h f v e le full = rw (tests-clash f (b .pieces) (w .slots) (v .pieces)) (cases (any (clash f) (w .slots))
+piece-sim b w h f v e le full = rw (tests-clash f (b .pieces) (w .state .slots) (v .pieces)) (cases (any (clash f) (w .state .slots))
     (λ t. rw t (drop-sim b w h v))
     (λ t. let room = roomy-room w _ (rw t at full) in
-    rw (t, roomy-is w (kept f (place (putSlot (slotOf f 1 0) (w .slots)) w)) room)
-    (kept-sim b (place (putSlot (slotOf f 1 0) (w .slots)) w) h f (put-rel b w h f v e t room) le (agrees-put f (w .slots) e t))))
+    rw (t, roomy-is w (kept f (place (putSlot (slotOf f 1 0) (w .state .slots)) w)) room)
+    (kept-sim b (place (putSlot (slotOf f 1 0) (w .state .slots)) w) h f (put-rel b w h f v e t room) le
+    (agrees-put f (w .state .slots) e t))))
 
 keepIn-sim : (b : Bare) (w : Work) (h : List Message) (f : Frame) → Rel b w h → inLimits f ≡ true → keepIn f w .full ≡ false
-    → Sim (finish (b .accepted) (b .pieces) (b .out) (assemble f (b .pieces))) (keepIn f w) (w .ready) (w .dropped) h
+    → Sim (finish (b .accepted) (b .pieces) (b .out) (assemble f (b .pieces))) (keepIn f w) (w .counts .ready) (w .counts .dropped) h
 unfolding keepIn assemble finish
 keepIn-sim b w h f v lim full = cases (f .piece)
-    (λ t. rw (cond-test (f .piece) true (keep f (b .pieces)) (complete (b .pieces) (message f (f .body))) t, cond-test (f .piece) true (piece f w) (whole (fateOf f w) f w) t)
-    (piece-sim b w h f v t (piece-limits f lim t .0) (sym (ap (λ (x : Work). x .full) (cond-test (f .piece) true (piece f w) (whole (fateOf f w) f w) t)) ∙ full)))
-    (λ t. rw (cond-test (f .piece) false (keep f (b .pieces)) (complete (b .pieces) (message f (f .body))) t, cond-test (f .piece) false (piece f w) (whole (fateOf f w) f w) t)
+    (λ t. rw (
+      cond-test (f .piece) true (keep f (b .pieces)) (complete (b .pieces) (message f (f .body))) t,
+      cond-test (f .piece) true
+          (piece f w) (whole (fateOf f w) f w) t,
+    )
+    (piece-sim b w h f v t (piece-limits f lim t .0) (sym (ap (λ (x : Work). x .full)
+    (cond-test (f .piece) true (piece f w) (whole (fateOf f w) f w) t)) ∙ full)))
+    (λ t. rw (
+      cond-test (f .piece) false (keep f (b .pieces)) (complete (b .pieces) (message f (f .body))) t,
+      cond-test (f .piece) false
+          (piece f w) (whole (fateOf f w) f w) t,
+    )
     (whole-sim b w h f v t (sym (ap (λ (x : Work). x .full) (cond-test (f .piece) false (piece f w) (whole (fateOf f w) f w) t)) ∙ full)))
 
 -- One frame does to the slots what it does to the bare receiver.
-pub frame-sim : (b : Bare) (w : Work) (h : List Message) (f : Frame) → Rel b w h → frame w f .full ≡ false → Sim (step b f) (frame w f) (w .ready) (w .dropped) h
-unfolding step frame acceptIn accept
-frame-sim b w h f v full = rw (ap (seenBefore f) (v .accepted)) (cases (seenBefore f (w .accepted))
+pub frame-sim : (b : Bare) (w : Work) (h : List Message) (f : Frame) → Rel b w h → frame w f .full ≡ false → Sim (step b f) (frame w f)
+    (w .counts .ready) (w .counts .dropped) h
+unfolding step frame acceptIn acceptReliable
+frame-sim b w h f v full = rw (ap (seenBefore f) (v .accepted)) (cases (seenBefore f (w .state .accepted))
     (λ t. rw t (drop-sim b w h v))
     (λ t. cases (inLimits f)
     (λ y. rw (t, y) (keepIn-sim b′ (acceptIn f w) h f v′ y (rw (t, y) at full)))
     (λ y. rw (t, y) (drop-sim b′ (acceptIn f w) h v′))))
   where
     b′ : Bare
-    b′ = record { accepted = accept f (b .accepted); pieces = b .pieces; out = b .out }
+    b′ = record { accepted = acceptReliable f (b .accepted); pieces = b .pieces; out = b .out }
 
-    v′ : Rel (record { accepted = accept f (b .accepted); pieces = b .pieces; out = b .out }) (acceptIn f w) h
-    v′ = record { accepted = ap (accept f) (v .accepted); pieces = v .pieces; outs = v .outs }
+    v′ : Rel (record { accepted = acceptReliable f (b .accepted); pieces = b .pieces; out = b .out }) (acceptIn f w) h
+    v′ = record { accepted = ap (acceptReliable f) (v .accepted); pieces = v .pieces; outs = v .outs }
 
 -- Once room has run out, that stays said.
 cascade-full : (n c : ℕ) (w : Work) → cascade n c w .full ≡ w .full
 unfolding cascade goOn rise made
 cascade-full zero c w = refl
-cascade-full (suc n) c w = cases (isHeld c (w .next c) (w .slots)) (λ t. rw t (cascade-full n c (goOn c w))) (λ t. rw t)
+cascade-full (suc n) c w = cases (isHeld c (w .state .next c) (w .state .slots)) (λ t. rw t (cascade-full n c (goOn c w))) (λ t. rw t)
 
 pub follows-full : (c : ℕ) (w : Work) → follows c w .full ≡ w .full
 unfolding follows rise
-follows-full c w = cascade-full (length (w .slots)) c (rise c w)
+follows-full c w = cascade-full (length (w .state .slots)) c (rise c w)
 
 roomy-full : (w r : Work) → w .full ≡ true → r .full ≡ w .full → roomy w r .full ≡ true
 unfolding roomy fillUp
-roomy-full w r e q = byBool (λ (x : Work). x .full ≡ true) (any isFree (w .slots)) (λ t. q ∙ e) (λ t. refl)
+roomy-full w r e q = byBool (λ (x : Work). x .full ≡ true) (any isFree (w .state .slots)) (λ t. q ∙ e) (λ t. refl)
 
 whole-full : (x : Fate) (f : Frame) (w : Work) → w .full ≡ true → whole x f w .full ≡ true
 unfolding whole dropOne place made
@@ -157,17 +182,20 @@ joins-full due f w = follows-full (f .channel) _
 
 pub kept-full : (f : Frame) (w : Work) → kept f w .full ≡ w .full
 unfolding kept
-kept-full f w = byBool (λ (x : Work). x .full ≡ w .full) (allThere (openAs (f .id)) (w .slots) (f .count)) (λ t. joins-full (fateOf f w) f w) (λ t. refl)
+kept-full f w = byBool (λ (x : Work). x .full ≡ w .full) (allThere (openAs (f .id)) (w .state .slots) (f .count))
+    (λ t. joins-full (fateOf f w) f w) (λ t. refl)
 
 piece-full : (f : Frame) (w : Work) → w .full ≡ true → piece f w .full ≡ true
 unfolding piece dropOne place
-piece-full f w e = byBool (λ (x : Work). x .full ≡ true) (any (clash f) (w .slots)) (λ t. e) (λ t. roomy-full w _ e (kept-full f (place (putSlot (slotOf f 1 0) (w .slots)) w)))
+piece-full f w e = byBool (λ (x : Work). x .full ≡ true) (any (clash f) (w .state .slots)) (λ t. e)
+    (λ t. roomy-full w _ e (kept-full f (place (putSlot (slotOf f 1 0) (w .state .slots)) w)))
 
 frame-full : (w : Work) (f : Frame) → w .full ≡ true → frame w f .full ≡ true
 unfolding frame dropOne acceptIn keepIn
-frame-full w f e = byBool (λ (x : Work). x .full ≡ true) (seenBefore f (w .accepted)) (λ t. e)
+frame-full w f e = byBool (λ (x : Work). x .full ≡ true) (seenBefore f (w .state .accepted)) (λ t. e)
     (λ t. byBool (λ (x : Work). x .full ≡ true) (inLimits f)
-    (λ y. byBool (λ (x : Work). x .full ≡ true) (f .piece) (λ z. piece-full f (acceptIn f w) e) (λ z. whole-full (fateOf f (acceptIn f w)) f (acceptIn f w) e))
+    (λ y. byBool (λ (x : Work). x .full ≡ true) (f .piece) (λ z. piece-full f (acceptIn f w) e)
+    (λ z. whole-full (fateOf f (acceptIn f w)) f (acceptIn f w) e))
     (λ y. e))
 
 pub frames-full : (fs : List Frame) (w : Work) → w .full ≡ true → frames w fs .full ≡ true
@@ -179,10 +207,24 @@ not-full : (fs : List Frame) (w : Work) → frames w fs .full ≡ false → w .f
 not-full fs w e = cases (w .full) (λ t. neither (frames w fs .full) (frames-full fs w t) e) (λ t. t)
 
 -- A datagram whose room did not run out does to the slots what its frames do to the bare receiver, with the same counts.
-pub frames-sim : (fs : List Frame) (b : Bare) (w : Work) (h : List Message) → Rel b w h → frames w fs .full ≡ false → Sim (feed b fs) (frames w fs) (w .ready) (w .dropped) h
+pub frames-sim : (fs : List Frame) (b : Bare) (w : Work) (h : List Message) → Rel b w h → frames w fs .full ≡ false
+    → Sim (feed b fs) (frames w fs) (w .counts .ready) (w .counts .dropped) h
 unfolding feed frames
-frames-sim [] b w h v full = record { accepted = v .accepted; pieces = v .pieces; outs = v .outs; ready = omega arith; dropped = omega arith }
+frames-sim [] b w h v full = record {
+  accepted = v .accepted;
+  pieces = v .pieces;
+  outs = v .outs;
+  ready = omega arith;
+  dropped = omega arith;
+}
 frames-sim (f ∷ fs) b w h v full =
     let s = frame-sim b w h f v (not-full fs (frame w f) full) in
     let r = frames-sim fs (step b f .after) (frame w f) h (sim-rel s) full in
-    record { accepted = r .accepted; pieces = r .pieces; outs = r .outs; ready = let p = s .ready in let q = r .ready in omega arith; dropped = let p = s .dropped in let q = r .dropped in omega arith }
+    record {
+      accepted = r .accepted;
+      pieces = r .pieces;
+      outs = r .outs;
+      ready = let p = s .ready in let q = r .ready in
+          omega arith;
+      dropped = let p = s .dropped in let q = r .dropped in omega arith;
+    }

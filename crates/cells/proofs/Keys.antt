@@ -12,8 +12,9 @@ use Rattle.base.specs.Lists.{option, find, any, countOf, below}
 use Rattle.base.proofs.Choices.{byBool, cases, caseOption, option-arm, and-left, and-right, neither}
 use Rattle.base.proofs.Lists.{any-false, any-all, any-find, find-no, any-map, find-map}
 use Rattle.base.proofs.Counts.{count-map}
-use Rattle.line.specs.Frame.{Message}
-use Rattle.cells.specs.Cell.{Slot, Key, openAs, heldAs, readyAs, bears, at, of, sits, isFree, isReady, join, allThere, messageOf, messageAt, markCell, mark, emptyCell, emptySlot, change, putSlot}
+use Rattle.bare.specs.Frame.{Message}
+use Rattle.cells.specs.Cell.{Slot, Key, openAs, heldAs, readyAs, bears, at, of, sits, isFree, isReady, join, allThere, messageOf}
+use Rattle.cells.specs.Cell.{messageAt, markCell, mark, emptyCell, emptySlot, change, putSlot}
 use Rattle.cells.proofs.PutSlot.{any-put, find-put, count-put}
 
 -- The use that a key's cells have.
@@ -72,7 +73,8 @@ unfolding of bears isReady
 of-ready t s = refl
 
 pub ready-of : (t : ℕ) (s : Slot) → of (readyAs t) s ≡ true → (isReady s ≡ true) × (s .cell .turn ≡ t)
-ready-of t s e = let e′ : (isReady s && eqb (s .cell .turn) t) ≡ true = sym (of-ready t s) ∙ e in (and-left (isReady s) _ e′, eqb-true _ _ (and-right (isReady s) _ e′))
+ready-of t s e = let e′ : (isReady s && eqb (s .cell .turn) t) ≡ true = sym (of-ready t s) ∙ e in
+    (and-left (isReady s) _ e′, eqb-true _ _ (and-right (isReady s) _ e′))
 
 pub sits-of : (k : Key) (i : ℕ) (s : Slot) → sits k i s ≡ (of k s && eqb (s .cell .index) i)
 unfolding sits at of
@@ -85,7 +87,8 @@ pub sits-free : (k : Key) (i : ℕ) (s : Slot) → isFree s ≡ true → sits k 
 sits-free k i s e = sits-not k i s (of-free k s e)
 
 pub sits-is : (k : Key) (i : ℕ) (s : Slot) → sits k i s ≡ true → (of k s ≡ true) × (s .cell .index ≡ i)
-sits-is k i s e = let e′ : (of k s && eqb (s .cell .index) i) ≡ true = sym (sits-of k i s) ∙ e in (and-left (of k s) _ e′, eqb-true _ _ (and-right (of k s) _ e′))
+sits-is k i s e = let e′ : (of k s && eqb (s .cell .index) i) ≡ true = sym (sits-of k i s) ∙ e in
+    (and-left (of k s) _ e′, eqb-true _ _ (and-right (of k s) _ e′))
 
 pub none-sits : (k : Key) (i : ℕ) (l : List Slot) → any (of k) l ≡ false → any (sits k i) l ≡ false
 none-sits k i l e = any-all (sits k i) l (λ s m. sits-not k i s (any-false (of k) l e s m))
@@ -111,12 +114,20 @@ module _ (k k′ : Key) (l l′ : List Slot) (e : (i : ℕ) → look (find (sits
   unfolding join
   join-ext zero = refl
   join-ext (suc n) =
-      rw (join-ext n, look-fold (λ (s : Slot). s .body) [] shown-body (find (sits k′ n) l′), look-fold (λ (s : Slot). s .body) [] shown-body (find (sits k n) l), e n)
+      rw (
+        join-ext n,
+        look-fold (λ (s : Slot). s .body) [] shown-body (find (sits k′ n) l′),
+        look-fold (λ (s : Slot). s .body) [] shown-body
+            (find (sits k n) l),
+        e n,
+      )
 
   messageAt-ext : messageAt k′ l′ ≡ messageAt k l
   unfolding messageAt messageOf shown mark markCell
   messageAt-ext =
-      look-fold F′ none seen′ (find (sits k′ 0) l′) ∙ (rw (e 0) (option-arm (look (find (sits k 0) l)) none F′ F (λ s. rw (join-ext (s .cell .count)))) ∙ sym (look-fold F none seen (find (sits k 0) l)))
+      look-fold F′ none seen′ (find (sits k′ 0) l′) ∙ (rw (e 0)
+      (option-arm (look (find (sits k 0) l)) none F′ F (λ s. rw (join-ext (s .cell .count))))
+      ∙ sym (look-fold F none seen (find (sits k 0) l)))
     where
       F : Slot → Option Message
       F s = some (messageOf s (join k l (s .cell .count)))
@@ -163,7 +174,8 @@ module _ {k k′ : Key} {h : Slot → Slot} {l : List Slot} (c : Carried k k′ 
   carried-there (suc n) = rw (carried-there n, any-map (sits k′ n) (sits k n) h l (carried-sits n))
 
 -- A message that a change leaves alone.
-pub carried-other : (k : Key) (q : Slot → Bool) (g : Slot → Slot) (l : List Slot) → ((s : Slot) → List·Memᴰ s l → q s ≡ true → (of k s ≡ false) × (of k (g s) ≡ false)) → Carried k k (change q g) l
+pub carried-other : (k : Key) (q : Slot → Bool) (g : Slot → Slot) (l : List Slot)
+    → ((s : Slot) → List·Memᴰ s l → q s ≡ true → (of k s ≡ false) × (of k (g s) ≡ false)) → Carried k k (change q g) l
 unfolding change
 carried-other k q g l e = record {
   moved = λ s m. byBool (λ (z : Slot). of k z ≡ of k s) (q s) (λ t. let r = e s m t in r .1 ∙ sym (r .0)) (λ t. refl);
@@ -171,7 +183,8 @@ carried-other k q g l e = record {
 }
 
 -- A message that gets another key.
-pub carried-moved : (k k′ : Key) (u t : ℕ) (l : List Slot) → ((s : Slot) → List·Memᴰ s l → of k s ≡ true → of k′ (mark u t s) ≡ true) → any (of k′) l ≡ false → Carried k k′ (change (of k) (mark u t)) l
+pub carried-moved : (k k′ : Key) (u t : ℕ) (l : List Slot) → ((s : Slot) → List·Memᴰ s l → of k s ≡ true → of k′ (mark u t s) ≡ true)
+    → any (of k′) l ≡ false → Carried k k′ (change (of k) (mark u t)) l
 unfolding change shown mark markCell
 carried-moved k k′ u t l e f = record {
   moved = λ s m. cases (of k s) (λ y. rw y (e s m y)) (λ y. rw y (any-false (of k′) l f s m));
@@ -192,7 +205,8 @@ message-some k l e = caseOption (find (sits k 0) l)
     (λ s t. (messageOf s (join k l (s .cell .count)), rw t))
 
 pub message-there : (k : Key) (l : List Slot) (m : Message) → messageAt k l ≡ some m → any (sits k 0) l ≡ true
-message-there k l m e = cases (any (sits k 0) l) (λ t. t) (λ t. let n = message-none k l t in absurd (let z : _≡_ {A = ℕ} 0 1 = cc in omega arith))
+message-there k l m e = cases (any (sits k 0) l) (λ t. t) (λ t. let n = message-none k l t in
+    absurd (let z : _≡_ {A = ℕ} 0 1 = cc in omega arith))
 
 -- A new slot.
 module _ (x : Slot) (l : List Slot) (room : any isFree l ≡ true) where
@@ -205,13 +219,16 @@ module _ (x : Slot) (l : List Slot) (room : any isFree l ≡ true) where
   pub put-count : (k : Key) (i : ℕ) → countOf (sits k i) (putSlot x l) ≡ cond (sits k i x) 1 0 + countOf (sits k i) l
   put-count k i = count-put (sits k i) x (sits-free k i) l room
 
-  pub put-find : (k : Key) (i : ℕ) → (sits k i x ≡ true → any (sits k i) l ≡ false) → find (sits k i) (putSlot x l) ≡ cond (sits k i x) (some x) (find (sits k i) l)
+  pub put-find : (k : Key) (i : ℕ) → (sits k i x ≡ true → any (sits k i) l ≡ false) → find (sits k i) (putSlot x l)
+      ≡ cond (sits k i x) (some x) (find (sits k i) l)
   put-find k i h = find-put (sits k i) x (sits-free k i) l room h
 
   pub put-other : (k : Key) → of k x ≡ false → messageAt k (putSlot x l) ≡ messageAt k l
-  put-other k e = messageAt-ext k k l (putSlot x l) (λ i. let n = sits-not k i x e in ap look (put-find k i (λ t. neither (sits k i x) t n) ∙ rw n))
+  put-other k e = messageAt-ext k k l (putSlot x l) (λ i. let n = sits-not k i x e in
+      ap look (put-find k i (λ t. neither (sits k i x) t n) ∙ rw n))
 
-  pub put-whole : (k : Key) → of k x ≡ true → x .cell .index ≡ 0 → x .cell .count ≡ 1 → any (of k) l ≡ false → messageAt k (putSlot x l) ≡ some (messageOf x (x .body))
+  pub put-whole : (k : Key) → of k x ≡ true → x .cell .index ≡ 0 → x .cell .count ≡ 1 → any (of k) l ≡ false → messageAt k (putSlot x l)
+      ≡ some (messageOf x (x .body))
   unfolding messageAt join
   put-whole k e i n a = rw f (ap (λ (b : List ℕ). some (messageOf x b)) (j (x .cell .count) n))
     where

@@ -14,7 +14,7 @@ use Rattle.base.specs.Lists.{any}
 use Rattle.base.proofs.Puts.{put-split}
 use Rattle.cells.specs.Records.{unusedAt}
 use Rattle.cells.specs.Cell.{Cell, Slot, isFree, putSlot}
-use Rattle.cells.specs.Store.{cellSize, bodyOf, slotsOf, cellsOf, laid, storeOf}
+use Rattle.cells.specs.Store.{cellSize, cellBody, slotsOf, cellsOf, laid, storeOf}
 use Rattle.cells.proofs.Store.{Sized, AllSized, laid-length, room-one, first-length, store-length}
 
 pub put-set : (x : Slot) (l : List Slot) → putSlot x l ≡ set l (unusedAt (cellsOf l)) x
@@ -22,7 +22,8 @@ unfolding putSlot unusedAt cellsOf isFree
 put-set x [] = refl
 put-set x (s ∷ l) = go (isFree s) (put-set x l)
   where
-    go : (t : Bool) → putSlot x l ≡ set l (unusedAt (cellsOf l)) x → cond t (x ∷ l) (s ∷ putSlot x l) ≡ set (s ∷ l) (cond t 0 (suc (unusedAt (cellsOf l)))) x
+    go : (t : Bool) → putSlot x l ≡ set l (unusedAt (cellsOf l)) x → cond t (x ∷ l) (s ∷ putSlot x l)
+        ≡ set (s ∷ l) (cond t 0 (suc (unusedAt (cellsOf l)))) x
     go true e = refl
     go false e = ap {B = List Slot} (λ r. s ∷ r) e
 
@@ -31,7 +32,8 @@ unfolding any unusedAt cellsOf isFree
 unused-below [] r = absurd (false≢true r)
 unused-below (s ∷ l) r = go (isFree s) r (λ t. unused-below l t)
   where
-    go : (t : Bool) → (t || any isFree l) ≡ true → (any isFree l ≡ true → unusedAt (cellsOf l) < length l) → cond t 0 (suc (unusedAt (cellsOf l))) < suc (length l)
+    go : (t : Bool) → (t || any isFree l) ≡ true → (any isFree l ≡ true → unusedAt (cellsOf l) < length l)
+        → cond t 0 (suc (unusedAt (cellsOf l))) < suc (length l)
     go true r k = omega arith
     go false r k = let p = k r in omega arith
 
@@ -41,11 +43,14 @@ overlay bytes a body = take a bytes ++ (body ++ drop (a + length body) bytes)
 
 overlay-after : (front back body : List ℕ) (a : ℕ) → overlay (front ++ back) (length front + a) body ≡ front ++ overlay back a body
 unfolding overlay
-overlay-after front back body a = let e : length front + a + length body ≡ length front + (a + length body) = omega arith in rw (e, take-append-add, drop-append-add, append-assoc)
+overlay-after front back body a = let e : length front + a + length body ≡ length front + (a + length body) = omega arith in
+    rw (e, take-append-add, drop-append-add, append-assoc)
 
-overlay-here : (bytes back body : List ℕ) → length body ≤ length bytes → overlay (bytes ++ back) 0 body ≡ (body ++ drop (length body) bytes) ++ back
+overlay-here : (bytes back body : List ℕ) → length body ≤ length bytes → overlay (bytes ++ back) 0 body ≡ (body ++ drop (length body) bytes)
+    ++ back
 unfolding overlay
-overlay-here bytes back body le = let e : 0 + length body ≡ length body = omega arith in rw (e, drop-append-le (length body) bytes back le) (sym (append-assoc body (drop (length body) bytes) back))
+overlay-here bytes back body le = let e : 0 + length body ≡ length body = omega arith in rw (e, drop-append-le (length body) bytes back le)
+    (sym (append-assoc body (drop (length body) bytes) back))
 
 laid-free : (s : Slot) (bytes : List ℕ) → isFree s ≡ true → laid s bytes ≡ bytes
 unfolding laid
@@ -56,28 +61,36 @@ unfolding laid
 laid-used s bytes e = rw e
 
 module _ (x : Slot) (used : isFree x ≡ false) (z : Sized x) where
-  overlaid : (l : List Slot) (store : List ℕ) → AllSized l → any isFree l ≡ true → length l * cellSize ≤ length store → storeOf store (putSlot x l) ≡ overlay (storeOf store l) (unusedAt (cellsOf l) * cellSize) (x .body)
+  overlaid : (l : List Slot) (store : List ℕ) → AllSized l → any isFree l ≡ true → length l * cellSize ≤ length store
+      → storeOf store (putSlot x l) ≡ overlay (storeOf store l) (unusedAt (cellsOf l) * cellSize) (x .body)
   unfolding putSlot unusedAt cellsOf storeOf any isFree
   overlaid [] store zs r le = absurd (false≢true r)
   overlaid (s ∷ l) store zs r le =
       let w = room-one (length l) cellSize store le in
       go (isFree s) refl r (w .0) (λ t. overlaid l (drop cellSize store) (λ y m. zs y (List·Memᴰ·tail m)) t (w .1))
     where
-      go : (t : Bool) → isFree s ≡ t → (t || any isFree l) ≡ true → cellSize ≤ length store → (any isFree l ≡ true → storeOf (drop cellSize store) (putSlot x l) ≡ overlay (storeOf (drop cellSize store) l) (unusedAt (cellsOf l) * cellSize) (x .body))
-          → storeOf store (cond t (x ∷ l) (s ∷ putSlot x l)) ≡ overlay (laid s (take cellSize store) ++ storeOf (drop cellSize store) l) (cond t 0 (suc (unusedAt (cellsOf l))) * cellSize) (x .body)
+      go : (t : Bool) → isFree s ≡ t → (t || any isFree l) ≡ true → cellSize ≤ length store
+          → (any isFree l ≡ true → storeOf (drop cellSize store) (putSlot x l) ≡ overlay (storeOf (drop cellSize store) l)
+          (unusedAt (cellsOf l) * cellSize) (x .body))
+          → storeOf store (cond t (x ∷ l) (s ∷ putSlot x l)) ≡ overlay (laid s (take cellSize store) ++ storeOf (drop cellSize store) l)
+          (cond t 0 (suc (unusedAt (cellsOf l))) * cellSize) (x .body)
       go true t r a k =
           let e : 0 * cellSize ≡ 0 = omega arith in
           let q = first-length store a in
           let y = z .fits used in
-          rw (e, laid-free s (take cellSize store) t, laid-used x (take cellSize store) used) (sym (overlay-here (take cellSize store) (storeOf (drop cellSize store) l) (x .body) (omega arith)))
+          rw (e, laid-free s (take cellSize store) t, laid-used x (take cellSize store) used)
+          (sym (overlay-here (take cellSize store) (storeOf (drop cellSize store) l) (x .body) (omega arith)))
       go false t r a k =
           let n = laid-length s (take cellSize store) (zs s (List·Memᴰ·head refl)) (first-length store a) in
           let m = suc-mul (unusedAt (cellsOf l)) cellSize in
-          let e : suc (unusedAt (cellsOf l)) * cellSize ≡ length (laid s (take cellSize store)) + unusedAt (cellsOf l) * cellSize = omega arith in
-          rw (k r, e) (sym (overlay-after (laid s (take cellSize store)) (storeOf (drop cellSize store) l) (x .body) (unusedAt (cellsOf l) * cellSize)))
+          let e : suc (unusedAt (cellsOf l)) * cellSize ≡ length (laid s (take cellSize store)) + unusedAt (cellsOf l) * cellSize =
+          omega arith in
+          rw (k r, e) (sym (overlay-after (laid s (take cellSize store)) (storeOf (drop cellSize store) l) (x .body)
+          (unusedAt (cellsOf l) * cellSize)))
 
   -- A slot that is put writes its body at the place of the lowest-numbered unused cell, and no other byte.
-  pub put-store : (l : List Slot) (store : List ℕ) → AllSized l → any isFree l ≡ true → length l * cellSize ≤ length store → storeOf store (putSlot x l) ≡ put (storeOf store l) (unusedAt (cellsOf l) * cellSize) (x .body)
+  pub put-store : (l : List Slot) (store : List ℕ) → AllSized l → any isFree l ≡ true → length l * cellSize ≤ length store
+      → storeOf store (putSlot x l) ≡ put (storeOf store l) (unusedAt (cellsOf l) * cellSize) (x .body)
   unfolding overlay
   put-store l store zs r le =
       let a = z .fits used in
@@ -87,7 +100,8 @@ module _ (x : Slot) (used : isFree x ≡ false) (z : Sized x) where
       overlaid l store zs r le ∙ sym (put-split (storeOf store l) (unusedAt (cellsOf l) * cellSize) (x .body) (omega arith))
 
 -- The slot at a place.
-pub slot-at : (cs : List Cell) (store : List ℕ) (i : ℕ) → i < length cs → (d : Slot) (c : Cell) → getD (slotsOf cs store) i d ≡ record { cell = getD cs i c; body = bodyOf (getD cs i c) (drop (i * cellSize) store) }
+pub slot-at : (cs : List Cell) (store : List ℕ) (i : ℕ) → i < length cs → (d : Slot) (c : Cell) → getD (slotsOf cs store) i d
+    ≡ record { cell = getD cs i c; body = cellBody (getD cs i c) (drop (i * cellSize) store) }
 unfolding slotsOf
 slot-at [] store i lt d c = absurd (omega arith)
 slot-at (k ∷ cs) store zero lt d c = let e : 0 * cellSize ≡ 0 = omega arith in rw e

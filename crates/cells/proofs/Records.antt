@@ -2,19 +2,19 @@
 -- Assumes nothing.
 use Prim.Native.Nat.{ℕ, zero, suc}
 use mathlib.Core.Path.{_≡_, refl, sym, _∙_, ap}
-use mathlib.Core.Bool.{Bool, true, false, cond, _&&_, _||_}
-use mathlib.Core.Option.{Option, none, some}
-use mathlib.Core.List.{List, [], _∷_, map}
+use mathlib.Core.Bool.{Bool, true, false, cond, _||_}
+use mathlib.Core.List.{List, [], _∷_}
 use lib.ListN.{set}
-use lib.Dec.{ltb, eqb}
+use lib.Dec.{eqb}
 use Rattle.base.specs.Lists.{any, countOf, below}
 use Rattle.base.proofs.Choices.{cond-ap}
-use Rattle.line.specs.Frame.{Frame, pieceOf}
-use Rattle.line.specs.Bare.{conflict}
+use Rattle.bare.specs.Frame.{Frame}
+use Rattle.bare.specs.Bare.{conflict}
 use Rattle.cells.specs.Records.{unusedAt, changeCells, clashCell, beforeCell, earliestCell}
-use Rattle.cells.specs.Cell.{Cell, Slot, Key, heldAs, bears, at, of, sits, isFree, isOpen, isReady, allThere, pieceIn, clash, markCell, mark, emptyCell, emptySlot, change, mapIf, turnTo, freed, putSlot}
-use Rattle.cells.specs.Datagram.{isHeld, isFirst, isBefore, rank, renumber, sweep}
-use Rattle.cells.specs.Take.{lower, earliest}
+use Rattle.cells.specs.Cell.{Cell, Slot, Key, heldAs, bears, at, of, sits, isFree, isOpen, isReady, allThere, pieceIn, clash}
+use Rattle.cells.specs.Cell.{markCell, mark, emptyCell, emptySlot, change, mapIf, turnTo, freed, putSlot}
+use Rattle.cells.specs.Datagram.{isHeld, isFirst, isBefore, rank}
+use Rattle.cells.specs.Take.{earliest}
 use Rattle.cells.specs.Sound.{lacksNone}
 use Rattle.cells.specs.Store.{cellsOf}
 
@@ -34,11 +34,13 @@ there-cells k l zero = refl
 there-cells k l (suc n) = rw (there-cells k l n, any-cells (at k n) l)
 
 -- A change that reads only the record changes only the record.
-cells-change : (q : Slot → Bool) (g : Slot → Slot) (p : Cell → Bool) (k : Cell → Cell) → ((s : Slot) → q s ≡ p (s .cell)) → ((s : Slot) → g s .cell ≡ k (s .cell)) → (l : List Slot) → cellsOf (mapIf q g l) ≡ changeCells p k (cellsOf l)
+cells-change : (q : Slot → Bool) (g : Slot → Slot) (p : Cell → Bool) (k : Cell → Cell) → ((s : Slot) → q s ≡ p (s .cell))
+    → ((s : Slot) → g s .cell ≡ k (s .cell)) → (l : List Slot) → cellsOf (mapIf q g l) ≡ changeCells p k (cellsOf l)
 unfolding cellsOf mapIf change changeCells
 cells-change q g p k e f [] = refl
 cells-change q g p k e f (s ∷ l) =
-    let a : cond (q s) (g s) s .cell ≡ cond (p (s .cell)) (k (s .cell)) (s .cell) = cond-ap (λ (x : Slot). x .cell) (q s) (g s) s ∙ rw (e s, f s) in
+    let a : cond (q s) (g s) s .cell ≡ cond (p (s .cell)) (k (s .cell)) (s .cell) = cond-ap (λ (x : Slot). x .cell) (q s) (g s) s
+    ∙ rw (e s, f s) in
     let b = cells-change q g p k e f l in
     cc (a, b)
 
@@ -50,16 +52,13 @@ pub cells-freed : (k : Key) (l : List Slot) → cellsOf (freed k l) ≡ changeCe
 unfolding freed of emptySlot
 cells-freed k l = cells-change (of k) (λ s. emptySlot) (bears k) (λ c. emptyCell) (λ s. refl) (λ s. refl) l
 
-pub cells-sweep : (l : List Slot) → cellsOf (sweep l) ≡ changeCells (λ c. eqb (c .used) 4) (λ c. emptyCell) (cellsOf l)
-unfolding sweep emptySlot
-cells-sweep l = cells-change (λ s. eqb (s .cell .used) 4) (λ s. emptySlot) (λ c. eqb (c .used) 4) (λ c. emptyCell) (λ s. refl) (λ s. refl) l
-
 pub cells-put : (x : Slot) (l : List Slot) → cellsOf (putSlot x l) ≡ set (cellsOf l) (unusedAt (cellsOf l)) (x .cell)
 unfolding putSlot unusedAt cellsOf isFree
 cells-put x [] = refl
 cells-put x (s ∷ l) = go (isFree s) (cells-put x l)
   where
-    go : (t : Bool) → cellsOf (putSlot x l) ≡ set (cellsOf l) (unusedAt (cellsOf l)) (x .cell) → cellsOf (cond t (x ∷ l) (s ∷ putSlot x l)) ≡ set (s .cell ∷ cellsOf l) (cond t 0 (suc (unusedAt (cellsOf l)))) (x .cell)
+    go : (t : Bool) → cellsOf (putSlot x l) ≡ set (cellsOf l) (unusedAt (cellsOf l)) (x .cell) → cellsOf (cond t (x ∷ l) (s ∷ putSlot x l))
+        ≡ set (s .cell ∷ cellsOf l) (cond t 0 (suc (unusedAt (cellsOf l)))) (x .cell)
     go true e = refl
     go false e = ap {B = List Cell} (λ r. s .cell ∷ r) e
 
@@ -78,10 +77,6 @@ room-cells l = sym (any-cells (λ c. eqb (c .used) 0) l)
 pub rank-cells : (l : List Slot) (t : ℕ) → rank l t ≡ countOf (beforeCell t) (cellsOf l)
 unfolding rank isBefore isFirst isReady beforeCell
 rank-cells l t = sym (count-cells (beforeCell t) l)
-
-pub cells-renumber : (l : List Slot) → cellsOf (renumber l) ≡ changeCells (λ c. eqb (c .used) 3) (λ c. markCell 3 (countOf (beforeCell (c .turn)) (cellsOf l)) c) (cellsOf l)
-unfolding renumber isReady mark
-cells-renumber l = cells-change isReady (λ s. mark 3 (rank l (s .cell .turn)) s) (λ c. eqb (c .used) 3) (λ c. markCell 3 (countOf (beforeCell (c .turn)) (cellsOf l)) c) (λ s. refl) (λ s. rw (rank-cells l (s .cell .turn))) l
 
 pub earliest-cells : (l : List Slot) → earliest l ≡ earliestCell (cellsOf l)
 unfolding earliest earliestCell cellsOf isReady

@@ -12,55 +12,63 @@ use borrow.Author.Tests.{ltb-true, ltb-false, lt-ltb, le-ltb, eqb-true}
 use Rattle.base.specs.Lists.{find, any, countOf}
 use Rattle.base.proofs.Choices.{byBool, cases, byOption}
 use Rattle.base.proofs.Counts.{count-map, count-none, count-both}
-use Rattle.line.specs.Frame.{Frame, Message, ordered, inLimits, pieceOf, message}
-use Rattle.line.specs.Bare.{Out, Bare, Sent, new, isAt, emit, follow, quiet, queue, deliver, conflict, seenBefore, accept, step, feed}
-use Rattle.cells.specs.Cell.{Slot, Key, openAs, heldAs, of, isFree, isReady, allThere, clash, mark, change, mapIf, turnTo, putSlot, slotOf}
-use Rattle.cells.specs.Datagram.{Work, dropOne, fillUp, place, made, rise, acceptIn, isHeld, goOn, cascade, follows, Fate, late, early, due, free, fate, fateOf, roomy, whole, joins, kept, piece, keepIn, frame, frames, rank, renumber, State, begin, datagram}
+use Rattle.bare.specs.Frame.{Frame, Message, ordered, inLimits, pieceOf, message}
+use Rattle.bare.specs.Bare.{Out, Bare, Sent, isAt, emit, follow, quiet, queue, deliver, conflict, seenBefore, acceptReliable, step}
+use Rattle.cells.specs.Cell.{Slot, Key, openAs, heldAs, of, isFree, isReady, allThere, clash, mark, change, mapIf, turnTo, putSlot}
+use Rattle.cells.specs.Cell.{slotOf}
+use Rattle.cells.specs.Datagram.{Work, dropOne, fillUp, place, made, rise, acceptIn, isHeld, goOn, cascade, follows, Fate, late}
+use Rattle.cells.specs.Datagram.{early, due, free, fate, fateOf, roomy, whole, joins, kept, piece, keepIn, frame, frames, rank}
+use Rattle.cells.specs.Datagram.{renumber, State, begin, datagram}
 use Rattle.cells.specs.Room.{keptAsFrame, bodies, exceeds}
-use Rattle.cells.specs.Calls.{Call, calls, newSession, read}
 use Rattle.cells.proofs.PutSlot.{free-put}
 use Rattle.cells.proofs.Keys.{key-used, used-free, mark-free}
 use Rattle.cells.proofs.Pieces.{tests-clash}
 use Rattle.cells.proofs.FrameSlot.{slot-free}
 use Rattle.cells.proofs.Cascade.{isHeld-is}
 use Rattle.cells.proofs.Frames.{Rel, sim-rel, frame-sim, follows-full, kept-full, frames-full}
-use Rattle.cells.proofs.Sessions.{begin-rel, calls-match, new-matches}
 
 -- How a working state's unused slots change: one less for k = 1, unless there was none.
-abbrev Outcome : Work → Work → ℕ → Type 0
-Outcome w w′ k = ((w′ .full ≡ true) × (countOf isFree (w .slots) ≡ 0) × (k ≡ 1)) ⊎ ((w′ .full ≡ w .full) × (countOf isFree (w .slots) ≡ k + countOf isFree (w′ .slots)))
+abbrev Spends : Work → Work → ℕ → Type 0
+Spends w w′ k = ((w′ .full ≡ true) × (countOf isFree (w .state .slots) ≡ 0) × (k ≡ 1)) ⊎
+    ((w′ .full ≡ w .full) × (countOf isFree (w .state .slots) ≡ k + countOf isFree (w′ .state .slots)))
 
 free-turn : (k : Key) (u t : ℕ) (l : List Slot) → (u ≡ 0 → ⊥) → countOf isFree (turnTo k u t l) ≡ countOf isFree l
 unfolding turnTo mapIf change
-free-turn k u t l ne = count-map isFree isFree (change (of k) (mark u t)) l (λ s m. cases (of k s) (λ y. rw (y, mark-free u t s ne, key-used k s y)) (λ y. rw y))
+free-turn k u t l ne = count-map isFree isFree (change (of k) (mark u t)) l
+    (λ s m. cases (of k s) (λ y. rw (y, mark-free u t s ne, key-used k s y)) (λ y. rw y))
 
-free-cascade : (n c : ℕ) (w : Work) → countOf isFree (cascade n c w .slots) ≡ countOf isFree (w .slots)
+free-cascade : (n c : ℕ) (w : Work) → countOf isFree (cascade n c w .state .slots) ≡ countOf isFree (w .state .slots)
 unfolding cascade goOn rise made
 free-cascade zero c w = refl
-free-cascade (suc n) c w = byBool (λ (x : Work). countOf isFree (x .slots) ≡ countOf isFree (w .slots)) (isHeld c (w .next c) (w .slots))
-    (λ y. free-cascade n c (goOn c w) ∙ free-turn (heldAs c (w .next c)) 3 (w .turn) (w .slots) (λ q. omega arith)) (λ y. refl)
+free-cascade (suc n) c w = byBool (λ (x : Work). countOf isFree (x .state .slots) ≡ countOf isFree (w .state .slots))
+    (isHeld c (w .state .next c) (w .state .slots))
+    (λ y. free-cascade n c (goOn c w) ∙ free-turn (heldAs c (w .state .next c)) 3 (w .turn) (w .state .slots) (λ q. omega arith))
+    (λ y. refl)
 
-pub free-follows : (c : ℕ) (w : Work) → countOf isFree (follows c w .slots) ≡ countOf isFree (w .slots)
+pub free-follows : (c : ℕ) (w : Work) → countOf isFree (follows c w .state .slots) ≡ countOf isFree (w .state .slots)
 unfolding follows rise
-free-follows c w = free-cascade (length (w .slots)) c (rise c w)
+free-follows c w = free-cascade (length (w .state .slots)) c (rise c w)
 
-free-joins : (x : Fate) (f : Frame) (w : Work) → countOf isFree (joins x f w .slots) ≡ countOf isFree (w .slots)
+free-joins : (x : Fate) (f : Frame) (w : Work) → countOf isFree (joins x f w .state .slots) ≡ countOf isFree (w .state .slots)
 unfolding joins dropOne place made
-free-joins late f w = free-turn (openAs (f .id)) 4 0 (w .slots) (λ q. omega arith)
-free-joins early f w = free-turn (openAs (f .id)) 2 0 (w .slots) (λ q. omega arith)
-free-joins free f w = free-turn (openAs (f .id)) 3 (w .turn) (w .slots) (λ q. omega arith)
-free-joins due f w = free-follows (f .channel) (made (turnTo (openAs (f .id)) 3 (w .turn) (w .slots)) w) ∙ free-turn (openAs (f .id)) 3 (w .turn) (w .slots) (λ q. omega arith)
+free-joins late f w = free-turn (openAs (f .id)) 4 0 (w .state .slots) (λ q. omega arith)
+free-joins early f w = free-turn (openAs (f .id)) 2 0 (w .state .slots) (λ q. omega arith)
+free-joins free f w = free-turn (openAs (f .id)) 3 (w .turn) (w .state .slots) (λ q. omega arith)
+free-joins due f w = free-follows (f .channel) (made (turnTo (openAs (f .id)) 3 (w .turn) (w .state .slots)) w) ∙ free-turn (openAs (f .id))
+    3 (w .turn) (w .state .slots) (λ q. omega arith)
 
-pub free-kept : (f : Frame) (w : Work) → countOf isFree (kept f w .slots) ≡ countOf isFree (w .slots)
+pub free-kept : (f : Frame) (w : Work) → countOf isFree (kept f w .state .slots) ≡ countOf isFree (w .state .slots)
 unfolding kept
-free-kept f w = byBool (λ (x : Work). countOf isFree (x .slots) ≡ countOf isFree (w .slots)) (allThere (openAs (f .id)) (w .slots) (f .count)) (λ y. free-joins (fateOf f w) f w) (λ y. refl)
+free-kept f w = byBool (λ (x : Work). countOf isFree (x .state .slots) ≡ countOf isFree (w .state .slots))
+    (allThere (openAs (f .id)) (w .state .slots) (f .count)) (λ y. free-joins (fateOf f w) f w) (λ y. refl)
 
 -- A slot is put, where there is room, and r has as many unused as that leaves.
-roomy-outcome : (x : Slot) (w r : Work) → isFree x ≡ false → r .full ≡ w .full → countOf isFree (r .slots) ≡ countOf isFree (putSlot x (w .slots)) → Outcome w (roomy w r) 1
+roomy-spends : (x : Slot) (w r : Work) → isFree x ≡ false → r .full ≡ w .full → countOf isFree (r .state .slots)
+    ≡ countOf isFree (putSlot x (w .state .slots)) → Spends w (roomy w r) 1
 unfolding roomy fillUp
-roomy-outcome x w r e q c = byBool (λ (z : Work). Outcome w z 1) (any isFree (w .slots))
-    (λ t. inr (q, let p = free-put x (w .slots) t e in omega arith))
-    (λ t. inl (refl, count-none isFree (w .slots) t, refl))
+roomy-spends x w r e q c = byBool (λ (z : Work). Spends w z 1) (any isFree (w .state .slots))
+    (λ t. inr (q, let p = free-put x (w .state .slots) t e in omega arith))
+    (λ t. inl (refl, count-none isFree (w .state .slots) t, refl))
 
 unfoldable cellsFor : Fate → ℕ
 cellsFor late = 0
@@ -68,38 +76,46 @@ cellsFor early = 1
 cellsFor free = 1
 cellsFor due = 1
 
-whole-outcome : (x : Fate) (f : Frame) (w : Work) → Outcome w (whole x f w) (cellsFor x)
+whole-spends : (x : Fate) (f : Frame) (w : Work) → Spends w (whole x f w) (cellsFor x)
 unfolding whole cellsFor dropOne place made
-whole-outcome late f w = inr (refl, omega arith)
-whole-outcome early f w = roomy-outcome (slotOf f 2 0) w _ (slot-free f 2 0 (λ q. omega arith)) refl refl
-whole-outcome free f w = roomy-outcome (slotOf f 3 (w .turn)) w _ (slot-free f 3 (w .turn) (λ q. omega arith)) refl refl
-whole-outcome due f w = roomy-outcome (slotOf f 3 (w .turn)) w _ (slot-free f 3 (w .turn) (λ q. omega arith)) (follows-full (f .channel) _) (free-follows (f .channel) _)
+whole-spends late f w = inr (refl, omega arith)
+whole-spends early f w = roomy-spends (slotOf f 2 0) w _ (slot-free f 2 0 (λ q. omega arith)) refl refl
+whole-spends free f w = roomy-spends (slotOf f 3 (w .turn)) w _ (slot-free f 3 (w .turn) (λ q. omega arith)) refl refl
+whole-spends due f w = roomy-spends (slotOf f 3 (w .turn)) w _ (slot-free f 3 (w .turn) (λ q. omega arith)) (follows-full (f .channel) _)
+    (free-follows (f .channel) _)
 
-piece-outcome : (f : Frame) (w : Work) → Outcome w (piece f w) (cond (not (any (clash f) (w .slots))) 1 0)
+piece-spends : (f : Frame) (w : Work) → Spends w (piece f w) (cond (not (any (clash f) (w .state .slots))) 1 0)
 unfolding piece dropOne place
-piece-outcome f w = cases (any (clash f) (w .slots))
+piece-spends f w = cases (any (clash f) (w .state .slots))
     (λ t. rw t (inr (refl, omega arith)))
-    (λ t. rw t (roomy-outcome (slotOf f 1 0) w _ (slot-free f 1 0 (λ q. omega arith)) (kept-full f (place (putSlot (slotOf f 1 0) (w .slots)) w)) (free-kept f (place (putSlot (slotOf f 1 0) (w .slots)) w))))
+    (λ t. rw t (roomy-spends (slotOf f 1 0) w _ (slot-free f 1 0 (λ q. omega arith))
+    (kept-full f (place (putSlot (slotOf f 1 0) (w .state .slots)) w)) (free-kept f (place (putSlot (slotOf f 1 0) (w .state .slots)) w))))
 
 follow-dropped : (n c : ℕ) (s : Sent) → follow n c s .dropped ≡ s .dropped
 unfolding follow emit
 follow-dropped zero c s = refl
-follow-dropped (suc n) c s = byOption (λ (t : Sent). t .dropped ≡ s .dropped) (find (isAt c (s .after .next c)) (s .after .held)) (λ e. refl) (λ m e. follow-dropped n c (emit m s))
+follow-dropped (suc n) c s = byOption (λ (t : Sent). t .dropped ≡ s .dropped) (find (isAt c (s .after .next c)) (s .after .held))
+    (λ e. refl) (λ m e. follow-dropped n c (emit m s))
 
 -- Step 4 drops a message of an ordered kind whose number is below the channel's next or held, and no other.
-deliver-dropped : (m : Message) (o : Out) → deliver m o .dropped ≡ cond (ordered (m .kind) && (ltb (m .order) (o .next (m .channel)) || any (isAt (m .channel) (m .order)) (o .held))) 1 0
+deliver-dropped : (m : Message) (o : Out) → deliver m o .dropped
+    ≡ cond (ordered (m .kind) && (ltb (m .order) (o .next (m .channel)) || any (isAt (m .channel) (m .order)) (o .held))) 1 0
 unfolding deliver queue quiet emit
 deliver-dropped m o = cases (ordered (m .kind))
     (λ t. rw t (cases (ltb (m .order) (o .next (m .channel)) || any (isAt (m .channel) (m .order)) (o .held))
     (λ u. rw u)
-    (λ u. rw u (byBool (λ (s : Sent). s .dropped ≡ 0) (eqb (m .order) (o .next (m .channel))) (λ z. follow-dropped (length (o .held)) (m .channel) (emit m (quiet o 0))) (λ z. refl)))))
+    (λ u. rw u (byBool (λ (s : Sent). s .dropped ≡ 0) (eqb (m .order) (o .next (m .channel)))
+    (λ z. follow-dropped (length (o .held)) (m .channel) (emit m (quiet o 0))) (λ z. refl)))))
     (λ t. rw t)
 
-cellsFor-is : (b : Bare) (w : Work) (h : List Message) (f : Frame) → Rel b w h → cellsFor (fateOf f w) ≡ cond (eqb (deliver (message f (f .body)) (b .out) .dropped) 0) 1 0
+cellsFor-is : (b : Bare) (w : Work) (h : List Message) (f : Frame) → Rel b w h → cellsFor (fateOf f w)
+    ≡ cond (eqb (deliver (message f (f .body)) (b .out) .dropped) 0) 1 0
 unfolding fateOf fate cellsFor message
-cellsFor-is b w h f v = rw (deliver-dropped (message f (f .body)) (b .out), nx, ← isHeld-is (v .outs) (f .channel) (f .order)) (go (ordered (f .kind)) (ltb (f .order) (w .next (f .channel)) || isHeld (f .channel) (f .order) (w .slots)) (eqb (f .order) (w .next (f .channel))))
+cellsFor-is b w h f v = rw (deliver-dropped (message f (f .body)) (b .out), nx, ← isHeld-is (v .outs) (f .channel) (f .order))
+    (go (ordered (f .kind)) (ltb (f .order) (w .state .next (f .channel)) || isHeld (f .channel) (f .order) (w .state .slots))
+    (eqb (f .order) (w .state .next (f .channel))))
   where
-    nx : b .out .next (f .channel) ≡ w .next (f .channel)
+    nx : b .out .next (f .channel) ≡ w .state .next (f .channel)
     nx = ap (λ (g : ℕ → ℕ). g (f .channel)) (v .outs .next-same)
 
     go : (o t u : Bool) → cellsFor (cond o (cond t late (cond u due early)) free) ≡ cond (eqb (cond (o && t) 1 0) 0) 1 0
@@ -113,46 +129,57 @@ ltb-shift k x y z e = cases (ltb y z)
     (λ t. let p = ltb-true y z t in t ∙ sym (lt-ltb x (k + z) (omega arith)))
     (λ t. let p = ltb-false y z t in t ∙ sym (le-ltb x (k + z) (omega arith)))
 
-keepIn-outcome : (b : Bare) (w : Work) (h : List Message) (f : Frame) → Rel b w h
-    → Outcome w (keepIn f w) (cond (cond (f .piece) (not (any (conflict (pieceOf f)) (b .pieces))) (eqb (deliver (message f (f .body)) (b .out) .dropped) 0)) 1 0)
+keepIn-spends : (b : Bare) (w : Work) (h : List Message) (f : Frame) → Rel b w h
+    → Spends w (keepIn f w) (cond (cond (f .piece) (not (any (conflict (pieceOf f)) (b .pieces)))
+    (eqb (deliver (message f (f .body)) (b .out) .dropped) 0)) 1 0)
 unfolding keepIn
-keepIn-outcome b w h f v = rw (tests-clash f (b .pieces) (w .slots) (v .pieces)) (go (f .piece))
+keepIn-spends b w h f v = rw (tests-clash f (b .pieces) (w .state .slots) (v .pieces)) (go (f .piece))
   where
-    go : (t : Bool) → Outcome w (cond t (piece f w) (whole (fateOf f w) f w)) (cond (cond t (not (any (clash f) (w .slots))) (eqb (deliver (message f (f .body)) (b .out) .dropped) 0)) 1 0)
-    go true = piece-outcome f w
-    go false = rw (← cellsFor-is b w h f v) (whole-outcome (fateOf f w) f w)
+    go : (t : Bool) → Spends w (cond t (piece f w) (whole (fateOf f w) f w))
+        (cond (cond t (not (any (clash f) (w .state .slots))) (eqb (deliver (message f (f .body)) (b .out) .dropped) 0)) 1 0)
+    go true = piece-spends f w
+    go false = rw (← cellsFor-is b w h f v) (whole-spends (fateOf f w) f w)
 
-frame-outcome : (b : Bare) (w : Work) (h : List Message) (f : Frame) → Rel b w h → Outcome w (frame w f) (cond (keptAsFrame b f) 1 0)
+frame-spends : (b : Bare) (w : Work) (h : List Message) (f : Frame) → Rel b w h → Spends w (frame w f) (cond (keptAsFrame b f) 1 0)
 unfolding frame keptAsFrame dropOne acceptIn
-frame-outcome b w h f v = rw (ap (seenBefore f) (v .accepted)) (cases (seenBefore f (w .accepted))
+frame-spends b w h f v = rw (ap (seenBefore f) (v .accepted)) (cases (seenBefore f (w .state .accepted))
     (λ t. rw t (inr (refl, omega arith)))
     (λ t. cases (inLimits f)
-    (λ y. rw (t, y) (keepIn-outcome (record { accepted = accept f (w .accepted); pieces = b .pieces; out = b .out }) (acceptIn f w) h f (record { accepted = refl; pieces = v .pieces; outs = v .outs })))
+    (λ y. rw (t, y) (keepIn-spends (record { accepted = acceptReliable f (w .state .accepted); pieces = b .pieces; out = b .out })
+    (acceptIn f w)
+    h f (record { accepted = refl; pieces = v .pieces; outs = v .outs })))
     (λ y. rw (t, y) (inr (refl, omega arith)))))
 
-frames-outcome : (fs : List Frame) (b : Bare) (w : Work) (h : List Message) → Rel b w h → w .full ≡ false → frames w fs .full ≡ ltb (countOf isFree (w .slots)) (bodies b fs)
+frames-spends : (fs : List Frame) (b : Bare) (w : Work) (h : List Message) → Rel b w h → w .full ≡ false → frames w fs .full
+    ≡ ltb (countOf isFree (w .state .slots)) (bodies b fs)
 unfolding frames bodies
-frames-outcome [] b w h v e = e ∙ sym (le-ltb (countOf isFree (w .slots)) 0 (omega arith))
-frames-outcome (f ∷ fs) b w h v e = go (cond (keptAsFrame b f) 1 0) (frame-outcome b w h f v) (λ v′ e′. frames-outcome fs (step b f .after) (frame w f) h v′ e′)
+frames-spends [] b w h v e = e ∙ sym (le-ltb (countOf isFree (w .state .slots)) 0 (omega arith))
+frames-spends (f ∷ fs) b w h v e = go (cond (keptAsFrame b f) 1 0) (frame-spends b w h f v)
+    (λ v′ e′. frames-spends fs (step b f .after) (frame w f) h v′ e′)
   where
-    go : (k : ℕ) → Outcome w (frame w f) k → (Rel (step b f .after) (frame w f) h → frame w f .full ≡ false → frames (frame w f) fs .full ≡ ltb (countOf isFree (frame w f .slots)) (bodies (step b f .after) fs))
-        → frames (frame w f) fs .full ≡ ltb (countOf isFree (w .slots)) (k + bodies (step b f .after) fs)
-    go k (inl o) rest = frames-full fs (frame w f) (o .0) ∙ sym (lt-ltb (countOf isFree (w .slots)) (k + bodies (step b f .after) fs) (let p = o .1 in let q = o .2 in omega arith))
-    go k (inr o) rest = let f′ = o .0 ∙ e in rest (sim-rel (frame-sim b w h f v f′)) f′ ∙ ltb-shift k (countOf isFree (w .slots)) (countOf isFree (frame w f .slots)) (bodies (step b f .after) fs) (o .1)
+    go : (k : ℕ) → Spends w (frame w f) k → (Rel (step b f .after) (frame w f) h → frame w f .full ≡ false → frames (frame w f) fs .full
+        ≡ ltb (countOf isFree (frame w f .state .slots)) (bodies (step b f .after) fs))
+        → frames (frame w f) fs .full ≡ ltb (countOf isFree (w .state .slots)) (k + bodies (step b f .after) fs)
+    go k (inl o) rest = frames-full fs (frame w f) (o .0) ∙ sym (lt-ltb (countOf isFree (w .state .slots)) (k + bodies (step b f .after) fs)
+        (let p = o .1 in let q = o .2 in omega arith))
+    go k (inr o) rest = let f′ = o .0 ∙ e in rest (sim-rel (frame-sim b w h f v f′)) f′ ∙ ltb-shift k (countOf isFree (w .state .slots))
+        (countOf isFree (frame w f .state .slots)) (bodies (step b f .after) fs) (o .1)
 
 free-renumber : (l : List Slot) → countOf isFree (renumber l) ≡ countOf isFree l
 unfolding renumber mapIf change isReady
-free-renumber l = count-map isFree isFree (change isReady (λ s. mark 3 (rank l (s .cell .turn)) s)) l (λ s m. cases (isReady s) (λ y. rw (y, mark-free 3 (rank l (s .cell .turn)) s (λ q. omega arith), used-free s 3 (eqb-true (s .cell .used) 3 y) (λ q. omega arith))) (λ y. rw y))
+free-renumber l = count-map isFree isFree (change isReady (λ s. mark 3 (rank l (s .cell .turn)) s)) l
+    (λ s m. cases (isReady s) (λ y. rw (
+      y,
+      mark-free 3 (rank l (s .cell .turn)) s (λ q. omega arith),
+      used-free s 3 (eqb-true (s .cell .used) 3 y) (λ q. omega arith),
+    )) (λ y. rw y))
 
 -- A state that a datagram finds related to a bare receiver.
-pub related-room : (b : Bare) (s : State) (h : List Message) (fs : List Frame) → Rel b (begin s) h → datagram s fs .full ≡ exceeds b (s .slots) fs
+pub related-room : (b : Bare) (s : State) (h : List Message) (fs : List Frame) → Rel b (begin s) h → datagram s fs .full
+    ≡ exceeds b (s .slots) fs
 unfolding datagram begin exceeds
 related-room b s h fs v =
     let u = count-both isFree (s .slots) in
-    frames-outcome fs b (begin s) h v refl
-    ∙ (rw (free-renumber (s .slots)) (ltb-shift (countOf (λ x. not (isFree x)) (s .slots)) (length (s .slots)) (countOf isFree (s .slots)) (bodies b fs) (omega arith)))
-
--- After every list of calls: a datagram gets 8 exactly when the cells in use before and the bodies not dropped as frames are more than all cells.
-pub room-runs-out : (n : ℕ) (cs : List Call) (fs : List Frame) → datagram (calls (newSession n) cs .state) fs .full ≡ exceeds (feed new (read n cs) .after) (calls (newSession n) cs .state .slots) fs
-unfolding read
-room-runs-out n cs fs = related-room _ (calls (newSession n) cs .state) _ fs (begin-rel _ _ (calls-match cs new (newSession n) (new-matches n)))
+    frames-spends fs b (begin s) h v refl
+    ∙ (rw (free-renumber (s .slots)) (ltb-shift (countOf (λ x. not (isFree x)) (s .slots)) (length (s .slots)) (countOf isFree (s .slots))
+    (bodies b fs) (omega arith)))

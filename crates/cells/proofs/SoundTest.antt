@@ -33,8 +33,13 @@ mem-cells l s m = Memᴰ·map (λ (s : Slot). s .cell) m
 key-of : (k : Key) (s : Slot) → of k s ≡ true → keyOf (s .cell) ≡ k
 unfolding keyOf of bears
 key-of (openAs id) s e = rw (and-left (eqb (s .cell .used) 1) _ e) (ap openAs (eqb-true _ _ (and-right (eqb (s .cell .used) 1) _ e)))
-key-of (heldAs c o) s e = let u = of-used (heldAs c o) s e in let p = of-held c o s e in rw (ne-eqb (s .cell .used) 1 (λ q. omega arith), eq-eqb (s .cell .used) 2 u) (cc (p .0, p .1))
-key-of (readyAs t) s e = let u = of-used (readyAs t) s e in rw (ne-eqb (s .cell .used) 1 (λ q. omega arith), ne-eqb (s .cell .used) 2 (λ q. omega arith)) (ap readyAs (eqb-true _ _ (and-right (eqb (s .cell .used) 3) _ e)))
+key-of (heldAs c o) s e = let u = of-used (heldAs c o) s e in let p = of-held c o s e in
+    rw (ne-eqb (s .cell .used) 1 (λ q. omega arith), eq-eqb (s .cell .used) 2 u) (cc (p .0, p .1))
+key-of (readyAs t) s e = let u = of-used (readyAs t) s e in rw (
+  ne-eqb (s .cell .used) 1 (λ q. omega arith),
+  ne-eqb (s .cell .used) 2
+      (λ q. omega arith),
+) (ap readyAs (eqb-true _ _ (and-right (eqb (s .cell .used) 3) _ e)))
 
 of-key : (s : Slot) → isFree s ≡ false → s .cell .used ≤ 3 → of (keyOf (s .cell)) s ≡ true
 unfolding keyOf of bears isFree
@@ -42,7 +47,8 @@ of-key s e le = cases (eqb (s .cell .used) 1)
     (λ y. rw y (and-both _ _ y (eq-eqb (s .cell .id) _ refl)))
     (λ y. cases (eqb (s .cell .used) 2)
     (λ z. rw (y, z) (and-both _ _ z (and-both _ _ (eq-eqb (s .cell .channel) _ refl) (eq-eqb (s .cell .order) _ refl))))
-    (λ z. rw (y, z) (let a : s .cell .used ≡ 1 → ⊥ = eqb-false _ _ y in let b : s .cell .used ≡ 2 → ⊥ = eqb-false _ _ z in let c : s .cell .used ≡ 0 → ⊥ = eqb-false _ _ e in
+    (λ z. rw (y, z) (let a : s .cell .used ≡ 1 → ⊥ = eqb-false _ _ y in let b : s .cell .used ≡ 2 → ⊥ = eqb-false _ _ z in
+    let c : s .cell .used ≡ 0 → ⊥ = eqb-false _ _ e in
     and-both _ _ (eq-eqb (s .cell .used) 3 (omega arith)) (eq-eqb (s .cell .turn) _ refl))))
 
 -- What the test says of a used cell.
@@ -64,7 +70,8 @@ used-is cs next c f s =
     record {
       limit = and-left (limits c) _ e;
       once = eqb-true _ _ (and-left (eqb (countOf (at (keyOf c) (c .index)) cs) 1) _ e₁);
-      like = λ d m y. or-implied (bears (keyOf c) d) (agree c d) (every-mem (λ d. not (bears (keyOf c) d) || agree c d) cs (and-left (every (λ d. not (bears (keyOf c) d) || agree c d) cs) _ e₂) d m) y;
+      like = λ d m y. or-implied (bears (keyOf c) d) (agree c d) (every-mem (λ d. not (bears (keyOf c) d) || agree c d) cs
+          (and-left (every (λ d. not (bears (keyOf c) d) || agree c d) cs) _ e₂) d m) y;
       parts = and-left (cond (eqb (c .used) 1) (not (lacksNone (keyOf c) cs (c .count))) (lacksNone (keyOf c) cs (c .count))) _ e₃;
       over = λ y. ltb-true _ _ (or-implied (eqb (c .used) 2) (ltb (next (c .channel)) (c .order)) e₄ y);
     }
@@ -72,7 +79,9 @@ used-is cs next c f s =
 is-used : (cs : List Cell) (next : ℕ → ℕ) (c : Cell) → eqb (c .used) 0 ≡ false → Used cs next c → soundCell cs next c ≡ true
 unfolding soundCell
 is-used cs next c f u = rw f (
-    and-both _ _ (u .limit) (and-both _ _ (eq-eqb _ _ (u .once)) (and-both _ _ (every-all (λ d. not (bears (keyOf c) d) || agree c d) cs (λ d m. implied-or (bears (keyOf c) d) (agree c d) (u .like d m)))
+    and-both _ _ (u .limit) (and-both _ _ (eq-eqb _ _ (u .once))
+    (and-both _ _ (every-all (λ d. not (bears (keyOf c) d) || agree c d) cs
+    (λ d m. implied-or (bears (keyOf c) d) (agree c d) (u .like d m)))
     (and-both _ _ (u .parts) (implied-or (eqb (c .used) 2) (ltb (next (c .channel)) (c .order)) (λ y. lt-ltb _ _ (u .over y)))))))
 
 limits-bounds : (s : Slot) → limits (s .cell) ≡ true → Bounds s × (s .cell .used ≤ 3)
@@ -104,7 +113,11 @@ limits-bounds s e₀ =
 
 bounds-limits : (s : Slot) → Bounds s → s .cell .used ≤ 3 → limits (s .cell) ≡ true
 unfolding limits
-bounds-limits s b u = and-both _ _ (le-leb _ _ u) (and-both _ _ (le-leb _ _ (b .kind)) (and-both _ _ (lt-ltb _ _ (b .channel)) (and-both _ _ (lt-ltb _ _ (b .sequence)) (and-both _ _ (lt-ltb _ _ (b .order)) (and-both _ _ (le-leb _ _ (b .some-count)) (and-both _ _ (le-leb _ _ (b .count)) (and-both _ _ (lt-ltb _ _ (b .index)) (and-both _ _ (le-leb _ _ (b .length)) (lt-ltb _ _ (b .id))))))))))
+bounds-limits s b u = and-both _ _ (le-leb _ _ u) (and-both _ _ (le-leb _ _ (b .kind))
+    (and-both _ _ (lt-ltb _ _ (b .channel)) (and-both _ _ (lt-ltb _ _ (b .sequence))
+    (and-both _ _ (lt-ltb _ _ (b .order)) (and-both _ _ (le-leb _ _ (b .some-count))
+    (and-both _ _ (le-leb _ _ (b .count)) (and-both _ _ (lt-ltb _ _ (b .index))
+    (and-both _ _ (le-leb _ _ (b .length)) (lt-ltb _ _ (b .id))))))))))
 
 agree-says : (s s′ : Slot) → agree (s .cell) (s′ .cell) ≡ true → Agreeing s s′
 unfolding agree
@@ -122,13 +135,15 @@ agree-says s s′ e₀ =
 
 agree-holds : (s s′ : Slot) → Agreeing s s′ → agree (s .cell) (s′ .cell) ≡ true
 unfolding agree
-agree-holds s s′ a = and-both _ _ (eq-eqb _ _ (a .count)) (and-both _ _ (eq-eqb _ _ (a .kind)) (and-both _ _ (eq-eqb _ _ (a .sequence)) (and-both _ _ (eq-eqb _ _ (a .order)) (eq-eqb _ _ (a .channel)))))
+agree-holds s s′ a = and-both _ _ (eq-eqb _ _ (a .count)) (and-both _ _ (eq-eqb _ _ (a .kind))
+    (and-both _ _ (eq-eqb _ _ (a .sequence)) (and-both _ _ (eq-eqb _ _ (a .order)) (eq-eqb _ _ (a .channel)))))
 
 module _ (next : ℕ → ℕ) (l : List Slot) where
   module _ (e : sound (cellsOf l) next ≡ true) where
     used : (s : Slot) → List·Memᴰ s l → isFree s ≡ false → Used (cellsOf l) next (s .cell)
     unfolding sound isFree
-    used s m f = used-is (cellsOf l) next (s .cell) f (every-mem (soundCell (cellsOf l) next) (cellsOf l) (and-left (every (soundCell (cellsOf l) next) (cellsOf l)) _ e) (s .cell) (mem-cells l s m))
+    used s m f = used-is (cellsOf l) next (s .cell) f (every-mem (soundCell (cellsOf l) next) (cellsOf l)
+        (and-left (every (soundCell (cellsOf l) next) (cellsOf l)) _ e) (s .cell) (mem-cells l s m))
 
     of-bears : (k : Key) (s : Slot) → of k s ≡ bears k (s .cell)
     unfolding of
@@ -137,13 +152,16 @@ module _ (next : ℕ → ℕ) (l : List Slot) where
     keyed : (k : Key) (s : Slot) → List·Memᴰ s l → of k s ≡ true → Used (cellsOf l) next (s .cell) × (keyOf (s .cell) ≡ k)
     keyed k s m y = (used s m (key-used k s y), key-of k s y)
 
-    once-is : (k : Key) (i : ℕ) (s : Slot) → Used (cellsOf l) next (s .cell) → keyOf (s .cell) ≡ k → s .cell .index ≡ i → countOf (sits k i) l ≡ 1
+    once-is : (k : Key) (i : ℕ) (s : Slot) → Used (cellsOf l) next (s .cell) → keyOf (s .cell) ≡ k → s .cell .index ≡ i
+        → countOf (sits k i) l ≡ 1
     once-is k i s u p q = sym (count-sits k i l) ∙ rw (← p, ← q) (u .once)
 
-    parts-full : (k : Key) (s : Slot) → Used (cellsOf l) next (s .cell) → keyOf (s .cell) ≡ k → eqb (s .cell .used) 1 ≡ false → allThere k l (s .cell .count) ≡ true
+    parts-full : (k : Key) (s : Slot) → Used (cellsOf l) next (s .cell) → keyOf (s .cell) ≡ k → eqb (s .cell .used) 1 ≡ false
+        → allThere k l (s .cell .count) ≡ true
     parts-full k s u p y = sym (there-cells k l (s .cell .count)) ∙ rw (← p) (rw y at (u .parts))
 
-    parts-lack : (k : Key) (s : Slot) → Used (cellsOf l) next (s .cell) → keyOf (s .cell) ≡ k → eqb (s .cell .used) 1 ≡ true → allThere k l (s .cell .count) ≡ false
+    parts-lack : (k : Key) (s : Slot) → Used (cellsOf l) next (s .cell) → keyOf (s .cell) ≡ k → eqb (s .cell .used) 1 ≡ true
+        → allThere k l (s .cell .count) ≡ false
     parts-lack k s u p y = sym (there-cells k l (s .cell .count)) ∙ rw (← p) (not-true _ (rw y at (u .parts)))
 
     over-is : (c o : ℕ) (s : Slot) → Used (cellsOf l) next (s .cell) → of (heldAs c o) s ≡ true → next c < o
@@ -160,15 +178,19 @@ module _ (next : ℕ → ℕ) (l : List Slot) where
       core = record {
         bounds = λ s m f. limits-bounds s (used s m f .limit) .0;
         unique = ones;
-        alike = λ k s s′ m m′ y y′. let u = keyed k s m y in agree-says s s′ (u .0 .like (s′ .cell) (mem-cells l s′ m′) (rw (u .1) (sym (of-bears k s′) ∙ y′)));
-        full = λ k ne s m y. let u = keyed k s m y in parts-full k s (u .0) (u .1) (ne-eqb (s .cell .used) 1 (λ q. ne (sym (of-used k s y) ∙ q)));
+        alike = λ k s s′ m m′ y y′. let u = keyed k s m y in
+            agree-says s s′ (u .0 .like (s′ .cell) (mem-cells l s′ m′) (rw (u .1) (sym (of-bears k s′) ∙ y′)));
+        full = λ k ne s m y. let u = keyed k s m y in parts-full k s (u .0) (u .1)
+            (ne-eqb (s .cell .used) 1 (λ q. ne (sym (of-used k s y) ∙ q)));
       };
       uses = λ s m. cases (isFree s) (λ y. free-least s y) (λ y. limits-bounds s (used s m y .limit) .1);
-      lack = λ id s m y. let u = keyed (openAs id) s m y in parts-lack (openAs id) s (u .0) (u .1) (eq-eqb (s .cell .used) 1 (of-used (openAs id) s y));
+      lack = λ id s m y. let u = keyed (openAs id) s m y in parts-lack (openAs id) s (u .0) (u .1)
+          (eq-eqb (s .cell .used) 1 (of-used (openAs id) s y));
       ahead = λ c o y.
           let a = any-true (of (heldAs c o)) l y in
           over-is c o (a .0) (keyed (heldAs c o) (a .0) (a .1) (a .2) .0) (a .2);
-      nexts = λ c le. leb-true (next c) numbers24 (below-at maxOrdChans (λ d. leb (next d) numbers24) (and-right (every (soundCell (cellsOf l) next) (cellsOf l)) _ e) c (omega arith));
+      nexts = λ c le. leb-true (next c) numbers24 (below-at maxOrdChans (λ d. leb (next d) numbers24)
+          (and-right (every (soundCell (cellsOf l) next) (cellsOf l)) _ e) c (omega arith));
     }
       where
         ones : (k : Key) (i : ℕ) → countOf (sits k i) l ≤ 1
@@ -184,24 +206,29 @@ module _ (next : ℕ → ℕ) (l : List Slot) where
     alone : (k : Key) (s : Slot) → List·Memᴰ s l → of k s ≡ true → countOf (at k (s .cell .index)) (cellsOf l) ≡ 1
     alone k s m y =
         let a = v .core .unique k (s .cell .index) in
-        let b = count-some (sits k (s .cell .index)) l (any-mem (sits k (s .cell .index)) l s m (sits-of k (s .cell .index) s ∙ and-both _ _ y (eq-eqb (s .cell .index) _ refl))) in
+        let b = count-some (sits k (s .cell .index)) l (any-mem (sits k (s .cell .index)) l s m
+        (sits-of k (s .cell .index) s ∙ and-both _ _ y (eq-eqb (s .cell .index) _ refl))) in
         let c = count-sits k (s .cell .index) l in
         omega arith
 
-    likes : (k : Key) (s : Slot) → List·Memᴰ s l → of k s ≡ true → (d : Cell) → List·Memᴰ d (cellsOf l) → bears k d ≡ true → agree (s .cell) d ≡ true
+    likes : (k : Key) (s : Slot) → List·Memᴰ s l → of k s ≡ true → (d : Cell) → List·Memᴰ d (cellsOf l) → bears k d ≡ true
+        → agree (s .cell) d ≡ true
     unfolding cellsOf of
     likes k s m y d i z =
         let a = Memᴰ·of-map (λ (s : Slot). s .cell) l i in
-        subst (λ (d : Cell). agree (s .cell) d ≡ true) (a .2) (agree-holds s (a .0) (v .core .alike k s (a .0) m (a .1) y (ap (bears k) (a .2) ∙ z)))
+        subst (λ (d : Cell). agree (s .cell) d ≡ true) (a .2)
+        (agree-holds s (a .0) (v .core .alike k s (a .0) m (a .1) y (ap (bears k) (a .2) ∙ z)))
 
     open-key : (s : Slot) → eqb (s .cell .used) 1 ≡ true → keyOf (s .cell) ≡ openAs (s .cell .id)
     unfolding keyOf
     open-key s y = rw y
 
-    part : (s : Slot) → List·Memᴰ s l → of (keyOf (s .cell)) s ≡ true → cond (eqb (s .cell .used) 1) (not (lacksNone (keyOf (s .cell)) (cellsOf l) (s .cell .count))) (lacksNone (keyOf (s .cell)) (cellsOf l) (s .cell .count)) ≡ true
+    part : (s : Slot) → List·Memᴰ s l → of (keyOf (s .cell)) s ≡ true → cond (eqb (s .cell .used) 1)
+        (not (lacksNone (keyOf (s .cell)) (cellsOf l) (s .cell .count))) (lacksNone (keyOf (s .cell)) (cellsOf l) (s .cell .count)) ≡ true
     part s m k = cases (eqb (s .cell .used) 1)
         (λ y. rw (y, there-cells (keyOf (s .cell)) l (s .cell .count), open-key s y, v .lack (s .cell .id) s m (rw (open-key s y) at k)))
-        (λ y. rw (y, there-cells (keyOf (s .cell)) l (s .cell .count)) (v .core .full (keyOf (s .cell)) (λ q. eqb-false (s .cell .used) 1 y (of-used (keyOf (s .cell)) s k ∙ q)) s m k))
+        (λ y. rw (y, there-cells (keyOf (s .cell)) l (s .cell .count))
+        (v .core .full (keyOf (s .cell)) (λ q. eqb-false (s .cell .used) 1 y (of-used (keyOf (s .cell)) s k ∙ q)) s m k))
 
     held-key : (s : Slot) → eqb (s .cell .used) 2 ≡ true → of (heldAs (s .cell .channel) (s .cell .order)) s ≡ true
     unfolding of bears
@@ -213,7 +240,8 @@ module _ (next : ℕ → ℕ) (l : List Slot) where
       once = alone (keyOf (s .cell)) s m k;
       like = likes (keyOf (s .cell)) s m k;
       parts = part s m k;
-      over = λ y. v .ahead (s .cell .channel) (s .cell .order) (any-mem (of (heldAs (s .cell .channel) (s .cell .order))) l s m (held-key s y));
+      over = λ y. v .ahead (s .cell .channel) (s .cell .order) (any-mem (of (heldAs (s .cell .channel) (s .cell .order))) l s m
+          (held-key s y));
     }
 
     sound-slot : (s : Slot) → List·Memᴰ s l → soundCell (cellsOf l) next (s .cell) ≡ true
@@ -225,7 +253,8 @@ module _ (next : ℕ → ℕ) (l : List Slot) where
     -- What is sound passes the test.
     pub rest-sound : sound (cellsOf l) next ≡ true
     unfolding sound cellsOf
-    rest-sound = and-both _ _ (every-all (soundCell (cellsOf l) next) (cellsOf l) (λ c m. one c (Memᴰ·of-map (λ (s : Slot). s .cell) l m))) (below-all maxOrdChans (λ c. leb (next c) numbers24) (λ c lt. le-leb _ _ (v .nexts c (omega arith))))
+    rest-sound = and-both _ _ (every-all (soundCell (cellsOf l) next) (cellsOf l) (λ c m. one c (Memᴰ·of-map (λ (s : Slot). s .cell) l m)))
+        (below-all maxOrdChans (λ c. leb (next c) numbers24) (λ c lt. le-leb _ _ (v .nexts c (omega arith))))
       where
         one : (c : Cell) → (s : Slot) × List·Memᴰ s l × (s .cell ≡ c) → soundCell (cellsOf l) next c ≡ true
         one c a = subst (λ (d : Cell). soundCell (cellsOf l) next d ≡ true) (a .2) (sound-slot (a .0) (a .1))

@@ -24,7 +24,8 @@ retime ρ = change isReady (λ s. mark 3 (ρ (s .cell .turn)) s)
 
 -- ρ keeps the order of the ready slots' turns.
 abbrev pub Rising : (ℕ → ℕ) → List Slot → Type 0
-Rising ρ l = (s x : Slot) → List·Memᴰ s l → List·Memᴰ x l → isReady s ≡ true → isReady x ≡ true → s .cell .turn < x .cell .turn → ρ (s .cell .turn) < ρ (x .cell .turn)
+Rising ρ l = (s x : Slot) → List·Memᴰ s l → List·Memᴰ x l → isReady s ≡ true → isReady x ≡ true → s .cell .turn < x .cell .turn
+    → ρ (s .cell .turn) < ρ (x .cell .turn)
 
 ready-mark : (t : ℕ) (s : Slot) → isReady (mark 3 t s) ≡ true
 unfolding isReady mark markCell
@@ -53,16 +54,19 @@ module _ (ρ : ℕ → ℕ) where
   -- A message that is not ready keeps its cells.
   pub retime-other : (l : List Slot) (k : Key) → (useOf k ≡ 3 → ⊥) → Carried k k (retime ρ) l
   unfolding retime
-  retime-other l k ne = carried-other k isReady (λ s. mark 3 (ρ (s .cell .turn)) s) l (λ s m y. (of-other k s (λ q. ne (sym q ∙ ready-used s y)), of-mark k 3 (ρ (s .cell .turn)) s (λ q. ne (sym q))))
+  retime-other l k ne = carried-other k isReady (λ s. mark 3 (ρ (s .cell .turn)) s) l
+      (λ s m y. (of-other k s (λ q. ne (sym q ∙ ready-used s y)), of-mark k 3 (ρ (s .cell .turn)) s (λ q. ne (sym q))))
 
   module _ (l : List Slot) (up : Rising ρ l) where
     -- ρ tells the ready slots' turns apart.
-    retime-equal : (s x : Slot) → List·Memᴰ s l → List·Memᴰ x l → isReady s ≡ true → isReady x ≡ true → eqb (ρ (s .cell .turn)) (ρ (x .cell .turn)) ≡ eqb (s .cell .turn) (x .cell .turn)
+    retime-equal : (s x : Slot) → List·Memᴰ s l → List·Memᴰ x l → isReady s ≡ true → isReady x ≡ true → eqb (ρ (s .cell .turn))
+        (ρ (x .cell .turn)) ≡ eqb (s .cell .turn) (x .cell .turn)
     retime-equal s x m i e f = cases (eqb (s .cell .turn) (x .cell .turn))
         (λ y. same y)
         (λ y. ne-eqb _ _ (λ q. apart (eqb-false _ _ y) q) ∙ sym y)
       where
-        same : eqb (s .cell .turn) (x .cell .turn) ≡ true → eqb (ρ (s .cell .turn)) (ρ (x .cell .turn)) ≡ eqb (s .cell .turn) (x .cell .turn)
+        same : eqb (s .cell .turn) (x .cell .turn) ≡ true → eqb (ρ (s .cell .turn)) (ρ (x .cell .turn))
+            ≡ eqb (s .cell .turn) (x .cell .turn)
         same y = eq-eqb _ _ (ap ρ (eqb-true _ _ y)) ∙ sym y
 
         apart : (s .cell .turn ≡ x .cell .turn → ⊥) → ρ (s .cell .turn) ≡ ρ (x .cell .turn) → ⊥
@@ -71,7 +75,8 @@ module _ (ρ : ℕ → ℕ) where
             (λ y. let a = ltb-false (s .cell .turn) (x .cell .turn) y in let p = up x s i m f e (omega arith) in omega arith)
 
     -- The ready message of slot x's turn is found under its new turn.
-    pub retime-carried : (x : Slot) → List·Memᴰ x l → isReady x ≡ true → Carried (readyAs (x .cell .turn)) (readyAs (ρ (x .cell .turn))) (retime ρ) l
+    pub retime-carried : (x : Slot) → List·Memᴰ x l → isReady x ≡ true → Carried (readyAs (x .cell .turn)) (readyAs (ρ (x .cell .turn)))
+        (retime ρ) l
     unfolding retime change shown mark markCell
     retime-carried x i f = record {
       moved = λ s m. cases (isReady s)
@@ -105,15 +110,19 @@ unfolding earliest
 earliest-ready [] t e = absurd (let z : _≡_ {A = ℕ} 0 1 = cc in omega arith)
 earliest-ready (x ∷ l) t e = go (isReady x) refl e (λ q. later (earliest-ready l t q))
   where
-    later : (s : Slot) × List·Memᴰ s l × (isReady s ≡ true) × (s .cell .turn ≡ t) → (s : Slot) × List·Memᴰ s (x ∷ l) × (isReady s ≡ true) × (s .cell .turn ≡ t)
+    later : (s : Slot) × List·Memᴰ s l × (isReady s ≡ true) × (s .cell .turn ≡ t) → (s : Slot) × List·Memᴰ s (x ∷ l) × (isReady s ≡ true)
+        × (s .cell .turn ≡ t)
     later r = (r .0, List·Memᴰ·tail (r .1), r .2, r .3)
 
-    here : isReady x ≡ true → lower (x .cell .turn) (earliest l) ≡ t → (lower (x .cell .turn) (earliest l) ≡ x .cell .turn) ⊎ (earliest l ≡ some (lower (x .cell .turn) (earliest l))) → (earliest l ≡ some t → (s : Slot) × List·Memᴰ s (x ∷ l) × (isReady s ≡ true) × (s .cell .turn ≡ t))
+    here : isReady x ≡ true → lower (x .cell .turn) (earliest l) ≡ t → (lower (x .cell .turn) (earliest l) ≡ x .cell .turn) ⊎
+        (earliest l ≡ some (lower (x .cell .turn) (earliest l))) → (earliest l ≡ some t → (s : Slot) × List·Memᴰ s (x ∷ l)
+        × (isReady s ≡ true) × (s .cell .turn ≡ t))
         → (s : Slot) × List·Memᴰ s (x ∷ l) × (isReady s ≡ true) × (s .cell .turn ≡ t)
     here y q (inl p) rest = (x, List·Memᴰ·head refl, y, sym p ∙ q)
     here y q (inr p) rest = rest (p ∙ ap {B = Option ℕ} some q)
 
-    go : (b : Bool) → isReady x ≡ b → cond b (some (lower (x .cell .turn) (earliest l))) (earliest l) ≡ some t → (earliest l ≡ some t → (s : Slot) × List·Memᴰ s (x ∷ l) × (isReady s ≡ true) × (s .cell .turn ≡ t))
+    go : (b : Bool) → isReady x ≡ b → cond b (some (lower (x .cell .turn) (earliest l))) (earliest l) ≡ some t
+        → (earliest l ≡ some t → (s : Slot) × List·Memᴰ s (x ∷ l) × (isReady s ≡ true) × (s .cell .turn ≡ t))
         → (s : Slot) × List·Memᴰ s (x ∷ l) × (isReady s ≡ true) × (s .cell .turn ≡ t)
     go true y e rest = let q : lower (x .cell .turn) (earliest l) ≡ t = cc in here y q (lower-either (x .cell .turn) (earliest l)) rest
     go false y e rest = rest e
@@ -124,7 +133,8 @@ module _ (ρ : ℕ → ℕ) where
   lower-retime t u f g = cases (ltb u t)
       (λ y. rw (y, lt-ltb (ρ u) (ρ t) (g (ltb-true u t y))))
       (λ y. cases (eqb t u)
-      (λ z. rw (← eqb-true t u z) (byBool (λ (x : ℕ). x ≡ ρ (cond (ltb t t) t t)) (ltb (ρ t) (ρ t)) (λ w. both (ltb t t)) (λ w. both (ltb t t))))
+      (λ z. rw (← eqb-true t u z) (byBool (λ (x : ℕ). x ≡ ρ (cond (ltb t t) t t)) (ltb (ρ t) (ρ t)) (λ w. both (ltb t t))
+      (λ w. both (ltb t t))))
       (λ z. let ne : t ≡ u → ⊥ = eqb-false t u z in
       let a = ltb-false u t y in
       let p = f (omega arith) in
@@ -143,27 +153,39 @@ module _ (ρ : ℕ → ℕ) where
       (λ y. rw (retime-ready ρ x, y, retime-yes ρ x y, turn-mark 3 (ρ (x .cell .turn)) x, rest) (first (earliest l) refl y))
       (λ y. rw (retime-ready ρ x, y) rest)
     where
-      first : (o : Option ℕ) → earliest l ≡ o → isReady x ≡ true → _≡_ {A = Option ℕ} (some (lower (ρ (x .cell .turn)) (option o none (λ t. some (ρ t))))) (some (ρ (lower (x .cell .turn) o)))
+      first : (o : Option ℕ) → earliest l ≡ o → isReady x ≡ true
+          → _≡_ {A = Option ℕ} (some (lower (ρ (x .cell .turn)) (option o none (λ t. some (ρ t))))) (some (ρ (lower (x .cell .turn) o)))
       first none q y = refl
       first (some u) q y =
           let r = earliest-ready l u q in
-          ap {B = Option ℕ} some (rw (← r .3) (lower-retime (x .cell .turn) (r .0 .cell .turn) (up x (r .0) (List·Memᴰ·head refl) (List·Memᴰ·tail (r .1)) y (r .2)) (up (r .0) x (List·Memᴰ·tail (r .1)) (List·Memᴰ·head refl) (r .2) y)))
+          ap {B = Option ℕ} some (rw (← r .3) (lower-retime (x .cell .turn) (r .0 .cell .turn)
+          (up x (r .0) (List·Memᴰ·head refl) (List·Memᴰ·tail (r .1)) y (r .2))
+          (up (r .0) x (List·Memᴰ·tail (r .1)) (List·Memᴰ·head refl) (r .2) y)))
 
   -- A slot that is freed under the old turn is freed under the new one.
   freed-one : (l : List Slot) → Rising ρ l → (x : Slot) → List·Memᴰ x l → isReady x ≡ true → (s : Slot) → List·Memᴰ s l
-      → change (of (readyAs (ρ (x .cell .turn)))) (λ s. emptySlot) (retime ρ s) ≡ retime ρ (change (of (readyAs (x .cell .turn))) (λ s. emptySlot) s)
+      → change (of (readyAs (ρ (x .cell .turn)))) (λ s. emptySlot) (retime ρ s)
+      ≡ retime ρ (change (of (readyAs (x .cell .turn))) (λ s. emptySlot) s)
   unfolding change
   freed-one l up x i f s m = cases (isReady s)
-      (λ y. rw (retime-yes ρ s y, of-mark-ready (ρ (s .cell .turn)) (ρ (x .cell .turn)) s, retime-equal ρ l up s x m i y f, of-ready (x .cell .turn) s, y) (byTest (eqb (s .cell .turn) (x .cell .turn)) y))
+      (λ y. rw (
+        retime-yes ρ s y,
+        of-mark-ready (ρ (s .cell .turn)) (ρ (x .cell .turn)) s,
+        retime-equal ρ l up s x m i y f,
+        of-ready (x .cell .turn) s,
+        y,
+      ) (byTest (eqb (s .cell .turn) (x .cell .turn)) y))
       (λ y. rw (retime-no ρ s y, of-ready (ρ (x .cell .turn)) s, of-ready (x .cell .turn) s, y) (sym (retime-no ρ s y)))
     where
       byTest : (b : Bool) → isReady s ≡ true → cond b emptySlot (mark 3 (ρ (s .cell .turn)) s) ≡ retime ρ (cond b emptySlot s)
       byTest true y = sym (retime-no ρ emptySlot empty-ready)
       byTest false y = sym (retime-yes ρ s y)
 
-  freed-retime : (l : List Slot) → Rising ρ l → (x : Slot) → List·Memᴰ x l → isReady x ≡ true → freed (readyAs (ρ (x .cell .turn))) (map (retime ρ) l) ≡ map (retime ρ) (freed (readyAs (x .cell .turn)) l)
+  freed-retime : (l : List Slot) → Rising ρ l → (x : Slot) → List·Memᴰ x l → isReady x ≡ true → freed (readyAs (ρ (x .cell .turn)))
+      (map (retime ρ) l) ≡ map (retime ρ) (freed (readyAs (x .cell .turn)) l)
   unfolding freed mapIf
-  freed-retime l up x i f = map-map (change (of (readyAs (ρ (x .cell .turn)))) (λ s. emptySlot)) (retime ρ) (change (of (readyAs (x .cell .turn))) (λ s. emptySlot)) (retime ρ) l (freed-one l up x i f)
+  freed-retime l up x i f = map-map (change (of (readyAs (ρ (x .cell .turn)))) (λ s. emptySlot)) (retime ρ)
+      (change (of (readyAs (x .cell .turn))) (λ s. emptySlot)) (retime ρ) l (freed-one l up x i f)
 
   freed-rising : (l : List Slot) (k : Key) → Rising ρ l → Rising ρ (freed k l)
   freed-rising l k up s x m i e f = up s x (ready-left k l s m e) (ready-left k l x i f) e f
@@ -178,7 +200,12 @@ module _ (ρ : ℕ → ℕ) where
       let c = retime-carried ρ l up (r .0) (r .1) (r .2) in
       rw (earliest-retime l up, e, ← r .3, carried-message c) (caseOption (messageAt (readyAs (r .0 .cell .turn)) l)
       (λ z. rw z)
-      (λ m z. rw (z, freed-retime l up (r .0) (r .1) (r .2), drain-retime n (freed (readyAs (r .0 .cell .turn)) l) (freed-rising l (readyAs (r .0 .cell .turn)) up)))))
+      (λ m z. rw (
+        z,
+        freed-retime l up (r .0) (r .1) (r .2),
+        drain-retime n (freed (readyAs (r .0 .cell .turn)) l)
+            (freed-rising l (readyAs (r .0 .cell .turn)) up),
+      ))))
 
 -- Takes until 20 hand out the same from slots whose turns were changed in their order.
 pub drain-by-order : (ρ : ℕ → ℕ) (l : List Slot) → Rising ρ l → drain (map (retime ρ) l) ≡ drain l

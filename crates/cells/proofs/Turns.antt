@@ -12,8 +12,8 @@ use Rattle.base.proofs.Choices.{byBool, cases, and-left, and-right, and-both}
 use Rattle.base.proofs.Lists.{any-mem, any-all}
 use Rattle.base.proofs.Counts.{count-ext, count-none, count-some}
 use Rattle.base.proofs.Indices.{count-below-suc}
-use Rattle.line.specs.Frame.{Piece, Message}
-use Rattle.line.specs.Bare.{Out}
+use Rattle.bare.specs.Frame.{Piece, Message}
+use Rattle.bare.specs.Bare.{Out}
 use Rattle.cells.specs.Cell.{Slot, openAs, heldAs, readyAs, of, sits, isReady, messageAt, markCell, mark, change, mapIf}
 use Rattle.cells.specs.Datagram.{isFirst, isBefore, rank, renumber}
 use Rattle.cells.proofs.Keys.{of-ready, sits-of, shown, Carried, carried-count, message-there}
@@ -23,14 +23,16 @@ use Rattle.cells.proofs.Moves.{of-mark-ready}
 use Rattle.cells.proofs.Cascade.{isOpen-used, isOpen-mark}
 use Rattle.cells.proofs.TurnOrder.{retime, ready-used, retime-other}
 
-readyLine-shift : (l′ l : List Slot) (lo : ℕ) → ((t : ℕ) → messageAt (readyAs t) l′ ≡ messageAt (readyAs (t + lo)) l) → (n : ℕ) → readyLine l′ 0 n ≡ readyLine l lo n
+readyLine-shift : (l′ l : List Slot) (lo : ℕ) → ((t : ℕ) → messageAt (readyAs t) l′ ≡ messageAt (readyAs (t + lo)) l) → (n : ℕ)
+    → readyLine l′ 0 n ≡ readyLine l lo n
 unfolding readyLine
 readyLine-shift l′ l lo e zero = refl
 readyLine-shift l′ l lo e (suc n) = let z : n + 0 ≡ n = omega arith in rw (z, readyLine-shift l′ l lo e n, e n)
 
 pub rank-suc : (l : List Slot) (k T : ℕ) → T ≡ suc k → rank l T ≡ rank l k + countOf (sits (readyAs k) 0) l
 unfolding rank isBefore isFirst
-rank-suc l k T e = count-below-suc isFirst (λ s. s .cell .turn) l k T e ∙ ap (λ (n : ℕ). rank l k + n) (count-ext (λ s. isFirst s && eqb (s .cell .turn) k) (sits (readyAs k) 0) l (λ s m. point s))
+rank-suc l k T e = count-below-suc isFirst (λ s. s .cell .turn) l k T e ∙ ap (λ (n : ℕ). rank l k + n)
+    (count-ext (λ s. isFirst s && eqb (s .cell .turn) k) (sits (readyAs k) 0) l (λ s m. point s))
   where
     swap : (a b c : Bool) → ((a && b) && c) ≡ ((a && c) && b)
     swap true b c = and-comm b c
@@ -41,7 +43,8 @@ rank-suc l k T e = count-below-suc isFirst (λ s. s .cell .turn) l k T e ∙ ap 
 
 module _ {o : Out} {next : ℕ → ℕ} {l : List Slot} {lo n : ℕ} {h : List Message} (v : Outs o next l lo n h) where
   pub turn-within : (s : Slot) → List·Memᴰ s l → isReady s ≡ true → (lo ≤ s .cell .turn) × (s .cell .turn < n + lo)
-  turn-within s m e = v .within (s .cell .turn) (any-mem (of (readyAs (s .cell .turn))) l s m (of-ready (s .cell .turn) s ∙ and-both _ _ e (eq-eqb (s .cell .turn) _ refl)))
+  turn-within s m e = v .within (s .cell .turn) (any-mem (of (readyAs (s .cell .turn))) l s m
+      (of-ready (s .cell .turn) s ∙ and-both _ _ e (eq-eqb (s .cell .turn) _ refl)))
 
   ready-there : (t : ℕ) → lo ≤ t → t < n + lo → any (sits (readyAs t) 0) l ≡ true
   ready-there t a b = let m = has-some _ (v .firsts t a b) in message-there (readyAs t) l (m .0) (m .1)
@@ -119,10 +122,12 @@ module _ {o : Out} {next : ℕ → ℕ} {l : List Slot} {lo n : ℕ} {h : List M
       ready : (t : ℕ) → SameUnder (readyAs (t + lo)) l (readyAs t) (renumber l)
       ready t = same-carried (renumber-carried t)
 
-      shift : (n : ℕ) → ((t : ℕ) → messageAt (readyAs t) (renumber l) ≡ messageAt (readyAs (t + lo)) l) → readyLine (renumber l) 0 n ≡ readyLine l lo n
+      shift : (n : ℕ) → ((t : ℕ) → messageAt (readyAs t) (renumber l) ≡ messageAt (readyAs (t + lo)) l) → readyLine (renumber l) 0 n
+          ≡ readyLine l lo n
       shift n e = readyLine-shift (renumber l) l lo e n
 
 -- The open pieces are left alone.
 pub renumber-pieces : (ps : List Piece) (l : List Slot) → Pieces ps l → Pieces ps (renumber l)
 unfolding renumber
-renumber-pieces ps l v = pieces-other isReady (λ s. mark 3 (rank l (s .cell .turn)) s) ps l (λ s m y. (isOpen-used s 3 (ready-used s y) (λ q. omega arith), isOpen-mark 3 (rank l (s .cell .turn)) s (λ q. omega arith))) v
+renumber-pieces ps l v = pieces-other isReady (λ s. mark 3 (rank l (s .cell .turn)) s) ps l
+    (λ s m y. (isOpen-used s 3 (ready-used s y) (λ q. omega arith), isOpen-mark 3 (rank l (s .cell .turn)) s (λ q. omega arith))) v

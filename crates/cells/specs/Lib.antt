@@ -4,7 +4,4 @@ pub mod Take
 pub mod Sound
 pub mod Store
 pub mod Room
-pub mod Calls
-pub mod Claim
-pub mod Memory
 pub mod Records

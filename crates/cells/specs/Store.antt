@@ -5,19 +5,19 @@ use mathlib.Core.List.{List, [], _∷_, _++_, map}
 use lib.Dec.{eqb}
 use lib.ListN.{length, take, drop}
 use Rattle.base.specs.Limits.{cellBytes}
-use Rattle.cells.specs.Cell.{Cell, Slot, isFree}
+use Rattle.cells.specs.Cell.{Cell, Slot, isFree, unusedUse}
 
 -- "cells of 1,500 bytes"
 unfoldable pub cellSize : ℕ
 cellSize = cellBytes
 
 -- the first bytes of its cell, as many as the record's length says; an unused cell has no body
-unfoldable pub bodyOf : Cell → List ℕ → List ℕ
-bodyOf c store = cond (eqb (c .used) 0) [] (take (c .length) store)
+unfoldable pub cellBody : Cell → List ℕ → List ℕ
+cellBody c store = cond (eqb (c .used) unusedUse) [] (take (c .length) store)
 
 unfoldable pub slotsOf : List Cell → List ℕ → List Slot
 slotsOf [] store = []
-slotsOf (c ∷ cs) store = record { cell = c; body = bodyOf c store } ∷ slotsOf cs (drop cellSize store)
+slotsOf (c ∷ cs) store = record { cell = c; body = cellBody c store } ∷ slotsOf cs (drop cellSize store)
 
 unfoldable pub cellsOf : List Slot → List Cell
 cellsOf l = map (λ (s : Slot). s .cell) l

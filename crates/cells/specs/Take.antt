@@ -6,7 +6,7 @@ use mathlib.Core.List.{List, [], _∷_}
 use lib.Dec.{ltb}
 use lib.ListN.{length}
 use Rattle.base.specs.Lists.{option}
-use Rattle.line.specs.Frame.{Message}
+use Rattle.bare.specs.Frame.{Message}
 use Rattle.cells.specs.Cell.{Slot, readyAs, isReady, messageAt, freed}
 
 -- the least turn of a ready slot; none: "20 none ready"
@@ -23,7 +23,8 @@ pub record Taken : Type 0 where
   pub slots : List Slot
 
 unfoldable pub taking : List Slot → Option Taken
-taking l = option (earliest l) none (λ t. option (messageAt (readyAs t) l) none (λ m. some (record { message = m; slots = freed (readyAs t) l })))
+taking l = option (earliest l) none (λ t. option (messageAt (readyAs t) l) none
+    (λ m. some (record { message = m; slots = freed (readyAs t) l })))
 
 -- "those that takes with a joining buffer long enough would hand out until 20": at most n, and there are no more than slots
 unfoldable pub drainIn : ℕ → List Slot → List Message

@@ -2,5 +2,4 @@ pub mod Refusals
 pub mod UnsentAfter
 pub mod SoundStays
 pub mod Corollaries
-pub mod Shape
 pub mod Teeth

@@ -3,7 +3,7 @@
 use Prim.Native.Nat.{ℕ, zero, suc, _+_, _-_, _≤_, _<_}
 use mathlib.Core.Path.{_≡_, refl, sym, subst}
 use mathlib.Core.Bool.{Bool, true, false, not, _&&_, _||_, true≢false}
-use mathlib.Core.List.{List, []}
+use mathlib.Core.List.{List}
 use native.Mathlib.Omega.{arith}
 use lib.Dec.{ltb, leb, eqb}
 use borrow.Author.Tests.{leb-true, le-ltb, eqb-true, eqb-false}
@@ -15,23 +15,25 @@ use Rattle.window.specs.Places.{placeSet}
 use Rattle.window.specs.Proper.{Sized, Proper}
 use Rattle.window.specs.Window.{accepted}
 use Rattle.cells.specs.Sound.{soundNexts}
-use Rattle.recv.specs.declared.RecvQueue.{RecvQueue}
-use Rattle.recv.specs.Queue.{nextOf, unsentOf, placesWithin, soundWindow, differ, soundUnsent, soundQueue}
-use Rattle.recv.specs.Calls.{Call, Receiver, afterAll}
-use Rattle.recv.specs.Claim.{AllBytes}
-use Rattle.recv.proofs.Queues.{Good}
-use Rattle.recv.proofs.Receives.{Sane}
-use Rattle.recv.proofs.Lists.{runs}
+use Rattle.receiver.specs.declared.RecvQueue.{RecvQueue}
+use Rattle.receiver.specs.Queue.{nextOf, unsentOf, placesWithin, soundWindow, differ, soundUnsent, soundQueue}
+use Rattle.receiver.specs.Calls.{Call, Receiver, outcome, afterAll}
+use Rattle.receiver.specs.Claim.{AllBytes}
+use Rattle.receiver.proofs.Queues.{Good}
+use Rattle.receiver.proofs.Receives.{Sane}
+use Rattle.receiver.proofs.Runs.{runs}
 use Rattle.corollaries.specs.Refusals.{Arrays, soundReceiver}
 use Rattle.corollaries.proofs.Refusals.{queue-sound}
 
 -- ---- a window that passes the test is a proper one
-place-clear : (w : ReliableWindow) (k : ℕ) → placesWithin w k ≡ true → (j : ℕ) → j < k → numbers24 ≤ w .low + suc j → placeSet (w .bits) (w .low + suc j) ≡ false
+place-clear : (w : ReliableWindow) (k : ℕ) → placesWithin w k ≡ true → (j : ℕ) → j < k → numbers24 ≤ w .low + suc j
+    → placeSet (w .bits) (w .low + suc j) ≡ false
 unfolding placesWithin
 place-clear w zero e j lt le = absurd (omega arith)
 place-clear w (suc k) e j lt le =
     cases (eqb j k)
-    (λ t. rw (eqb-true j k t) (own (ltb (w .low + suc k) numbers24) (le-ltb _ _ (rw (eqb-true j k t) at le)) (and-right (placesWithin w k) _ e)))
+    (λ t. rw (eqb-true j k t) (own (ltb (w .low + suc k) numbers24) (le-ltb _ _ (rw (eqb-true j k t) at le))
+    (and-right (placesWithin w k) _ e)))
     (λ t. place-clear w k (and-left (placesWithin w k) _ e) j (let ne = eqb-false j k t in omega arith) le)
   where
     own : (b : Bool) → b ≡ false → (b || not (placeSet (w .bits) (w .low + suc k))) ≡ true → placeSet (w .bits) (w .low + suc k) ≡ false
@@ -52,14 +54,16 @@ window-sound w z e =
     }
   where
     at : (n j : ℕ) → w .low + suc j ≡ n → j < windowPlaces → numbers24 ≤ n → placeSet (w .bits) n ≡ false
-    at n j q lt lim = subst (λ (m : ℕ). placeSet (w .bits) m ≡ false) q (place-clear w windowPlaces (and-right (leb (w .low) numbers24) _ e) j lt (omega arith))
+    at n j q lt lim = subst (λ (m : ℕ). placeSet (w .bits) m ≡ false) q (place-clear w windowPlaces (and-right (leb (w .low) numbers24) _ e)
+        j lt (omega arith))
 
 -- ---- a receiver that passes the tests is a sane one
 queue-good : (q : RecvQueue) → Arrays q → soundQueue q ≡ true → Good q
 unfolding soundQueue soundUnsent
 queue-good q z e =
     let r = and-right (soundWindow (q .datagrams)) (soundWindow (q .reliables) && (soundNexts (nextOf q) && soundUnsent q)) e in
-    let u = and-right (soundNexts (nextOf q)) (soundUnsent q) (and-right (soundWindow (q .reliables)) (soundNexts (nextOf q) && soundUnsent q) r) in
+    let u = and-right (soundNexts (nextOf q)) (soundUnsent q)
+    (and-right (soundWindow (q .reliables)) (soundNexts (nextOf q) && soundUnsent q) r) in
     let m = and-right (leb (q .pending) maxUnsent) _ u in
     record {
       datagrams = window-sound (q .datagrams) (z .datagrams) (and-left (soundWindow (q .datagrams)) _ e);
@@ -77,5 +81,7 @@ sound-sane x z s = record { good = queue-good (x .queue) z (queue-sound x s); so
 good-arrays : (q : RecvQueue) → Good q → Arrays q
 good-arrays q g = record { datagrams = g .datagrams .sized; reliables = g .reliables .sized; channels = g .channels; unsent = g .unsent }
 
-pub run-sound : (cs : List Call) (x : Receiver) → AllBytes cs → Arrays (x .queue) → soundReceiver x ≡ true → Arrays (afterAll x cs .queue) × (soundReceiver (afterAll x cs) ≡ true)
-run-sound cs x b z s = let v = runs cs x [] b (sound-sane x z s) .sane in (good-arrays (afterAll x cs .queue) (v .good), v .sound)
+pub run-sound : (cs : List Call) (x : Receiver) → AllBytes cs → Arrays (x .queue) → soundReceiver x ≡ true
+    → Arrays (afterAll outcome x cs .queue)
+    × (soundReceiver (afterAll outcome x cs) ≡ true)
+run-sound cs x b z s = let v = runs cs x b (sound-sane x z s) .sane in (good-arrays (afterAll outcome x cs .queue) (v .good), v .sound)

@@ -2,23 +2,20 @@
 use Prim.Native.Nat.{ℕ}
 use mathlib.Core.Path.{_≡_}
 use mathlib.Core.Bool.{Bool}
+use mathlib.Core.Option.{none, some}
 use mathlib.Core.List.{List}
 use lib.ListN.{length}
-use Rattle.base.specs.Answer.{refused, gives}
 use Rattle.base.specs.Limits.{maxOrdChans, maxUnsent}
 use Rattle.window.specs.Proper.{Sized}
-use Rattle.recv.specs.declared.RecvQueue.{RecvQueue}
-use Rattle.recv.specs.Receive.{Report, soundCall, receiveOf}
-use Rattle.recv.specs.Take.{takeOf}
-use Rattle.recv.specs.Write.{writeUnsentOf, writeMissingOf}
-use Rattle.recv.specs.Calls.{Call, receive, take-with, write-unsent, write-missing, Receiver}
+use Rattle.receiver.specs.declared.RecvQueue.{RecvQueue}
+use Rattle.receiver.specs.Receive.{soundCall}
+use Rattle.receiver.specs.Take.{takeOf}
+use Rattle.receiver.specs.Write.{writeUnsentOf, writeMissingOf}
+use Rattle.receiver.specs.Calls.{Call, receive, take-with, write-unsent, write-missing, Receiver, outcome}
 
 -- the call is refused with this number
 abbrev pub RefusedWith : Receiver → Call → ℕ → Type 0
-RefusedWith x (receive d) n = receiveOf (x .queue) (x .records) (x .store) d .answer ≡ refused n
-RefusedWith x (take-with buffer) n = takeOf (x .queue) (x .records) (x .store) buffer .answer ≡ refused n
-RefusedWith x (write-unsent out) n = writeUnsentOf (x .queue) out .answer ≡ refused n
-RefusedWith x (write-missing out) n = writeMissingOf (x .queue) out .answer ≡ refused n
+RefusedWith x c n = outcome x c .refusal ≡ some n
 
 -- the slice that the call alone is lent, before and after: datagram, joining buffer or output
 abbrev pub lent : Call → List ℕ
@@ -35,7 +32,7 @@ lentAfter x (write-missing out) = writeMissingOf (x .queue) out .out
 
 -- "A datagram is accepted when receive gives it no refusal number"
 abbrev pub IsAccepted : Receiver → List ℕ → Type 0
-IsAccepted x d = (r : Report) × (receiveOf (x .queue) (x .records) (x .store) d .answer ≡ gives r)
+IsAccepted x d = outcome x (receive d) .refusal ≡ none
 
 -- receiver, records and store pass the tests of 9
 abbrev pub soundReceiver : Receiver → Bool

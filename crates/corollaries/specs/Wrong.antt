@@ -7,39 +7,62 @@ use native.Mathlib.Omega.{arith}
 use lib.Dec.{eqb}
 use Rattle.base.specs.Answer.{gives}
 use Rattle.base.specs.Lists.{every}
-use Rattle.cells.specs.Cell.{Cell}
-use Rattle.recv.specs.declared.RecvQueue.{RecvQueue}
-use Rattle.recv.specs.Receive.{Received, receiveOf}
-use Rattle.recv.specs.Take.{refuse, takeOf}
-use Rattle.recv.specs.Calls.{Call, receive, take-with, write-unsent, zeros}
-use Rattle.recv.specs.Claim.{Start}
-use Rattle.corollaries.specs.Shape.{Pair}
+use Rattle.receiver.specs.declared.RecvQueue.{RecvQueue}
+use Rattle.receiver.specs.Receive.{Received, receiveOf}
+use Rattle.receiver.specs.Take.{TakeResult, takeRefuses, takeOf}
+use Rattle.receiver.specs.Calls.{Call, receive, take-with, write-unsent, write-missing, Receiver, Outcome, receiveOutcome, takeOutcome}
+use Rattle.receiver.specs.Calls.{outcome, zeros}
+use Rattle.receiver.specs.Claim.{Start}
+
+-- the calls' outcomes, with another receive or another take
+abbrev pub ourReceive : Receiver → List ℕ → Received
+ourReceive x d = receiveOf (x .queue) (x .records) (x .store) d
+
+abbrev pub ourTake : Receiver → List ℕ → TakeResult
+ourTake x buffer = takeOf (x .queue) (x .records) (x .store) buffer
+
+unfoldable pub outcomeWith : (Receiver → List ℕ → Received) → (Receiver → List ℕ → TakeResult) → Receiver → Call → Outcome
+outcomeWith receiving taking x (receive d) = receiveOutcome d (receiving x d)
+outcomeWith receiving taking x (take-with buffer) = takeOutcome x (taking x buffer)
+outcomeWith receiving taking x (write-unsent out) = outcome x (write-unsent out)
+outcomeWith receiving taking x (write-missing out) = outcome x (write-missing out)
 
 -- "an idle one": it accepts every datagram and does nothing
-unfoldable pub idle : Pair
-idle = record { receiving = λ q rs st d. record { answer = gives (record { ready = 0; dropped = 0; left = 0 }); queue = q; records = rs; store = st }; taking = takeOf }
+unfoldable pub idle : Receiver → Call → Outcome
+idle = outcomeWith (λ x d. record {
+  answer = gives (record { ready = 0; dropped = 0; left = 0 });
+  queue = x .queue;
+  records = x .records;
+  store = x .store;
+}) ourTake
 
 -- was no datagram accepted yet?
 unfoldable pub untouched : RecvQueue → Bool
 untouched q = eqb (q .datagrams .low) 0 && every (eqb 0) (q .datagrams .bits)
 
 -- a datagram answered as it should be, and acknowledged, of which nothing else is kept
-unfoldable pub acknowledged : RecvQueue → List Cell → List ℕ → Received → Received
-acknowledged q rs st r =
+unfoldable pub acknowledged : Receiver → Received → Received
+acknowledged x r =
     record {
       answer = r .answer;
-      queue = record { datagrams = r .queue .datagrams; reliables = q .reliables; channels = q .channels; unsent = r .queue .unsent; pending = r .queue .pending };
-      records = rs;
-      store = st;
+      queue = record {
+        datagrams = r .queue .datagrams;
+        reliables = x .queue .reliables;
+        channels = x .queue .channels;
+        unsent = r .queue .unsent;
+        pending = r .queue .pending;
+      };
+      records = x .records;
+      store = x .store;
     }
 
 -- "a receiver that joins and orders its first datagram and only acknowledges later ones"
-unfoldable pub firstOnly : Pair
-firstOnly = record { receiving = λ q rs st d. let r = receiveOf q rs st d in cond (untouched q) r (acknowledged q rs st r); taking = takeOf }
+unfoldable pub firstOnly : Receiver → Call → Outcome
+firstOnly = outcomeWith (λ x d. let r = ourReceive x d in cond (untouched (x .queue)) r (acknowledged x r)) ourTake
 
 -- one that never hands out: every take answers 20
-unfoldable pub mute : Pair
-mute = record { receiving = receiveOf; taking = λ q rs st buffer. refuse rs buffer 20 }
+unfoldable pub mute : Receiver → Call → Outcome
+mute = outcomeWith ourReceive (λ x buffer. takeRefuses (x .records) buffer 20)
 
 -- `trace`: "`84000000` with the kind 3 frame above", which is `60 00 08 00 00 00 01 00 00 00 42`
 unfoldable pub trace1 : List ℕ

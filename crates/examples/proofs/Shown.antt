@@ -18,8 +18,8 @@ use Rattle.ack.specs.Write as ack
 use Rattle.window.specs.Places as places
 use Rattle.window.specs.Window as window
 use Rattle.window.specs.Missing as missing
-use Rattle.line.specs.Frame as line
-use Rattle.line.specs.Bare as bare
+use Rattle.bare.specs.Frame as line
+use Rattle.bare.specs.Bare as bare
 use Rattle.cells.specs.Cell as cell
 use Rattle.cells.specs.Datagram as datagram
 use Rattle.cells.specs.Records as cells
@@ -27,24 +27,46 @@ use Rattle.cells.specs.Sound as sound
 use Rattle.cells.specs.Store as store
 use Rattle.cells.specs.Take as ready
 use Rattle.cells.proofs.Shown.{slot}
-use Rattle.recv.specs.Queue as queue
-use Rattle.recv.specs.Receive as receive
-use Rattle.recv.specs.Take as take
-use Rattle.recv.specs.Write as write
-use Rattle.recv.specs.Calls as calls
+use Rattle.receiver.specs.Queue as queue
+use Rattle.receiver.specs.Receive as receive
+use Rattle.receiver.specs.Take as take
+use Rattle.receiver.specs.Write as write
+use Rattle.receiver.specs.Calls as calls
 
 -- A whole frame: kind, reliable, sequence and order number, channel, body.
 abbrev pub whole : ℕ → ℕ → ℕ → ℕ → ℕ → List ℕ → line.Frame
 whole kind reliable sequence order channel body =
-    record { kind = kind; reliable = reliable; sequence = sequence; order = order; channel = channel; piece = false; count = 0; id = 0; index = 0; body = body }
+    record {
+      kind = kind;
+      reliable = reliable;
+      sequence = sequence;
+      order = order;
+      channel = channel;
+      piece = false;
+      count = 0;
+      id = 0;
+      index = 0;
+      body = body;
+    }
 
 -- A piece: the same, and count, id and index before the body.
 abbrev pub part : ℕ → ℕ → ℕ → ℕ → ℕ → ℕ → ℕ → ℕ → List ℕ → line.Frame
 part kind reliable sequence order channel count id index body =
-    record { kind = kind; reliable = reliable; sequence = sequence; order = order; channel = channel; piece = true; count = count; id = id; index = index; body = body }
+    record {
+      kind = kind;
+      reliable = reliable;
+      sequence = sequence;
+      order = order;
+      channel = channel;
+      piece = true;
+      count = count;
+      id = id;
+      index = index;
+      body = body;
+    }
 
--- What a call is told, by document 01: messages made ready, frames dropped and bytes left; a message's kind, channel, order number and body; the bytes
--- written; or a refusal's number.
+-- What a call is told, by document 01: messages made ready, frames dropped and bytes left; a message's kind, channel, order number and
+-- body; the bytes written; or a refusal's number.
 pub data Told : Type 0 where
   gave : ℕ → ℕ → ℕ → Told
   took : ℕ → ℕ → ℕ → List ℕ → Told
@@ -71,7 +93,7 @@ message m = took (m .kind) (m .channel) (m .order) (m .body)
 
 unfoldable pub taken : List ℕ → List ℕ → Answer take.Handed → Told
 taken bytes joined (refused number) = no number
-taken bytes joined (gives h) = message (calls.messageOf bytes joined h)
+taken bytes joined (gives h) = message (calls.messageHanded bytes joined h)
 
 unfoldable pub written : List ℕ → Answer ℕ → Told
 written out (refused number) = no number
@@ -79,7 +101,8 @@ written out (gives len) = wrote (take len out)
 
 unfoldable pub telling : calls.Receiver → calls.Call → Told
 telling x (calls.receive d) = received (receive.receiveOf (x .queue) (x .records) (x .store) d .answer)
-telling x (calls.take-with buffer) = let r = take.takeOf (x .queue) (x .records) (x .store) buffer in taken (x .store) (r .joined) (r .answer)
+telling x (calls.take-with buffer) = let r = take.takeOf (x .queue) (x .records) (x .store) buffer in
+    taken (x .store) (r .joined) (r .answer)
 telling x (calls.write-unsent out) = let r = write.writeUnsentOf (x .queue) out in written (r .out) (r .answer)
 telling x (calls.write-missing out) = let r = write.writeMissingOf (x .queue) out in written (r .out) (r .answer)
 
@@ -90,7 +113,7 @@ seen told x =
 
 unfoldable pub seeing : calls.Receiver → List calls.Call → List Seen
 seeing x [] = []
-seeing x (c ∷ cs) = seen (telling x c) (calls.after x c) ∷ seeing (calls.after x c) cs
+seeing x (c ∷ cs) = let y = calls.outcome x c .left in seen (telling x c) y ∷ seeing y cs
 
 -- The calls of a list, from a receiver just made of n cells. `unfolding run` opens every definition that a run computes with.
 unfoldable pub run : ℕ → List calls.Call → List Seen
@@ -99,22 +122,26 @@ unfolding ifTrue ifLt ifLe ifEq be16 be32 le24 be16Bytes le24Bytes put andThen
     fieldsOf frame.frameAt frame.placedAt frame.readFrameOf
     frames.onRead frames.framesFrom frames.endFrom frames.framesOf frames.endOf
     records.firstOf records.lastOf records.recordBytes records.recordsBytes records.grow records.runs
-    ack.idOf ack.headerBytes ack.listBytes ack.someOver ack.tooLarge ack.ascending ack.byCase ack.writeListOf ack.writtenOf
+    ack.idOf ack.ackHeaderBytes ack.listBytes ack.someOver ack.tooLarge ack.ascending ack.byListCase ack.writeListOf ack.writtenOf
     places.bit places.placeSet places.setPlace places.clearPlace window.newWindow window.accepted window.advance window.accept
     missing.highest missing.unlessAccepted missing.missingOf missing.missing
-    line.carriesReliable line.ordered line.inLimits line.pieceOf bare.bump bare.conflict bare.seenBefore bare.accept
-    cell.bears cell.at cell.of cell.sits cell.isFree cell.isOpen cell.isReady cell.join cell.allThere cell.messageOf cell.messageAt cell.pieceIn cell.clash
+    line.carriesReliable line.ordered line.inLimits line.pieceOf bare.bump bare.conflict bare.seenBefore bare.acceptReliable
+    cell.bears cell.at cell.of cell.sits cell.isFree cell.isOpen cell.isReady cell.join cell.allThere cell.messageOf cell.messageAt
+    cell.pieceIn cell.clash
     cell.mark cell.markCell cell.emptyCell cell.emptySlot cell.change cell.mapIf cell.turnTo cell.freed cell.putSlot cell.slotOf
-    datagram.dropOne datagram.fillUp datagram.place datagram.made datagram.rise datagram.acceptIn datagram.isHeld datagram.goOn datagram.cascade datagram.follows
-    datagram.fate datagram.fateOf datagram.roomy datagram.whole datagram.joins datagram.kept datagram.piece datagram.keepIn datagram.frame datagram.frames
+    datagram.dropOne datagram.fillUp datagram.place datagram.made datagram.rise datagram.acceptIn datagram.isHeld datagram.goOn
+    datagram.cascade datagram.follows
+    datagram.fate datagram.fateOf datagram.roomy datagram.whole datagram.joins datagram.kept datagram.piece datagram.keepIn datagram.frame
+    datagram.frames
     datagram.isFirst datagram.isBefore datagram.rank datagram.renumber datagram.sweep datagram.begin datagram.end datagram.datagram
     cells.indexOf ready.lower ready.earliest
     sound.keyOf sound.limits sound.agree sound.lacksNone sound.soundCell sound.lengths
-    store.cellSize store.bodyOf store.slotsOf store.cellsOf store.laid store.storeOf
-    queue.nextIn queue.nextOf queue.unsentOf queue.newQueue queue.placesWithin queue.soundWindow queue.differ queue.soundUnsent queue.soundQueue queue.insertUnsent
+    store.cellSize store.cellBody store.slotsOf store.cellsOf store.laid store.storeOf
+    queue.nextIn queue.nextOf queue.unsentOf queue.newQueue queue.placesWithin queue.soundWindow queue.differ queue.soundUnsent
+    queue.soundQueue queue.insertUnsent
     receive.frameIn receive.framesIn receive.bytesLeft receive.acceptAll receive.stateOf receive.channelsAfter receive.queueAfter
-    receive.acceptedOf receive.refusedOf receive.soundCall receive.receiveOf
+    receive.acceptedResult receive.refusedResult receive.soundCall receive.receiveOf
     take.handed take.takeOf write.sorted write.writeOf write.emptied write.writeUnsentOf write.writeMissingOf
-    calls.made calls.after calls.afterAll calls.bytesAt calls.messageOf
+    calls.made calls.bytesAt calls.messageHanded calls.receiveOutcome calls.takeOutcome calls.writeOutcome calls.outcome
     received message taken written telling seen seeing slot
 run n cs = seeing (calls.made n (replicate (cellBytes * n) 0)) cs

@@ -1,41 +1,17 @@
 -- What the exported receiver's calls return, and what they leave of all that was lent: of what the call's own definition comes to.
 use Prim.Native.Nat.{ℕ}
-use mathlib.Core.Bool.{true, false}
 use mathlib.Core.List.{List}
-use Rattle.base.specs.Answer.{Answer, refused, gives}
 use Rattle.cells.specs.Cell.{Cell}
-use Rattle.recv.specs.declared.RecvQueue.{RecvQueue}
-use Rattle.recv.specs.Receive.{Report, Received}
-use Rattle.recv.specs.Take.{Where, inStore, inJoined, Handed, TakeResult}
-use Rattle.recv.specs.Write.{Wrote}
+use Rattle.receiver.specs.declared.RecvQueue.{RecvQueue}
+use Rattle.receiver.specs.Receive.{Received}
+use Rattle.receiver.specs.Take.{TakeResult}
+use Rattle.receiver.specs.Write.{Wrote}
 use Rattle.recv_new.specs.New.{MadeNew}
 use Rattle.exports.specs.declared.AckWritten.{AckWritten}
 use Rattle.exports.specs.Numbers.{numberOf, ackTold}
-use Rattle.exports_queue.specs.declared.QueueReceived.{QueueReceived}
-use Rattle.exports_queue.specs.declared.QueueTaken.{QueueTaken}
-
--- ---- an answer in numbers: all 0 beside a refusal's
-
-abbrev pub notReceived : ℕ → QueueReceived
-notReceived number = record { number = number; ready = 0; dropped = 0; left = 0 }
-
-abbrev pub receiveTold : Answer Report → QueueReceived
-receiveTold (refused number) = notReceived number
-receiveTold (gives r) = record { number = 0; ready = r .ready; dropped = r .dropped; left = r .left }
-
-abbrev pub notTaken : ℕ → QueueTaken
-notTaken number = record { number = number; kind = 0; channel = 0; order = 0; joined = false; start = 0; len = 0 }
-
--- a message at the front of the joining buffer starts at 0
-abbrev pub handedTold : ℕ → ℕ → ℕ → Where → QueueTaken
-handedTold kind channel order (inStore start len) = record { number = 0; kind = kind; channel = channel; order = order; joined = false; start = start; len = len }
-handedTold kind channel order (inJoined len) = record { number = 0; kind = kind; channel = channel; order = order; joined = true; start = 0; len = len }
-
-abbrev pub takeTold : Answer Handed → QueueTaken
-takeTold (refused number) = notTaken number
-takeTold (gives h) = handedTold (h .kind) (h .channel) (h .order) (h .body)
-
--- ---- a call's numbers, beside what it leaves
+use Rattle.recv_answers.specs.declared.QueueReceived.{QueueReceived}
+use Rattle.recv_answers.specs.declared.QueueTaken.{QueueTaken}
+use Rattle.recv_answers.specs.Told.{receiveTold, takeTold}
 
 pub record NewNumbers : Type 0 where
   pub told : ℕ

@@ -2,7 +2,7 @@
 -- Assumes nothing.
 use mathlib.Core.Path.{_≡_, refl}
 use mathlib.Core.Bool.{Bool, true, false}
-use mathlib.Core.List.{List, List·Memᴰ}
+use mathlib.Core.List.{List}
 use Prim.Native.Nat.{ℕ, _+_, _^_, _<_, _≤_}
 use native.Mathlib.Decide.{ℕ-discrete}
 use native.Mathlib.Omega.{arith}
@@ -17,8 +17,6 @@ use Rattle.frame.specs.declared.FragmentMeta.{FragmentMeta}
 use Rattle.frame.specs.declared.Frame.{Frame}
 use Rattle.frame.specs.declared.Placed.{Placed}
 use Rattle.frame.specs.Read.{maxKind, kindOf, isPiece, numberAt, metaAt, frameAt, placedAt, readFrameOf}
-use Rattle.frame.specs.Frames.{framesOf}
-use Rattle.frame.proofs.FramesOf.{frames-read}
 use Rattle.frame.proofs.Reading.{read-whole}
 
 -- ---- a number that was read
@@ -85,7 +83,3 @@ module _ (s : List ℕ) (by : Bytes s) where
   unfolding placedAt
   read-small at p next e =
       rw (read-whole s at p next e .placed) (frame-small at, omega (arith, be16-small s by (at + 1)))
-
-  -- So it is with each of a datagram's frames.
-  pub frames-small : (at : ℕ) (p : Placed) → List·Memᴰ p (framesOf s at) → FrameSmall (p .frame) × (p .len ≤ maxBody)
-  frames-small at p m = let r = frames-read s at p m in read-small (r .place) p (r .next) (r .read)

@@ -14,7 +14,8 @@ use Rattle.base.proofs.Ifs.{lt-yes, lt-no}
 use Rattle.reliability.specs.Kinds.{fieldsOf}
 use Rattle.reliability.specs.declared.KindFields.{KindFields}
 use Rattle.reliability.proofs.Laws.{Inside}
-use Rattle.frame.specs.Read.{kindOf, isPiece, numberAt, channelAt, metaAt, metaSize, headerSize, frameAt, endsAt, placedAt, readFrameOf, readAnswer, spanOf}
+use Rattle.frame.specs.Read.{kindOf, isPiece, numberAt, channelAt, metaAt, metaSize, headerSize, frameAt, endsAt, placedAt}
+use Rattle.frame.specs.Read.{readFrameOf, readAnswer, spanOf}
 use Rattle.frame.specs.declared.FragmentMeta.{FragmentMeta}
 use Rattle.frame.specs.declared.Frame.{Frame}
 use Rattle.frame.specs.declared.Placed.{Placed}
@@ -35,7 +36,8 @@ module _ (s : List ℕ) (at : ℕ) where
   unfolding spanOf
   beyond h = lt-yes _ _ _ _ _ (omega (arith, start-after s at)) refl
 
-  module _ (k : KindFields) (h bits n : ℕ) (a : k ≡ fieldsOf (kindOf (getD s at 0))) (b : h ≡ headerSize (isPiece (getD s at 0)) (k .header))
+  module _ (k : KindFields) (h bits n : ℕ) (a : k ≡ fieldsOf (kindOf (getD s at 0)))
+      (b : h ≡ headerSize (isPiece (getD s at 0)) (k .header))
       (c : bits ≡ be16 s (at + 1)) (d : n ≡ bits / 8) where
     starts : at + h ≡ placedAt s at .start
     unfolding placedAt
@@ -71,7 +73,8 @@ module _ (s : List ℕ) (at : ℕ) (r : Span) (e : r ≡ spanOf s at) where
       go : Dec (length s < endsAt (placedAt s at)) → readFrameOf s at ≡ refused 1
       go (yes h) = sym (lt-yes _ _ _ _ _ h refl)
       go (no h) =
-          let f : span.Cut ≡ span.Fits (placedAt s at .start) (endsAt (placedAt s at)) = sym i ∙ e ∙ sym (lt-no _ _ _ _ _ (omega arith) refl) in
+          let f : span.Cut ≡ span.Fits (placedAt s at .start) (endsAt (placedAt s at)) =
+          sym i ∙ e ∙ sym (lt-no _ _ _ _ _ (omega arith) refl) in
           let z : _≡_ {A = ℕ} 0 1 = cc in
           absurd (omega arith)
 
@@ -85,10 +88,17 @@ module _ (s : List ℕ) (at : ℕ) (r : Span) (e : r ≡ spanOf s at) where
           let z : _≡_ {A = ℕ} 0 1 = cc in
           absurd (omega arith)
       go (no h) =
-          let f : span.Fits start next ≡ span.Fits (placedAt s at .start) (endsAt (placedAt s at)) = sym i ∙ e ∙ sym (lt-no _ _ _ _ _ (omega arith) refl) in
+          let f : span.Fits start next ≡ span.Fits (placedAt s at .start) (endsAt (placedAt s at)) =
+          sym i ∙ e ∙ sym (lt-no _ _ _ _ _ (omega arith) refl) in
           let x : start ≡ placedAt s at .start = cc in
           let y : next ≡ endsAt (placedAt s at) = cc in
-          record { starts = x; ends = y; flags = omega (arith, start-after s at); within = omega arith; gives = sym (lt-no _ _ _ _ _ (omega arith) (rw y)) }
+          record {
+            starts = x;
+            ends = y;
+            flags = omega (arith, start-after s at);
+            within = omega arith;
+            gives = sym (lt-no _ _ _ _ _ (omega arith) (rw y));
+          }
 
   -- Where the frame fits, so does its header.
   pub header-in : (start next : ℕ) → r ≡ span.Fits start next → (at < length s) × (placedAt s at .start ≤ length s)
@@ -107,7 +117,8 @@ module _ (s : List ℕ) (at : ℕ) (r : Span) (e : r ≡ spanOf s at) where
   one-read start next i f g =
       let w = one-spanned start next i in
       let n : next - start ≡ placedAt s at .len = omega arith in
-      let p : _≡_ {A = Placed} (record { frame = f; start = start; len = next - start }) (placedAt s at) = λ j. record { frame = g j; start = w .starts j; len = n j } in
+      let p : _≡_ {A = Placed} (record { frame = f; start = start; len = next - start }) (placedAt s at) =
+      λ j. record { frame = g j; start = w .starts j; len = n j } in
       rw p (sym (w .gives))
 
 -- ---- the fields of a header that fits

@@ -1,5 +1,5 @@
--- A datagram's frames, one after the other: "reading ends before the first frame that doesn't fit; the bytes left are reported" (document 01,
--- "Corners", frame.rs).
+-- A datagram's frames, one after the other: "reading ends before the first frame that doesn't fit; the bytes left are reported" (document
+-- 01, "Corners", frame.rs).
 use Prim.Native.Nat.{ℕ, zero, suc, _-_}
 use mathlib.Core.List.{List, [], _∷_}
 use lib.ListN.{length}

@@ -40,7 +40,8 @@ channelAt s at off = ifEq off 0 0 (getD s (at + off) 0)
 
 -- "for a piece count (32), id (16), index (32), big-endian"
 abbrev pub metaAt : Bool → List ℕ → ℕ → FragmentMeta
-metaAt piece s p = ifTrue piece (record { count = be32 s p; id = be16 s (p + 4); index = be32 s (p + 6) }) (record { count = 0; id = 0; index = 0 })
+metaAt piece s p = ifTrue piece (record { count = be32 s p; id = be16 s (p + 4); index = be32 s (p + 6) })
+    (record { count = 0; id = 0; index = 0 })
 
 -- the bytes that these take
 abbrev pub metaSize : ℕ

@@ -19,6 +19,7 @@ const START_SIZE: usize = 3;
 pub const META_SIZE: usize = 10;
 
 // Where a piece stands in its message. The Rust's field `size` is document 01's count.
+#[repr(C)]
 pub struct FragmentMeta {
     pub count: u32,
     pub id: u16,
@@ -26,6 +27,7 @@ pub struct FragmentMeta {
 }
 
 // What a frame's header says; a field that the kind, or a frame that is no piece, lacks is 0.
+#[repr(C)]
 pub struct Frame {
     pub kind: u8,
     pub reliable: u32,
@@ -37,6 +39,7 @@ pub struct Frame {
 }
 
 // A frame, and where its body stands in the slice.
+#[repr(C)]
 pub struct Placed {
     pub frame: Frame,
     pub start: usize,
@@ -50,6 +53,7 @@ pub enum ReadFrame {
 }
 
 // How many frames were read, and the bytes left from the first that does not fit.
+#[repr(C)]
 pub struct FramesRead {
     pub count: usize,
     pub left: usize,

@@ -50,7 +50,10 @@ carried limit off x h e = go (ℕ-discrete off 0)
     go (yes z) =
         let x0 : x ≡ 0 = eqb-true x 0 (eq-yes off 0 (eqb x 0) (eqb x 0) (ltb x limit) z refl ∙ e) in
         record { below = omega arith; lacks = λ _. x0 }
-    go (no n) = record { below = ltb-true x limit (eq-no off 0 (ltb x limit) (eqb x 0) (ltb x limit) n refl ∙ e); lacks = λ z. absurd (n z) }
+    go (no n) = record {
+      below = ltb-true x limit (eq-no off 0 (ltb x limit) (eqb x 0) (ltb x limit) n refl ∙ e);
+      lacks = λ z. absurd (n z);
+    }
 
 -- count, id and index of a piece within their limits, or all 0
 pub record MetaFits (piece : Bool) (m : FragmentMeta) : Type 0 where

@@ -22,7 +22,7 @@ use Rattle.frame.specs.declared.Frame.{Frame}
 use Rattle.frame.specs.declared.Placed.{Placed}
 use Rattle.frame.specs.Read.{kindOf, isPiece, numberAt, channelAt, metaAt, headerSize, frameBy, frameAt, bodyOf, readFrameOf}
 use Rattle.frame_write.specs.Write.{flagsOf, startBytes, numberBytes, channelBytes, fieldBytes, metaBytes, headerBytes, frameBytes}
-use Rattle.frame_write.specs.Valid.{withinLimits, sizeOf, writeFrameOf, writtenOf}
+use Rattle.frame_write.specs.Valid.{withinLimits, sizeOf, writeFrameOf, frameWrittenOf}
 use Rattle.frame.proofs.Reading.{read-whole, frame-is, len-is, starts-at, body-long}
 use Rattle.frame_write.proofs.Rows.{InOrder, row-in-order, number-wide, start-wide, fields-wide, header-wide, frame-wide}
 use Rattle.frame_write.proofs.Stands.{Stands, stands-there, stands-both, stands-one, le24-again, be16-again, be32-again}
@@ -41,7 +41,8 @@ flags-again flags z = go (ℕ-discrete (flags / 16 % 2) 1)
 none-stands : (s : List ℕ) (q : ℕ) → Stands s q []
 none-stands s q = record { each = λ i h. absurd (not-suc-le-zero h) }
 
-field-again : (s : List ℕ) (q off v : ℕ) (bytes : ℕ → List ℕ) → ((off ≡ 0 → ⊥) → Stands s q (bytes v)) → Stands s q (ifEq off 0 [] (bytes (ifEq off 0 0 v)))
+field-again : (s : List ℕ) (q off v : ℕ) (bytes : ℕ → List ℕ) → ((off ≡ 0 → ⊥) → Stands s q (bytes v))
+    → Stands s q (ifEq off 0 [] (bytes (ifEq off 0 0 v)))
 field-again s q off v bytes h = go (ℕ-discrete off 0)
   where
     go : Dec (off ≡ 0) → Stands s q (ifEq off 0 [] (bytes (ifEq off 0 0 v)))
@@ -78,7 +79,8 @@ module _ (s : List ℕ) (by : Bytes s) (at : ℕ) where
       let wr = number-wide (k .reliable) (numberAt s at (k .reliable)) in
       let ws = number-wide (k .sequence) (numberAt s at (k .sequence)) in
       let wo = number-wide (k .order) (numberAt s at (k .order)) in
-      stands-both s (at + 3) nr (andThen ns (andThen no ch)) (number-again s by at (at + 3) (k .reliable) (λ n. omega (arith, o .reliable n)))
+      stands-both s (at + 3) nr (andThen ns (andThen no ch))
+      (number-again s by at (at + 3) (k .reliable) (λ n. omega (arith, o .reliable n)))
       (stands-both s (at + 3 + length nr) ns (andThen no ch)
       (number-again s by at (at + 3 + length nr) (k .sequence) (λ n. omega (arith, o .sequence n)))
       (stands-both s (at + 3 + length nr + length ns) no ch
@@ -100,7 +102,8 @@ module _ (s : List ℕ) (by : Bytes s) (at : ℕ) where
         let k : KindFields = fieldsOf (kindOf flags) in
         let f : Frame = frameBy k flags s at in
         let place : at + 3 + length (fieldBytes k f) ≡ at + k .header = omega (arith, fields-wide k f (row-in-order (kindOf flags))) in
-        stands-both s at (startBytes (f .kind) (f .piece) (be16 s (at + 1) / 8)) (andThen (fieldBytes k f) (metaBytes (f .piece) (f .meta))) start-again
+        stands-both s at (startBytes (f .kind) (f .piece) (be16 s (at + 1) / 8)) (andThen (fieldBytes k f) (metaBytes (f .piece) (f .meta)))
+        start-again
         (rw start-wide
         (stands-both s (at + 3) (fieldBytes k f) (metaBytes (f .piece) (f .meta)) (fields-again k (row-in-order (kindOf flags)) flags)
         (rw place (meta-again s by (at + k .header) (isPiece flags)))))
@@ -144,16 +147,16 @@ module _ (s : List ℕ) (at : ℕ) (p : Placed) (next : ℕ) (e : readFrameOf s 
         frame-wide (p .frame) (bodyOf s p) ∙ rw (body-long s at p next e) size-read in
         sym (rw n at (stands-there s at (frameBytes (p .frame) (bodyOf s p)) frame-stands (omega arith)))
 
--- Reading then writing gives the bytes back, at any place of any list of bytes: where a frame was read with every field within its limit, the
--- other flag bits 0 and the length a multiple of 8, its bytes as written are those that were read, from its first byte to the next frame's;
--- and so `write_frame` accepts it wherever an output has room for them, and writes them there.
+-- Reading then writing gives the bytes back, at any place of any list of bytes: where a frame was read with every field within its limit,
+-- the other flag bits 0 and the length a multiple of 8, its bytes as written are those that were read, from its first byte to the next
+-- frame's; and so `write_frame` accepts it wherever an output has room for them, and writes them there.
 pub read-then-write : (s : List ℕ) → Bytes s → (at : ℕ) (p : Placed) (next : ℕ) → readFrameOf s at ≡ gives (p, next)
     → withinLimits (p .frame) (p .len) ≡ true → getD s at 0 % 16 ≡ 0 → be16 s (at + 1) % 8 ≡ 0
     → (frameBytes (p .frame) (bodyOf s p) ≡ take (next - at) (drop at s))
     × ((out : List ℕ) (to : ℕ) → to + (next - at) ≤ length out
     → (writeFrameOf (length out) to (p .frame) (length (bodyOf s p)) ≡ gives (to + (next - at)))
-    × (writtenOf out to (p .frame) (bodyOf s p) ≡ put out to (take (next - at) (drop at s))))
-unfolding writeFrameOf writtenOf
+    × (frameWrittenOf out to (p .frame) (bodyOf s p) ≡ put out to (take (next - at) (drop at s))))
+unfolding writeFrameOf frameWrittenOf
 read-then-write s by at p next e limits bits eights =
     let b : frameBytes (p .frame) (bodyOf s p) ≡ take (next - at) (drop at s) = bytes-again s at p next e by bits eights in
     let n : length (bodyOf s p) ≡ p .len = body-long s at p next e in

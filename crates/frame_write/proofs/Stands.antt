@@ -42,7 +42,9 @@ module _ (s : List ℕ) (p : ℕ) (xs ys : List ℕ) where
 
   pub stands-next : Stands s p (andThen xs ys) → Stands s (p + length xs) ys
   unfolding andThen
-  stands-next a = record { each = λ i h. rw add-assoc (a .each (length xs + i) (rw length-append (omega arith)) ∙ getD-append-add xs ys i 0) }
+  stands-next a = record {
+    each = λ i h. rw add-assoc (a .each (length xs + i) (rw length-append (omega arith)) ∙ getD-append-add xs ys i 0);
+  }
 
   pub stands-both : Stands s p xs → Stands s (p + length xs) ys → Stands s p (andThen xs ys)
   unfolding andThen

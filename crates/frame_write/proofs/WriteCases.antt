@@ -19,16 +19,19 @@ use Rattle.frame.specs.declared.Frame.{Frame}
 use Rattle.frame_write.specs.declared.WriteFrame.the-variants.{Written, OverLimit, NoRoom}
 use Rattle.frame.specs.Read.{maxKind, metaSize}
 use Rattle.frame_write.specs.Write.{flagsOf, startBytes, fieldBytes, frameBytes}
-use Rattle.frame_write.specs.Valid.{fieldsOk, metaOk, withinLimits, sizeOf, byCase, writeFrameOf, writtenOf, writeAnswer}
+use Rattle.frame_write.specs.Valid.{fieldsOk, metaOk, withinLimits, sizeOf, byFrameCase, writeFrameOf, frameWrittenOf}
+use Rattle.frame_write.specs.Valid.{frameWriteAnswer}
 use Rattle.frame_write.proofs.Limits.{within}
 
 -- ---- the parts of a frame
-pub start-is : (p : ℕ) (l : List ℕ) (kind : ℕ) (piece : Bool) (n flags : ℕ) (q : ℕ) (L : List ℕ) (r : ℕ) (M : List ℕ) → flags ≡ flagsOf kind piece
+pub start-is : (p : ℕ) (l : List ℕ) (kind : ℕ) (piece : Bool) (n flags : ℕ) (q : ℕ) (L : List ℕ) (r : ℕ) (M : List ℕ) → flags
+    ≡ flagsOf kind piece
     → Run p (flags ∷ []) l q L → Run q (be16Bytes (n * 8)) L r M → Run p (startBytes kind piece n) l r M
 unfolding startBytes
 start-is p l kind piece n flags q L r M e a b = run-then p _ _ l q L r M (rw e at a) b
 
-pub fields-is : (p : ℕ) (l : List ℕ) (f : Frame) (k j : KindFields) (q : ℕ) (L : List ℕ) → k ≡ j → Run p (fieldBytes k f) l q L → Run p (fieldBytes j f) l q L
+pub fields-is : (p : ℕ) (l : List ℕ) (f : Frame) (k j : KindFields) (q : ℕ) (L : List ℕ) → k ≡ j → Run p (fieldBytes k f) l q L
+    → Run p (fieldBytes j f) l q L
 fields-is p l f k j q L e a = rw e at a
 
 pub size-piece : (f : Frame) (n : ℕ) (k : KindFields) → k ≡ fieldsOf (f .kind) → f .piece ≡ true → k .header + metaSize + n ≡ sizeOf f n
@@ -68,53 +71,54 @@ module _ (f : Frame) (n : ℕ) where
 
 -- ---- the call's three cases, for the answer and for the output alike
 module _ {A : Type 0} (room at : ℕ) (f : Frame) (n : ℕ) (x y z : A) where
-  pub over-limit : withinLimits f n ≡ false → x ≡ byCase room at f n x y z
-  unfolding byCase
+  pub over-limit : withinLimits f n ≡ false → x ≡ byFrameCase room at f n x y z
+  unfolding byFrameCase
   over-limit e = true-no _ _ _ _ e refl
 
-  pub no-room : withinLimits f n ≡ true → room < at + sizeOf f n → y ≡ byCase room at f n x y z
-  unfolding byCase
+  pub no-room : withinLimits f n ≡ true → room < at + sizeOf f n → y ≡ byFrameCase room at f n x y z
+  unfolding byFrameCase
   no-room e h = true-yes _ _ _ _ e (lt-yes _ _ _ _ _ h refl)
 
-  pub has-room : withinLimits f n ≡ true → at + sizeOf f n ≤ room → z ≡ byCase room at f n x y z
-  unfolding byCase
+  pub has-room : withinLimits f n ≡ true → at + sizeOf f n ≤ room → z ≡ byFrameCase room at f n x y z
+  unfolding byFrameCase
   has-room e h = true-yes _ _ _ _ e (lt-no _ _ _ _ _ h refl)
 
 module _ (room at : ℕ) (f : Frame) (n : ℕ) (t : Bool) (i : t ≡ withinLimits f n) where
-  pub answer-over : t ≡ false → writeAnswer OverLimit ≡ writeFrameOf room at f n
-  unfolding writeAnswer writeFrameOf
+  pub answer-over : t ≡ false → frameWriteAnswer OverLimit ≡ writeFrameOf room at f n
+  unfolding frameWriteAnswer writeFrameOf
   answer-over e = over-limit room at f n _ _ _ (sym i ∙ e)
 
-  pub answer-past : t ≡ true → room < at → writeAnswer NoRoom ≡ writeFrameOf room at f n
-  unfolding writeAnswer writeFrameOf
+  pub answer-past : t ≡ true → room < at → frameWriteAnswer NoRoom ≡ writeFrameOf room at f n
+  unfolding frameWriteAnswer writeFrameOf
   answer-past e h = no-room room at f n _ _ _ (sym i ∙ e) (omega arith)
 
-  pub answer-short : t ≡ true → (s : ℕ) → s ≡ sizeOf f n → room - at < s → writeAnswer NoRoom ≡ writeFrameOf room at f n
-  unfolding writeAnswer writeFrameOf
+  pub answer-short : t ≡ true → (s : ℕ) → s ≡ sizeOf f n → room - at < s → frameWriteAnswer NoRoom ≡ writeFrameOf room at f n
+  unfolding frameWriteAnswer writeFrameOf
   answer-short e s v h = no-room room at f n _ _ _ (sym i ∙ e) (omega arith)
 
-  pub answer-written : t ≡ true → (s : ℕ) → s ≡ sizeOf f n → at ≤ room → s ≤ room - at → writeAnswer (Written (at + s)) ≡ writeFrameOf room at f n
-  unfolding writeAnswer writeFrameOf
+  pub answer-written : t ≡ true → (s : ℕ) → s ≡ sizeOf f n → at ≤ room → s ≤ room - at → frameWriteAnswer (Written (at + s))
+      ≡ writeFrameOf room at f n
+  unfolding frameWriteAnswer writeFrameOf
   answer-written e s v g h = rw v (has-room room at f n _ _ _ (sym i ∙ e) (omega arith))
 
 module _ (l : List ℕ) (at : ℕ) (f : Frame) (body : List ℕ) (t : Bool) (i : t ≡ withinLimits f (length body)) where
-  pub output-over : t ≡ false → l ≡ writtenOf l at f body
-  unfolding writtenOf
+  pub output-over : t ≡ false → l ≡ frameWrittenOf l at f body
+  unfolding frameWrittenOf
   output-over e = over-limit (length l) at f (length body) _ _ _ (sym i ∙ e)
 
-  pub output-past : t ≡ true → length l < at → l ≡ writtenOf l at f body
-  unfolding writtenOf
+  pub output-past : t ≡ true → length l < at → l ≡ frameWrittenOf l at f body
+  unfolding frameWrittenOf
   output-past e h = no-room (length l) at f (length body) _ _ _ (sym i ∙ e) (omega arith)
 
-  pub output-short : t ≡ true → (s : ℕ) → s ≡ sizeOf f (length body) → length l - at < s → l ≡ writtenOf l at f body
-  unfolding writtenOf
+  pub output-short : t ≡ true → (s : ℕ) → s ≡ sizeOf f (length body) → length l - at < s → l ≡ frameWrittenOf l at f body
+  unfolding frameWrittenOf
   output-short e s v h = no-room (length l) at f (length body) _ _ _ (sym i ∙ e) (omega arith)
 
   -- the rest of the output was lent, and came back with the frame at its start
   pub output-written : t ≡ true → (s : ℕ) → s ≡ sizeOf f (length body) → at ≤ length l → s ≤ length l - at
       → (q : ℕ) (ys : List ℕ) → Run 0 (frameBytes f body) (take (length l - at) (drop at l)) q ys
-      → take at l ++ (ys ++ drop (length l - at) (drop at l)) ≡ writtenOf l at f body
-  unfolding writtenOf
+      → take at l ++ (ys ++ drop (length l - at) (drop at l)) ≡ frameWrittenOf l at f body
+  unfolding frameWrittenOf
   output-written e s v g h q ys m =
       let r : take (length l - at) (drop at l) ≡ drop at l = take-all (length l - at) (drop at l) (simp length-drop (omega arith)) in
       rw (m .is, r) (put-back l at (frameBytes f body) g) ∙ has-room (length l) at f (length body) _ _ _ (sym i ∙ e) (omega arith)

@@ -23,12 +23,13 @@ use Rattle.frame.specs.declared.Frame.{Frame}
 use Rattle.frame.specs.declared.Placed.{Placed}
 use Rattle.frame.specs.Read.{kindOf, isPiece, numberAt, channelAt, metaAt, headerSize, frameAt, placedAt, bodyOf, readFrameOf}
 use Rattle.frame_write.specs.Write.{flagsOf, startBytes, numberBytes, channelBytes, fieldBytes, metaBytes, headerBytes, frameBytes}
-use Rattle.frame_write.specs.Valid.{withinLimits, sizeOf, writeFrameOf, writtenOf}
+use Rattle.frame_write.specs.Valid.{withinLimits, sizeOf, writeFrameOf, frameWrittenOf}
 use Rattle.base.proofs.Answers.{refused-gives}
 use Rattle.frame_write.proofs.WriteCases.{over-limit, no-room, has-room}
 use Rattle.frame_write.proofs.Limits.{Carried, MetaFits, Within, within}
 use Rattle.frame_write.proofs.Rows.{InOrder, row-in-order, number-wide, start-wide, fields-wide, header-wide, frame-wide}
-use Rattle.frame_write.proofs.Stands.{Stands, put-stands, stands-there, stands-first, stands-next, one-stands, le24-stands, be16-stands, be32-stands}
+use Rattle.frame_write.proofs.Stands.{Stands, put-stands, stands-there, stands-first, stands-next, one-stands, le24-stands}
+use Rattle.frame_write.proofs.Stands.{be16-stands, be32-stands}
 
 -- ---- flags
 module _ (k : ℕ) where
@@ -57,7 +58,8 @@ module _ (s : List ℕ) (at q off x : ℕ) (place : (off ≡ 0 → ⊥) → at +
   number-back : Carried numbers24 off x → Stands s q (numberBytes off x) → numberAt s at off ≡ x
   unfolding numberBytes
   number-back c a =
-      field-back off (le24 s (at + off)) x (c .lacks) (λ n. rw (place n) (le24-stands s q x (c .below) (field-there s q off (le24Bytes x) a n)))
+      field-back off (le24 s (at + off)) x (c .lacks) (λ n. rw (place n)
+      (le24-stands s q x (c .below) (field-there s q off (le24Bytes x) a n)))
 
   channel-back : Carried maxOrdChans off x → Stands s q (channelBytes off x) → channelAt s at off ≡ x
   unfolding channelBytes
@@ -68,11 +70,13 @@ module _ (s : List ℕ) (at q off x : ℕ) (place : (off ≡ 0 → ⊥) → at +
 meta-eq : (l m : FragmentMeta) → l .count ≡ m .count → l .id ≡ m .id → l .index ≡ m .index → l ≡ m
 meta-eq l m a b c = λ j. record { count = a j; id = b j; index = c j }
 
-meta-back : (s : List ℕ) (p : ℕ) (b : Bool) (m : FragmentMeta) → MetaFits b m → m .id < 65536 → Stands s p (metaBytes b m) → metaAt b s p ≡ m
+meta-back : (s : List ℕ) (p : ℕ) (b : Bool) (m : FragmentMeta) → MetaFits b m → m .id < 65536 → Stands s p (metaBytes b m) → metaAt b s p
+    ≡ m
 unfolding metaBytes be32Bytes be16Bytes andThen ifTrue
 meta-back s p true m w d a =
     let rest : Stands s (p + 4) (andThen (be16Bytes (m .id)) (be32Bytes (m .index))) = stands-next s p (be32Bytes (m .count)) _ a in
-    let last : Stands s (p + 6) (be32Bytes (m .index)) = rw add-assoc at (stands-next s (p + 4) (be16Bytes (m .id)) (be32Bytes (m .index)) rest) in
+    let last : Stands s (p + 6) (be32Bytes (m .index)) = rw add-assoc at (stands-next s (p + 4) (be16Bytes (m .id)) (be32Bytes (m .index))
+    rest) in
     meta-eq _ m
     (be32-stands s p (m .count) (omega arith) (stands-first s p (be32Bytes (m .count)) _ a))
     (be16-stands s (p + 4) (m .id) (stands-first s (p + 4) (be16Bytes (m .id)) _ rest) ∙ omega arith)
@@ -109,7 +113,8 @@ module _ (s : List ℕ) (at : ℕ) (f : Frame) (n : ℕ) (w : Within f n) (a : S
       omega (arith, w .body)
 
   -- each number and the channel, at the place that the kind's row gives
-  numbers-back : (k : KindFields) → InOrder k → Carried numbers24 (k .reliable) (f .reliable) → Carried numbers24 (k .sequence) (f .sequence)
+  numbers-back : (k : KindFields) → InOrder k → Carried numbers24 (k .reliable) (f .reliable) → Carried numbers24 (k .sequence)
+      (f .sequence)
       → Carried numbers24 (k .order) (f .order) → Carried maxOrdChans (k .channel) (f .channel) → Stands s (at + 3) (fieldBytes k f)
       → (numberAt s at (k .reliable) ≡ f .reliable) × (numberAt s at (k .sequence) ≡ f .sequence) × (numberAt s at (k .order) ≡ f .order)
       × (channelAt s at (k .channel) ≡ f .channel)
@@ -127,7 +132,8 @@ module _ (s : List ℕ) (at : ℕ) (f : Frame) (n : ℕ) (w : Within f n) (a : S
       let b4 = stands-next s (at + 3 + length nr + length ns) no ch b3 in (
         number-back s at (at + 3) (k .reliable) (f .reliable) (λ n. omega (arith, o .reliable n)) r (stands-first s (at + 3) nr _ b),
         number-back s at (at + 3 + length nr) (k .sequence) (f .sequence) (λ n. omega (arith, o .sequence n)) s′ (stands-first s _ ns _ b2),
-        number-back s at (at + 3 + length nr + length ns) (k .order) (f .order) (λ n. omega (arith, o .order n)) o′ (stands-first s _ no _ b3),
+        number-back s at (at + 3 + length nr + length ns) (k .order) (f .order) (λ n. omega (arith, o .order n)) o′
+            (stands-first s _ no _ b3),
         channel-back s at (at + 3 + length nr + length ns + length no) (k .channel) (f .channel) (λ n. omega (arith, o .channel n)) c b4,
       )
 
@@ -136,7 +142,8 @@ module _ (s : List ℕ) (at : ℕ) (f : Frame) (n : ℕ) (w : Within f n) (a : S
   header-back d =
       let k : KindFields = fieldsOf (f .kind) in
       let fields = fieldBytes k f in
-      let b = numbers-back k (row-in-order (f .kind)) (w .reliable) (w .sequence) (w .order) (w .channel) (stands-first s (at + 3) fields _ after-start) in
+      let b = numbers-back k (row-in-order (f .kind)) (w .reliable) (w .sequence) (w .order) (w .channel)
+      (stands-first s (at + 3) fields _ after-start) in
       let place : at + 3 + length fields ≡ at + k .header = omega (arith, fields-wide k f (row-in-order (f .kind))) in
       let m : Stands s (at + k .header) (metaBytes (f .piece) (f .meta)) = rw place at (stands-next s (at + 3) fields _ after-start) in
       rw (flags-back, kind-back, piece-back)
@@ -147,7 +154,8 @@ module _ (s : List ℕ) (at : ℕ) (f : Frame) (n : ℕ) (w : Within f n) (a : S
   placed-back d = rw (flags-back, kind-back, piece-back, header-back d, len-back)
 
 -- ---- a frame that is written where there is room
-module _ (out : List ℕ) (at : ℕ) (f : Frame) (body : List ℕ) (e : withinLimits f (length body) ≡ true) (room : at + sizeOf f (length body) ≤ length out) where
+module _ (out : List ℕ) (at : ℕ) (f : Frame) (body : List ℕ) (e : withinLimits f (length body) ≡ true)
+    (room : at + sizeOf f (length body) ≤ length out) where
   stored : Stands (put out at (frameBytes f body)) at (frameBytes f body)
   stored = put-stands out at (frameBytes f body) (rw frame-wide room)
 
@@ -172,12 +180,12 @@ pub record Accepted (out : List ℕ) (at : ℕ) (f : Frame) (body : List ℕ) (n
   pub limits : withinLimits f (length body) ≡ true
   pub room : at + sizeOf f (length body) ≤ length out
   pub place : next ≡ at + sizeOf f (length body)
-  pub written : writtenOf out at f body ≡ put out at (frameBytes f body)
+  pub written : frameWrittenOf out at f body ≡ put out at (frameBytes f body)
 
 -- Where the answer is a place, the frame is within its limits and has room, and its bytes are in the output.
 pub accepted : (out : List ℕ) (at : ℕ) (f : Frame) (body : List ℕ) (next : ℕ) → writeFrameOf (length out) at f (length body) ≡ gives next
     → Accepted out at f body next
-unfolding writeFrameOf writtenOf
+unfolding writeFrameOf frameWrittenOf
 accepted out at f body next e = go (withinLimits f (length body)) refl (decLt (length out) (at + sizeOf f (length body)))
   where
     go : (t : Bool) → withinLimits f (length body) ≡ t → Dec (length out < at + sizeOf f (length body)) → Accepted out at f body next
@@ -192,12 +200,12 @@ accepted out at f body next e = go (withinLimits f (length body)) refl (decLt (l
           written = sym (has-room (length out) at f (length body) _ _ _ i (omega arith));
         }
 
--- Writing then reading gives the frame back: at any place of any output, what `write_frame` wrote is read there as a frame with the same header
--- values, whose body is the body, and the place after it is the one that the writer returned. (An id is a u16 in the code.)
+-- Writing then reading gives the frame back: at any place of any output, what `write_frame` wrote is read there as a frame with the same
+-- header values, whose body is the body, and the place after it is the one that the writer returned. (An id is a u16 in the code.)
 pub write-then-read : (out : List ℕ) (at : ℕ) (f : Frame) (body : List ℕ) (next : ℕ) → f .meta .id < 65536
     → writeFrameOf (length out) at f (length body) ≡ gives next
-    → (readFrameOf (writtenOf out at f body) at ≡ gives (placedOf at f (length body), next))
-    × (bodyOf (writtenOf out at f body) (placedOf at f (length body)) ≡ body)
+    → (readFrameOf (frameWrittenOf out at f body) at ≡ gives (placedOf at f (length body), next))
+    × (bodyOf (frameWrittenOf out at f body) (placedOf at f (length body)) ≡ body)
 write-then-read out at f body next d e =
     let a = accepted out at f body next e in
     rw (a .written, a .place) (read-back out at f body (a .limits) (a .room) d, body-back out at f body (a .limits) (a .room))

@@ -1,5 +1,5 @@
--- A datagram's head, written: document 01, "Bytes", "Datagram: id 80 to 8D (written 84), number in 24 bits little-endian, frames", and the call
--- "Write a datagram's head, 84 and the number. 13 number of 2^24 or more; 12 below 4 bytes."
+-- A datagram's head, written: document 01, "Bytes", "Datagram: id 80 to 8D (written 84), number in 24 bits little-endian, frames", and the
+-- call "Write a datagram's head, 84 and the number. 13 number of 2^24 or more; 12 below 4 bytes."
 use Prim.Native.Nat.{ℕ}
 use mathlib.Core.List.{List, _∷_}
 use lib.ListN.{length}

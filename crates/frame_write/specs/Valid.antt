@@ -1,4 +1,5 @@
--- Document 01's call "Write frame": "15 kind, number, channel, piece field or body over its limit (body 8,191), or an uncarried field not 0; 12."
+-- Document 01's call "Write frame": "15 kind, number, channel, piece field or body over its limit (body 8,191), or an uncarried field not
+-- 0; 12."
 use Prim.Native.Nat.{ℕ, _+_}
 use mathlib.Core.Bool.{Bool, false}
 use mathlib.Core.List.{List}
@@ -52,19 +53,19 @@ unfoldable pub sizeOf : Frame → ℕ → ℕ
 sizeOf f n = headerSize (f .piece) (fieldsOf (f .kind) .header) + n
 
 -- x where 15 is due, y where 12 is, z where the frame is written
-unfoldable pub byCase : {A : Type 0} → ℕ → ℕ → Frame → ℕ → A → A → A → A
-byCase room at f n x y z = ifTrue (withinLimits f n) (ifLt room (at + sizeOf f n) y z) x
+unfoldable pub byFrameCase : {A : Type 0} → ℕ → ℕ → Frame → ℕ → A → A → A → A
+byFrameCase room at f n x y z = ifTrue (withinLimits f n) (ifLt room (at + sizeOf f n) y z) x
 
 -- the answer, for an output of `room` bytes: the place after the frame, or the number of the refusal
 unfoldable pub writeFrameOf : ℕ → ℕ → Frame → ℕ → Answer ℕ
-writeFrameOf room at f n = byCase room at f n (refused 15) (refused 12) (gives (at + sizeOf f n))
+writeFrameOf room at f n = byFrameCase room at f n (refused 15) (refused 12) (gives (at + sizeOf f n))
 
 -- the output afterwards; a refusal leaves it as it was
-unfoldable pub writtenOf : List ℕ → ℕ → Frame → List ℕ → List ℕ
-writtenOf out at f body = byCase (length out) at f (length body) out out (put out at (frameBytes f body))
+unfoldable pub frameWrittenOf : List ℕ → ℕ → Frame → List ℕ → List ℕ
+frameWrittenOf out at f body = byFrameCase (length out) at f (length body) out out (put out at (frameBytes f body))
 
 -- the code's answer in document 01's numbers and values
-unfoldable pub writeAnswer : WriteFrame → Answer ℕ
-writeAnswer (Written next) = gives next
-writeAnswer OverLimit = refused 15
-writeAnswer NoRoom = refused 12
+unfoldable pub frameWriteAnswer : WriteFrame → Answer ℕ
+frameWriteAnswer (Written next) = gives next
+frameWriteAnswer OverLimit = refused 15
+frameWriteAnswer NoRoom = refused 12

@@ -10,16 +10,18 @@ ghost use lib.ListN.{length};
 ghost use Rattle.base.specs.Limits.{maxBody};
 ghost use Rattle.base.specs.Put.{Run};
 ghost use Rattle.frame.specs.Read.{maxKind};
-ghost use Rattle.frame_write.specs.Write.{flagsOf, startBytes, numberBytes, channelBytes, fieldBytes, metaBytes, headerBytes, frameBytes};
-ghost use Rattle.frame_write.specs.Valid.{numberOk, channelOk, fieldsOk, metaOk, withinLimits, sizeOf, writeFrameOf, writtenOf, writeAnswer};
+ghost use Rattle.frame_write.specs.Write.{flagsOf, startBytes, numberBytes, channelBytes, fieldBytes, metaBytes, headerBytes};
+ghost use Rattle.frame_write.specs.Write.{frameBytes};
+ghost use Rattle.frame_write.specs.Valid.{numberOk, channelOk, fieldsOk, metaOk, withinLimits, sizeOf, writeFrameOf, frameWrittenOf};
+ghost use Rattle.frame_write.specs.Valid.{frameWriteAnswer};
 
 // The last kind.
 const MAX_KIND: u8 = 7;
 
 // Writes a frame into the output from `at` on.
 pub fn write_frame(out: &mut [u8], at: usize, frame: Frame, body: &[u8]) -> WriteFrame
-    ensures answer { λ r. ⌜ writeAnswer r ≡ writeFrameOf (length (now (out .entry))) at frame (length (now (body .entry))) ⌝ }
-    ensures output { λ r. ⌜ now (out .exit) ≡ writtenOf (now (out .entry)) at frame (now (body .entry)) ⌝ }
+    ensures answer { λ r. ⌜ frameWriteAnswer r ≡ writeFrameOf (length (now (out .entry))) at frame (length (now (body .entry))) ⌝ }
+    ensures output { λ r. ⌜ now (out .exit) ≡ frameWrittenOf (now (out .entry)) at frame (now (body .entry)) ⌝ }
 {
     let n = body.len();
     if within_limits(frame, n) {} else {

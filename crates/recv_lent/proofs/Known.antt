@@ -1,6 +1,8 @@
--- What is known of a receiver behind a reference: its own numbers fit, its arrays are as long as its type says, and what is known of it with other numbers.
+-- What is known of a receiver behind a reference: its own numbers fit, its arrays are as long as its type says, and what is known of it
+-- with other numbers.
 -- Assumes nothing, or `Given`.
-use Rattle.walks.proofs.Walk.{_≡_, refl, sym, _∙_, subst, ℕ, _<_, _^_, [], _∷_, List, map, length, length-map, URA, w8, w32, w64, tyArray, tyInt, tyUnit, Val, vint, vunit, hasTy, WT, Heap, Atoms, Given, Is, Array, u8}
+use Rattle.walks.proofs.Walk.{_≡_, refl, sym, _∙_, subst, ℕ, _<_, _^_, [], _∷_, List, map, length, length-map, URA, w8, w32, w64, tyArray}
+use Rattle.walks.proofs.Walk.{tyInt, tyUnit, Val, vint, vunit, hasTy, WT, Heap, Atoms, Given, Is, Array, u8}
 use lib.Dec.{T as Holds}
 use mathlib.Core.List.{map-id}
 use denote.Struct.Laws as LL
@@ -8,11 +10,11 @@ use Rattle.window.specs.declared.ReliableWindow.{ReliableWindow}
 use Rattle.window.specs.Window.{windowOf}
 use Rattle.window.proofs.ReliableWindow as R
 use Rattle.window.proofs.ReliableWindow.Laws as R′
-use Rattle.recv.specs.declared.RecvQueue.{RecvQueue}
-use Rattle.recv.proofs.Channel as C
-use Rattle.recv.proofs.RecvQueue as T
-use Rattle.recv.proofs.RecvQueue.Laws as T′
-use Rattle.channel.proofs.Receiver.{valsOf}
+use Rattle.receiver.specs.declared.RecvQueue.{RecvQueue}
+use Rattle.receiver.proofs.Channel as C
+use Rattle.receiver.proofs.RecvQueue as T
+use Rattle.receiver.proofs.RecvQueue.Laws as T′
+use Rattle.recv_channel.proofs.Receiver.{valsOf}
 use Rattle.recv_lent.proofs.Settles.{Long}
 
 -- ---- a call's result as its local has it
@@ -35,13 +37,18 @@ module _ (w : ReliableWindow) where
   bitsVal = R′.the-laws .1 .0 .val (map (λ v. v) (w .bits))
 
   pub bits-are : Known → Is (Array u8 256) (w .bits) (bitsVal ∷ [])
-  bits-are k = subst (λ (l : List ℕ). Is (Array u8 256) l (bitsVal ∷ [])) (map-id (w .bits)) (LL.owed R.the-type R′.the-laws w (LL.vals R.the-type R′.the-laws w) k .1 .0)
+  bits-are k = subst (λ (l : List ℕ). Is (Array u8 256) l (bitsVal ∷ [])) (map-id (w .bits))
+      (LL.owed R.the-type R′.the-laws w (LL.vals R.the-type R′.the-laws w) k .1 .0)
 
-  pub bits-typed : {M : Type 1} (𝓤 : URA M) (H : Heap 𝓤) (A : Atoms 𝓤) → Given 𝓤 H A → Known → Holds (hasTy (tyArray (tyInt w8) 256) bitsVal) × WT bitsVal
-  bits-typed 𝓤 H A W k = R′.the-laws .1 .0 .lawful 𝓤 H A W .typed (map (λ v. v) (w .bits)) _ (LL.owed R.the-type R′.the-laws w (LL.vals R.the-type R′.the-laws w) k .1 .0) .0
+  pub bits-typed : {M : Type 1} (𝓤 : URA M) (H : Heap 𝓤) (A : Atoms 𝓤) → Given 𝓤 H A → Known
+      → Holds (hasTy (tyArray (tyInt w8) 256) bitsVal) × WT bitsVal
+  bits-typed 𝓤 H A W k = R′.the-laws .1 .0 .lawful 𝓤 H A W .typed (map (λ v. v) (w .bits)) _
+      (LL.owed R.the-type R′.the-laws w (LL.vals R.the-type R′.the-laws w) k .1 .0) .0
 
-  pub low-changed : (low : ℕ) → low < 2 ^ 32 → Known → Is R.the-row (windowOf low (w .bits)) (LL.vals R.the-type R′.the-laws (windowOf low (w .bits)))
-  low-changed low fits k = LL.owes R.the-type R′.the-laws (windowOf low (w .bits)) ((refl, fits), LL.owed R.the-type R′.the-laws w (LL.vals R.the-type R′.the-laws w) k .1)
+  pub low-changed : (low : ℕ) → low < 2 ^ 32 → Known → Is R.the-row (windowOf low (w .bits))
+      (LL.vals R.the-type R′.the-laws (windowOf low (w .bits)))
+  low-changed low fits k = LL.owes R.the-type R′.the-laws (windowOf low (w .bits))
+      ((refl, fits), LL.owed R.the-type R′.the-laws w (LL.vals R.the-type R′.the-laws w) k .1)
 
   bits-length : Known → length (w .bits) ≡ 256
   bits-length k = sym (length-map (w .bits) (λ v. v)) ∙ LL.owed R.the-type R′.the-laws w (LL.vals R.the-type R′.the-laws w) k .1 .0 .1 .0 .1
@@ -53,12 +60,22 @@ module _ (h : RecvQueue) where
 
   -- with other numbers of its own
   abbrev pub withNumbers : ℕ → ℕ → ℕ → RecvQueue
-  withNumbers d r p = record { datagrams = windowOf d (h .datagrams .bits); reliables = windowOf r (h .reliables .bits); channels = h .channels; unsent = h .unsent; pending = p }
+  withNumbers d r p = record {
+    datagrams = windowOf d (h .datagrams .bits);
+    reliables = windowOf r (h .reliables .bits);
+    channels = h .channels;
+    unsent = h .unsent;
+    pending = p;
+  }
 
-  pub numbers-changed : (d r p : ℕ) → d < 2 ^ 32 → r < 2 ^ 32 → p < 2 ^ 32 → Is T.the-row h (valsOf h) → Is T.the-row (withNumbers d r p) (valsOf (withNumbers d r p))
+  pub numbers-changed : (d r p : ℕ) → d < 2 ^ 32 → r < 2 ^ 32 → p < 2 ^ 32 → Is T.the-row h (valsOf h) → Is T.the-row (withNumbers d r p)
+      (valsOf (withNumbers d r p))
   numbers-changed d r p fd fr fp was =
       let w = LL.owed T.the-type T′.the-laws h (valsOf h) was in
-      LL.owes T.the-type T′.the-laws (withNumbers d r p) (low-changed (h .datagrams) d fd (w .0), (low-changed (h .reliables) r fr (w .1 .0), (w .1 .1 .0, (w .1 .1 .1 .0, ((refl, fp), tt)))))
+      LL.owes T.the-type T′.the-laws (withNumbers d r p) (
+        low-changed (h .datagrams) d fd (w .0),
+        (low-changed (h .reliables) r fr (w .1 .0), (w .1 .1 .0, (w .1 .1 .1 .0, ((refl, fp), tt)))),
+      )
 
   -- its arrays are as long as its type says
   pub arrays-long : Is T.the-row h (valsOf h) → Long h

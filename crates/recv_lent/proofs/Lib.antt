@@ -1,4 +1,4 @@
-pub mod Ways
+pub mod CoveredCases
 pub mod Settles
 pub mod Known
 pub mod Accepting

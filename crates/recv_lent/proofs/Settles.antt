@@ -25,28 +25,31 @@ use Rattle.cells.specs.Cell.{Cell}
 use Rattle.cells.specs.Datagram.{datagram}
 use Rattle.cells.specs.Sound.{lengths}
 use Rattle.rows.specs.declared.Row.{Row}
-use Rattle.slots.specs.First.{firstRows, afterRows, firstCells}
-use Rattle.recv.specs.declared.Channel.{Channel}
-use Rattle.recv.specs.declared.RecvQueue.{RecvQueue}
-use Rattle.recv.specs.Parts.{channelOf, nextNumber, nextsOf, headsOf, queueOf, arraysFit}
-use Rattle.recv.specs.Queue.{unsentOf, insertUnsent}
-use Rattle.recv.specs.Receive.{Report, Received, numberOf, framesIn, stateOf, channelsAfter, queueAfter, refusedOf, acceptedOf}
-use Rattle.recv.proofs.ByParts.{numbers-back, own-parts}
-use Rattle.recv.proofs.Ways.{Accepted, by-true, by-le, receive-ways}
-use Rattle.narrow.specs.Receiving.{withRest, receiveFirst}
-use Rattle.unsent.specs.Unsent.{joinedBy}
-use Rattle.unsent.proofs.Joined.{joined-by}
-use Rattle.channel.specs.Advance.{withChannels, advancedAll}
-use Rattle.channel.proofs.Laws.{all-numbers}
-use Rattle.pass.specs.declared.Receive.{Receive}
-use Rattle.pass.specs.declared.PassedRows.{PassedRows}
-use Rattle.pass.specs.Outcome.{RowsReceived, receiveAnswer, rowsPassed, rowsRefused, rowsAccepted, rowsByAnswer, rowsOutcome, receiveRowsOf}
+use Rattle.row_slots.specs.First.{firstRows, afterRows, firstCells}
+use Rattle.receiver.specs.declared.Channel.{Channel}
+use Rattle.receiver.specs.declared.RecvQueue.{RecvQueue}
+use Rattle.receiver.specs.Parts.{channelOf, nextNumber, nextsOf, headsOf, queueOf, arraysFit}
+use Rattle.receiver.specs.Queue.{unsentOf, insertUnsent}
+use Rattle.receiver.specs.Receive.{Report, Received, datagramNumber, framesIn, stateOf, channelsAfter, queueAfter, refusedResult}
+use Rattle.receiver.specs.Receive.{acceptedResult}
+use Rattle.receiver.proofs.ByParts.{numbers-back, own-parts}
+use Rattle.receiver.proofs.AnswerCases.{Accepted, by-true, by-le, receive-ways}
+use Rattle.recv_prefix.specs.Receiving.{withRest, receiveFirst}
+use Rattle.recv_unsent.specs.Unsent.{joinedBy}
+use Rattle.recv_unsent.proofs.Joined.{joined-by}
+use Rattle.recv_channel.specs.Advance.{withChannels, advancedAll}
+use Rattle.recv_channel.proofs.Laws.{all-numbers}
+use Rattle.recv_steps.specs.declared.Receive.{Receive}
+use Rattle.recv_steps.specs.declared.PassedRows.{PassedRows}
+use Rattle.recv_steps.specs.Outcome.{RowsReceived, receiveAnswer, rowsPassed, rowsRefused, rowsAccepted, rowsByAnswer, rowsOutcome}
+use Rattle.recv_steps.specs.Outcome.{receiveRowsOf}
 use Rattle.recv_lent.specs.Settled.{isRefusal, nextPending, withNumber, settledOf}
 use Rattle.recv_lent.specs.Calls.{ReceivedWith, receivedWith, receiveWithOf}
 
 -- of the receiver q, of k rows in the words ws, of the store st and of the datagram d, by the answer a and the last values
 abbrev pub CoreSays : RecvQueue → ℕ → ℕ → List ℕ → List ℕ → List ℕ → PassedRows → List ℕ → List ℕ → List ℕ → List ℕ → Type 0
-CoreSays q k cells ws st d a bits nexts ws′ st′ = rowsPassed a bits nexts (firstRows k ws′) (afterRows k ws′) st′ ≡ receiveRowsOf q k cells ws st d
+CoreSays q k cells ws st d a bits nexts ws′ st′ = rowsPassed a bits nexts (firstRows k ws′) (afterRows k ws′) st′ ≡ receiveRowsOf q k cells
+    ws st d
 
 abbrev pub CallSays : RecvQueue → ℕ → ℕ → List ℕ → List ℕ → List ℕ → Receive → RecvQueue → List ℕ → List ℕ → Type 0
 CallSays q k cells ws st d a q′ ws′ st′ = receivedWith a q′ (firstRows k ws′) (afterRows k ws′) st′ ≡ receiveWithOf q k cells ws st d
@@ -63,19 +66,24 @@ unfolding arraysFit
 fits q l = rw (l .datagrams, l .reliables, l .channels, l .unsent) refl
 
 -- ---- the parts of a receiver that has the number n
-datagrams-after : (w : ReliableWindow) (n : ℕ) → n < numbers24 → accepted w n ≡ false → distance (w .low) n ≤ windowPlaces → insertOf w n .window ≡ accept w n
+datagrams-after : (w : ReliableWindow) (n : ℕ) → n < numbers24 → accepted w n ≡ false → distance (w .low) n ≤ windowPlaces
+    → insertOf w n .window ≡ accept w n
 datagrams-after w n small fresh near = ap (λ (x : Insertion). x .window) (insert-new w n small fresh (omega arith))
 
 put-whole : (l bs : List ℕ) → length bs ≡ length l → put l 0 bs ≡ bs
-put-whole l bs e = ext-getD 0 (put l 0 bs) bs (length-put l 0 bs ∙ sym e) (λ j m. subst (λ (i : ℕ). getD (put l 0 bs) i 0 ≡ getD bs j 0) (zero-add j) (put-in l 0 bs j (omega arith) (omega (arith, length-put l 0 bs))))
+put-whole l bs e = ext-getD 0 (put l 0 bs) bs (length-put l 0 bs ∙ sym e) (λ j m. subst (λ (i : ℕ). getD (put l 0 bs) i 0 ≡ getD bs j 0)
+    (zero-add j) (put-in l 0 bs j (omega arith) (omega (arith, length-put l 0 bs))))
 
-reliables-after : (w v : ReliableWindow) (low : ℕ) (bits : List ℕ) → low ≡ v .low → bits ≡ v .bits → length bits ≡ length (w .bits) → windowOf low (put (w .bits) 0 bits) ≡ v
+reliables-after : (w v : ReliableWindow) (low : ℕ) (bits : List ℕ) → low ≡ v .low → bits ≡ v .bits → length bits ≡ length (w .bits)
+    → windowOf low (put (w .bits) 0 bits) ≡ v
 reliables-after w v low bits e f long = λ i. record { low = e i; bits = (put-whole (w .bits) bits long ∙ f) i }
 
-channels-after : (q : RecvQueue) (cs : List Channel) (nexts : List ℕ) → length (q .channels) ≡ 32 → length nexts ≡ 32 → nexts ≡ nextsOf cs → advancedAll q nexts ≡ withChannels q cs
+channels-after : (q : RecvQueue) (cs : List Channel) (nexts : List ℕ) → length (q .channels) ≡ 32 → length nexts ≡ 32 → nexts ≡ nextsOf cs
+    → advancedAll q nexts ≡ withChannels q cs
 channels-after q cs nexts long same e = all-numbers q nexts long same ∙ ap (withChannels q) (ap (map channelOf) e ∙ numbers-back cs)
 
-unsent-after : (q : RecvQueue) (n : ℕ) (rising : Bool) → length (q .unsent) ≡ 1024 → q .pending < maxUnsent → rising ≡ ascending (unsentOf q) → joinedBy (q .unsent) (q .pending) n rising ≡ insertUnsent n (unsentOf q) ++ drop (q .pending + 1) (q .unsent)
+unsent-after : (q : RecvQueue) (n : ℕ) (rising : Bool) → length (q .unsent) ≡ 1024 → q .pending < maxUnsent → rising
+    ≡ ascending (unsentOf q) → joinedBy (q .unsent) (q .pending) n rising ≡ insertUnsent n (unsentOf q) ++ drop (q .pending + 1) (q .unsent)
 unfolding unsentOf
 unsent-after q n rising long room e = joined-by (q .unsent) (q .pending) n (omega (arith, long)) rising room (λ t. sym e ∙ t)
 
@@ -83,10 +91,14 @@ pending-after : (k : ℕ) → k < maxUnsent → nextPending k ≡ k + 1
 unfolding nextPending
 pending-after k room = sym (lt-yes _ _ _ _ _ room refl)
 
-module _ (q : RecvQueue) (long : Long q) (d : List ℕ) (small : numberOf d < numbers24) (fresh : accepted (q .datagrams) (numberOf d) ≡ false) (near : distance (q .datagrams .low) (numberOf d) ≤ windowPlaces) (room : q .pending < maxUnsent) (v : ReliableWindow) (next : ℕ → ℕ)
-    (low : ℕ) (rising : Bool) (bits nexts : List ℕ) (e-low : low ≡ v .low) (e-rising : rising ≡ ascending (unsentOf q)) (e-bits : bits ≡ v .bits) (e-nexts : nexts ≡ nextsOf (channelsAfter next 0 (q .channels))) (many-bits : length bits ≡ length (q .reliables .bits)) (many-nexts : length nexts ≡ length (nextsOf (q .channels))) where
+module _ (q : RecvQueue) (long : Long q) (d : List ℕ) (small : datagramNumber d < numbers24)
+    (fresh : accepted (q .datagrams) (datagramNumber d) ≡ false) (near : distance (q .datagrams .low) (datagramNumber d) ≤ windowPlaces)
+    (room : q .pending < maxUnsent) (v : ReliableWindow) (next : ℕ → ℕ)
+    (low : ℕ) (rising : Bool) (bits nexts : List ℕ) (e-low : low ≡ v .low) (e-rising : rising ≡ ascending (unsentOf q))
+    (e-bits : bits ≡ v .bits) (e-nexts : nexts ≡ nextsOf (channelsAfter next 0 (q .channels)))
+    (many-bits : length bits ≡ length (q .reliables .bits)) (many-nexts : length nexts ≡ length (nextsOf (q .channels))) where
   abbrev n : ℕ
-  n = numberOf d
+  n = datagramNumber d
 
   abbrev advanced : RecvQueue
   advanced = withChannels q (channelsAfter next 0 (q .channels))
@@ -106,7 +118,8 @@ module _ (q : RecvQueue) (long : Long q) (d : List ℕ) (small : numberOf d < nu
   }
 
   accepted-settled : withNumber (advancedAll q nexts) low bits n rising ≡ queueAfter q n v next
-  accepted-settled = ap (λ (z : RecvQueue). withNumber z low bits n rising) (channels-after q (channelsAfter next 0 (q .channels)) nexts (long .channels) thirty-two e-nexts) ∙ with-number
+  accepted-settled = ap (λ (z : RecvQueue). withNumber z low bits n rising) (channels-after q (channelsAfter next 0 (q .channels)) nexts
+      (long .channels) thirty-two e-nexts) ∙ with-number
 
 -- ---- by the ways of receive
 module _ (q : RecvQueue) (a : PassedRows) (bits nexts : List ℕ) (n : ℕ) where
@@ -114,47 +127,58 @@ module _ (q : RecvQueue) (a : PassedRows) (bits nexts : List ℕ) (n : ℕ) wher
   unfolding settledOf isRefusal ifTrue
   refused-settled number e = rw e refl
 
-  given-settled : (report : Report) → receiveAnswer (a .answer) ≡ gives report → settledOf q a bits nexts n ≡ withNumber (advancedAll q nexts) (a .low) bits n (a .ascending)
+  given-settled : (report : Report) → receiveAnswer (a .answer) ≡ gives report → settledOf q a bits nexts n
+      ≡ withNumber (advancedAll q nexts) (a .low) bits n (a .ascending)
   unfolding settledOf isRefusal ifTrue
   given-settled report e = rw e refl
 
-module _ (q : RecvQueue) (rows₀ : List Row) (after₀ d : List ℕ) (a : PassedRows) (bits nexts : List ℕ) (rows : List Row) (after st′ : List ℕ) where
+module _ (q : RecvQueue) (rows₀ : List Row) (after₀ d : List ℕ) (a : PassedRows) (bits nexts : List ℕ) (rows : List Row)
+    (after st′ : List ℕ) where
   -- what is to be shown of a receive that comes to x
   abbrev With : Received → RowsReceived → ReceivedWith
   With x p = record { answer = x .answer; queue = x .queue; rows = p .rows; after = p .after; store = x .store }
 
   abbrev Settles : Received → Type 0
-  Settles x = rowsPassed a bits nexts rows after st′ ≡ rowsOutcome q rows₀ after₀ x → receivedWith (a .answer) (settledOf q a bits nexts (numberOf d)) rows after st′ ≡ With x (rowsOutcome q rows₀ after₀ x)
+  Settles x = rowsPassed a bits nexts rows after st′ ≡ rowsOutcome q rows₀ after₀ x → receivedWith (a .answer)
+      (settledOf q a bits nexts (datagramNumber d)) rows after st′ ≡ With x (rowsOutcome q rows₀ after₀ x)
 
-  refusal-settles : (cs : List Cell) (st : List ℕ) (number : ℕ) → Settles (refusedOf q cs st number)
-  unfolding rowsPassed rowsOutcome rowsByAnswer rowsRefused refusedOf receivedWith
+  refusal-settles : (cs : List Cell) (st : List ℕ) (number : ℕ) → Settles (refusedResult q cs st number)
+  unfolding rowsPassed rowsOutcome rowsByAnswer rowsRefused refusedResult receivedWith
   refusal-settles cs st number said = λ i. record {
     answer = said i .answer;
-    queue = refused-settled q a bits nexts (numberOf d) number (ap (λ (x : RowsReceived). x .answer) said) i;
+    queue = refused-settled q a bits nexts (datagramNumber d) number (ap (λ (x : RowsReceived). x .answer) said) i;
     rows = said i .rows;
     after = said i .after;
     store = said i .store;
   }
 
-  module _ (long : Long q) (small : numberOf d < numbers24) (many-bits : length bits ≡ length (q .reliables .bits)) (many-nexts : length nexts ≡ length (nextsOf (q .channels))) where
-    given-settles : (cs : List Cell) (st rest : List ℕ) (x : Accepted q cs st d) → Settles (withRest rest (acceptedOf q st d (x .reliables) (datagram (stateOf q cs st) (framesIn d))))
-    unfolding rowsPassed rowsOutcome rowsByAnswer rowsAccepted withRest acceptedOf queueAfter receivedWith
+  module _ (long : Long q) (small : datagramNumber d < numbers24) (many-bits : length bits ≡ length (q .reliables .bits))
+      (many-nexts : length nexts ≡ length (nextsOf (q .channels))) where
+    given-settles : (cs : List Cell) (st rest : List ℕ) (x : Accepted q cs st d)
+        → Settles (withRest rest (acceptedResult q st d (x .reliables) (datagram (stateOf q cs st) (framesIn d))))
+    unfolding rowsPassed rowsOutcome rowsByAnswer rowsAccepted withRest acceptedResult queueAfter receivedWith
     given-settles cs st rest x said = λ i. record {
       answer = said i .answer;
-      queue = (given-settled q a bits nexts (numberOf d) _ (ap (λ (y : RowsReceived). y .answer) said)
-          ∙ accepted-settled q long d small (x .fresh) (x .near) (x .room) (x .reliables) (datagram (stateOf q cs st) (framesIn d) .next) (a .low) (a .ascending) bits nexts
-          (ap (λ (y : RowsReceived). y .low) said) (ap (λ (y : RowsReceived). y .ascending) said) (ap (λ (y : RowsReceived). y .bits) said) (ap (λ (y : RowsReceived). y .nexts) said) many-bits many-nexts) i;
+      queue = (given-settled q a bits nexts (datagramNumber d) _ (ap (λ (y : RowsReceived). y .answer) said)
+          ∙ accepted-settled q long d small (x .fresh) (x .near) (x .room) (x .reliables)
+          (datagram (stateOf q cs st) (framesIn d) .state .next)
+          (a .low) (a .ascending) bits nexts
+          (ap (λ (y : RowsReceived). y .low) said) (ap (λ (y : RowsReceived). y .ascending) said) (ap (λ (y : RowsReceived). y .bits) said)
+          (ap (λ (y : RowsReceived). y .nexts) said) many-bits many-nexts) i;
       rows = said i .rows;
       after = said i .after;
       store = said i .store;
     }
 
     first-settles : (cells : ℕ) (cs : List Cell) (st : List ℕ) → Settles (receiveFirst q cells cs st d)
-    unfolding receiveFirst withRest refusedOf
+    unfolding receiveFirst withRest refusedResult
     first-settles cells cs st =
         by-true Settles (lengths cells (length st))
         (λ _. by-le Settles (length cs) cells
-        (λ _. receive-ways q cs (take (cellBytes * length cs) st) d (λ (x : Received). Settles (withRest (drop (cellBytes * length cs) st) x)) (λ number. refusal-settles cs (take (cellBytes * length cs) st ++ drop (cellBytes * length cs) st) number) (given-settles cs (take (cellBytes * length cs) st) (drop (cellBytes * length cs) st)))
+        (λ _. receive-ways q cs (take (cellBytes * length cs) st) d
+        (λ (x : Received). Settles (withRest (drop (cellBytes * length cs) st) x))
+        (λ number. refusal-settles cs (take (cellBytes * length cs) st ++ drop (cellBytes * length cs) st) number)
+        (given-settles cs (take (cellBytes * length cs) st) (drop (cellBytes * length cs) st)))
         (λ _. refusal-settles cs st 9))
         (λ _. refusal-settles cs st 9)
 
@@ -163,8 +187,12 @@ module _ (q : RecvQueue) (k cells : ℕ) (ws st d : List ℕ) (long : Long q) wh
   unfolding receiveRowsOf
   rows-are = ap (rowsOutcome q (firstRows k ws) (afterRows k ws)) (sym (true-yes _ _ _ _ (fits q long) refl))
 
-pub core-settled : (q : RecvQueue) (k cells : ℕ) (ws st d : List ℕ) (a : PassedRows) (bits nexts ws′ st′ : List ℕ) → Long q → numberOf d < numbers24 → length bits ≡ length (q .reliables .bits) → length nexts ≡ length (nextsOf (q .channels))
-    → CoreSays (queueOf (headsOf q) (q .datagrams .bits) (q .reliables .bits) (nextsOf (q .channels)) (q .unsent)) k cells ws st d a bits nexts ws′ st′ → CallSays q k cells ws st d (a .answer) (settledOf q a bits nexts (numberOf d)) ws′ st′
+pub core-settled : (q : RecvQueue) (k cells : ℕ) (ws st d : List ℕ) (a : PassedRows) (bits nexts ws′ st′ : List ℕ) → Long q
+    → datagramNumber d < numbers24 → length bits ≡ length (q .reliables .bits) → length nexts ≡ length (nextsOf (q .channels))
+    → CoreSays (queueOf (headsOf q) (q .datagrams .bits) (q .reliables .bits) (nextsOf (q .channels)) (q .unsent)) k cells ws st d a bits
+    nexts ws′ st′ → CallSays q k cells ws st d (a .answer) (settledOf q a bits nexts (datagramNumber d)) ws′ st′
 unfolding receiveWithOf
 core-settled q k cells ws st d a bits nexts ws′ st′ long small many-bits many-nexts said =
-    first-settles q (firstRows k ws) (afterRows k ws) d a bits nexts (firstRows k ws′) (afterRows k ws′) st′ long small many-bits many-nexts cells (firstCells k ws) st (said ∙ ap (λ (z : RecvQueue). receiveRowsOf z k cells ws st d) (own-parts q) ∙ rows-are q k cells ws st d long)
+    first-settles q (firstRows k ws) (afterRows k ws) d a bits nexts (firstRows k ws′) (afterRows k ws′) st′ long small many-bits many-nexts
+    cells (firstCells k ws) st (said ∙ ap (λ (z : RecvQueue). receiveRowsOf z k cells ws st d) (own-parts q) ∙ rows-are q k cells ws st
+    d long)

@@ -3,12 +3,12 @@ use Prim.Native.Nat.{ℕ}
 use mathlib.Core.List.{List}
 use Rattle.base.specs.Answer.{Answer}
 use Rattle.rows.specs.declared.Row.{Row}
-use Rattle.slots.specs.First.{firstRows, afterRows, firstCells}
-use Rattle.recv.specs.declared.RecvQueue.{RecvQueue}
-use Rattle.recv.specs.Receive.{Report}
-use Rattle.narrow.specs.Receiving.{receiveFirst}
-use Rattle.pass.specs.declared.Receive.{Receive}
-use Rattle.pass.specs.Outcome.{receiveAnswer, rowsOutcome}
+use Rattle.row_slots.specs.First.{firstRows, afterRows, firstCells}
+use Rattle.receiver.specs.declared.RecvQueue.{RecvQueue}
+use Rattle.receiver.specs.Receive.{Report}
+use Rattle.recv_prefix.specs.Receiving.{receiveFirst}
+use Rattle.recv_steps.specs.declared.Receive.{Receive}
+use Rattle.recv_steps.specs.Outcome.{receiveAnswer, rowsOutcome}
 
 -- the answer, the receiver, the rows, the words after them, and the store
 pub record ReceivedWith : Type 0 where

@@ -7,11 +7,11 @@ use Rattle.base.specs.If.{ifTrue, ifLt}
 use Rattle.base.specs.Limits.{maxUnsent}
 use Rattle.base.specs.Put.{put}
 use Rattle.window.specs.Window.{windowOf, insertOf}
-use Rattle.recv.specs.declared.RecvQueue.{RecvQueue}
-use Rattle.unsent.specs.Unsent.{joinedBy}
-use Rattle.channel.specs.Advance.{advancedAll}
-use Rattle.pass.specs.declared.PassedRows.{PassedRows}
-use Rattle.pass.specs.Outcome.{receiveAnswer}
+use Rattle.receiver.specs.declared.RecvQueue.{RecvQueue}
+use Rattle.recv_unsent.specs.Unsent.{joinedBy}
+use Rattle.recv_channel.specs.Advance.{advancedAll}
+use Rattle.recv_steps.specs.declared.PassedRows.{PassedRows}
+use Rattle.recv_steps.specs.Outcome.{receiveAnswer}
 
 -- a refusal's number, or values that the call gives
 unfoldable pub isRefusal : {A : Type 0} → Answer A → Bool

@@ -1,19 +1,19 @@
 // Receive and take on a lent receiver and rows of words. The core works on copies of the reliable numbers' bits and of the channels' nexts;
 // where it accepts the datagram they are written back, each array where it lies, so a refusal changes nothing of the receiver.
-use pass::PassedRows;
-use pass::Receive;
-use recv::Heads;
-use recv::RecvQueue;
-use takes::TakenRows;
+use receiver::Heads;
+use receiver::RecvQueue;
+use recv_steps::PassedRows;
+use recv_steps::Receive;
+use recv_take::TakenRows;
 ghost use mathlib.Core.Path.{_≡_};
 ghost use Prim.Native.Nat.{_<_};
 ghost use Rattle.base.specs.Limits.{numbers24};
 ghost use Rattle.window.specs.Window.{windowOf, insertOf};
-ghost use Rattle.slots.specs.First.{firstRows, afterRows};
-ghost use Rattle.recv.specs.Receive.{numberOf};
-ghost use Rattle.recv.specs.Parts.{headsOf, queueOf};
-ghost use Rattle.pass.specs.Outcome.{rowsPassed, receiveRowsOf, receiveAnswer};
-ghost use Rattle.takes.specs.Outcome.{takenRows, takeRowsOf};
+ghost use Rattle.row_slots.specs.First.{firstRows, afterRows};
+ghost use Rattle.receiver.specs.Receive.{datagramNumber};
+ghost use Rattle.receiver.specs.Parts.{headsOf, queueOf};
+ghost use Rattle.recv_steps.specs.Outcome.{rowsPassed, receiveRowsOf, receiveAnswer};
+ghost use Rattle.recv_take.specs.Outcome.{takenRows, takeRowsOf};
 ghost use Rattle.recv_lent.specs.Settled.{isRefusal, nextPending, withNumber, settledOf};
 ghost use Rattle.recv_lent.specs.Calls.{receivedWith, receiveWithOf};
 
@@ -26,7 +26,7 @@ fn bits_of(queue: &RecvQueue) -> [u8; 256]
 
 // The datagram's number: 24 bits, since a lent slice's elements are known to be bytes once they are read.
 fn number_of(datagram: &[u8]) -> u32
-    ensures { λ r. ⌜ (r ≡ numberOf (now (datagram .entry))) × (r < numbers24) ⌝ }
+    ensures { λ r. ⌜ (r ≡ datagramNumber (now (datagram .entry))) × (r < numbers24) ⌝ }
 {
     base::byte(datagram, 1);
     base::byte(datagram, 2);
@@ -45,8 +45,10 @@ fn receive_on(
     store: &mut [u8],
     datagram: &[u8],
 ) -> PassedRows
-    ensures { λ r. ⌜ rowsPassed r (now (rbits .exit)) (now (nexts .exit)) (firstRows k (now (words .exit))) (afterRows k (now (words .exit))) (now (store .exit))
-        ≡ receiveRowsOf (queueOf (headsOf (now (queue .entry))) (now (queue .entry) .datagrams .bits) (now (rbits .entry)) (now (nexts .entry)) (now (queue .entry) .unsent))
+    ensures { λ r. ⌜ rowsPassed r (now (rbits .exit)) (now (nexts .exit)) (firstRows k (now (words .exit)))
+        (afterRows k (now (words .exit))) (now (store .exit))
+        ≡ receiveRowsOf (queueOf (headsOf (now (queue .entry))) (now (queue .entry) .datagrams .bits) (now (rbits .entry))
+        (now (nexts .entry)) (now (queue .entry) .unsent))
         k cells (now (words .entry)) (now (store .entry)) (now (datagram .entry)) ⌝ }
 {
     let h = Heads {
@@ -54,7 +56,7 @@ fn receive_on(
         reliables: queue.reliables.low,
         pending: queue.pending,
     };
-    pass::receive_rows(
+    recv_steps::receive_rows(
         h,
         &queue.datagrams.bits,
         rbits,
@@ -109,7 +111,7 @@ fn accept(queue: &mut RecvQueue, low: u32, bits: &[u8], number: u32, ascending: 
     let k = queue.pending;
     base::put_bytes(&mut queue.reliables.bits, 0, bits);
     let after = accept_in(before, &mut queue.datagrams.bits, number);
-    unsent::join_number(&mut queue.unsent, k, number, ascending);
+    recv_unsent::join_number(&mut queue.unsent, k, number, ascending);
     let pending = next_pending(k);
     queue.datagrams.low = after;
     queue.reliables.low = low;
@@ -123,7 +125,7 @@ fn settle(queue: &mut RecvQueue, r: PassedRows, bits: &[u8], nexts: &[u32], numb
     if is_refused(r) {
         return;
     }
-    channel::advance_all(queue, nexts);
+    recv_channel::advance_all(queue, nexts);
     accept(queue, r.low, bits, number, r.ascending);
 }
 
@@ -136,11 +138,12 @@ pub fn receive_with(
     store: &mut [u8],
     datagram: &[u8],
 ) -> Receive
-    ensures { λ r. ⌜ receivedWith r (now (queue .exit)) (firstRows k (now (words .exit))) (afterRows k (now (words .exit))) (now (store .exit))
+    ensures { λ r. ⌜ receivedWith r (now (queue .exit)) (firstRows k (now (words .exit))) (afterRows k (now (words .exit)))
+        (now (store .exit))
         ≡ receiveWithOf (now (queue .entry)) k cells (now (words .entry)) (now (store .entry)) (now (datagram .entry)) ⌝ }
 {
     let mut bits = bits_of(queue);
-    let mut nexts = channel::nexts_of(queue);
+    let mut nexts = recv_channel::nexts_of(queue);
     let number = number_of(datagram);
     let r = receive_on(
         queue,
@@ -165,15 +168,16 @@ pub fn take_with(
     store: &[u8],
     joined: &mut [u8],
 ) -> TakenRows
-    ensures { λ r. ⌜ takenRows r (now (joined .exit)) ≡ takeRowsOf (now (queue .entry)) k cells (now (words .entry)) (now (store .entry)) (now (joined .entry)) ⌝ }
+    ensures { λ r. ⌜ takenRows r (now (joined .exit)) ≡ takeRowsOf (now (queue .entry)) k cells (now (words .entry)) (now (store .entry))
+        (now (joined .entry)) ⌝ }
 {
-    let nexts = channel::nexts_of(queue);
+    let nexts = recv_channel::nexts_of(queue);
     let h = Heads {
         datagrams: queue.datagrams.low,
         reliables: queue.reliables.low,
         pending: queue.pending,
     };
-    takes::take_rows(
+    recv_take::take_rows(
         h,
         &queue.datagrams.bits,
         &queue.reliables.bits,

@@ -1,5 +1,6 @@
 -- How many cells a new receiver has, and what the call returns and leaves: the cases of `make_new` and its callees.
-use Rattle.walks.proofs.Walk.{_≡_, refl, subst, ℕ, zero, suc, _<_, _≤_, arith, Bool, true, false, not, List, length, replicate, T, ltb, ltb-false}
+use Rattle.walks.proofs.Walk.{_≡_, refl, subst, ℕ, zero, suc, _<_, _≤_, arith, Bool, true, false, not, List, length, replicate, T, ltb}
+use Rattle.walks.proofs.Walk.{ltb-false}
 use lib.Dec.{leb}
 use borrow.Author.Tests.{leb-true}
 use Rattle.base.specs.Limits.{maxOrdChans, maxUnsent}
@@ -9,8 +10,8 @@ use Rattle.window.specs.declared.ReliableWindow.{ReliableWindow}
 use Rattle.window.specs.Window.{newWindow}
 use Rattle.cells.specs.Cell.{Cell, emptyCell}
 use Rattle.cells.specs.Sound.{lengths}
-use Rattle.recv.specs.declared.RecvQueue.{RecvQueue}
-use Rattle.recv.specs.Queue.{newQueue}
+use Rattle.receiver.specs.declared.RecvQueue.{RecvQueue}
+use Rattle.receiver.specs.Queue.{newQueue}
 use Rattle.recv_new.specs.declared.MakeNew.the-variants.{BadLengths, Made}
 use Rattle.recv_new.specs.New.{makeNewOf, newAnswer, madeNew, cellsMade, answerOf, cleared}
 use Rattle.recv_new.proofs.Cleared.{cleared-all}
@@ -18,7 +19,13 @@ use Rattle.recv_new.proofs.Cleared.{cleared-all}
 -- ---- `new_queue`
 
 pub queue-made : (d r : ReliableWindow) → d ≡ newWindow → r ≡ newWindow
-    → record { datagrams = d; reliables = r; channels = replicate maxOrdChans (record { next = 0 }); unsent = replicate maxUnsent 0; pending = 0 } ≡ newQueue
+    → record {
+      datagrams = d;
+      reliables = r;
+      channels = replicate maxOrdChans (record { next = 0 });
+      unsent = replicate maxUnsent 0;
+      pending = 0;
+    } ≡ newQueue
 unfolding newQueue
 queue-made d r e f = rw (e, f)
 

@@ -6,7 +6,7 @@ use mathlib.Core.List.{List, _∷_, _++_, append-nil}
 use lib.ListN.{length, set, getD, drop, replicate, length-append, length-drop, length-replicate}
 use lib.Seq.{drop-cons, drop-length, set-at}
 use Rattle.cells.specs.Cell.{Cell}
-use Rattle.slots.specs.First.{blank}
+use Rattle.row_slots.specs.First.{blank}
 use Rattle.recv_new.specs.New.{cleared}
 
 pub cleared-none : (rs : List Cell) → rs ≡ cleared rs 0
@@ -23,7 +23,11 @@ one-more (suc n) l = ap (λ (k : List Cell). blank ∷ k) (one-more n l)
 
 pub cleared-more : (rs : List Cell) (i : ℕ) → i < length rs → set (cleared rs i) i blank ≡ cleared rs (suc i)
 unfolding cleared
-cleared-more rs i l = rw (drop-cons rs i blank l, set-at (replicate i blank) (getD rs i blank) (drop (suc i) rs) blank i (length-replicate i blank)) (one-more i (drop (suc i) rs))
+cleared-more rs i l = rw (
+  drop-cons rs i blank l,
+  set-at (replicate i blank) (getD rs i blank) (drop (suc i) rs) blank i
+      (length-replicate i blank),
+) (one-more i (drop (suc i) rs))
 
 pub cleared-all : (rs : List Cell) → cleared rs (length rs) ≡ replicate (length rs) blank
 unfolding cleared

@@ -6,9 +6,9 @@ use Rattle.base.specs.Answer.{Answer, refused, gives}
 use Rattle.base.specs.If.{ifTrue}
 use Rattle.cells.specs.Cell.{Cell, emptyCell}
 use Rattle.cells.specs.Sound.{lengths}
-use Rattle.slots.specs.First.{blank}
-use Rattle.recv.specs.declared.RecvQueue.{RecvQueue}
-use Rattle.recv.specs.Queue.{newQueue}
+use Rattle.row_slots.specs.First.{blank}
+use Rattle.receiver.specs.declared.RecvQueue.{RecvQueue}
+use Rattle.receiver.specs.Queue.{newQueue}
 use Rattle.recv_new.specs.declared.MakeNew.{MakeNew}
 use Rattle.recv_new.specs.declared.MakeNew.the-variants.{BadLengths, Made}
 

@@ -1,13 +1,13 @@
 // Make new: a receiver over lent records and a lent store.
 use cells::CellRecord;
-use recv::Channel;
-use recv::RecvQueue;
+use receiver::Channel;
+use receiver::RecvQueue;
 use window::ReliableWindow;
 ghost use mathlib.Core.Path.{_≡_};
 ghost use Prim.Native.Nat.{_<_, _≤_};
 ghost use lib.ListN.{length, set};
-ghost use Rattle.slots.specs.First.{blank};
-ghost use Rattle.recv.specs.Queue.{newQueue};
+ghost use Rattle.row_slots.specs.First.{blank};
+ghost use Rattle.receiver.specs.Queue.{newQueue};
 ghost use Rattle.recv_new.specs.New.{cellsMade, answerOf, madeNew, makeNewOf, cleared};
 
 // BadLengths is document 01's 9.
@@ -80,7 +80,7 @@ pub fn unused() -> CellRecord
     ensures { λ r. ⌜ r ≡ blank ⌝ }
 {
     CellRecord {
-        used: 0,
+        used: cells::UNUSED,
         kind: 0,
         channel: 0,
         id: 0,

@@ -7,9 +7,9 @@ use lib.ListN.{length, getD, take, drop, length-append, length-drop, length-map,
 use lib.Seq.{sets-eq, take-suc, take-at, drop-append-add, drop-drop, length-take-le, getD-take}
 use Rattle.cells.specs.Cell.{Cell}
 use Rattle.rows.specs.Rows.{rowWords, rowAt, cellOf}
-use Rattle.slots.specs.First.{firstCells, blank, storedRow}
+use Rattle.row_slots.specs.First.{firstCells, blank, storedRow}
 use Rattle.recv_queue.specs.Records.{wordsIn, putRow, wordsOf, loaded}
-use Rattle.slots.proofs.First.{listed-ext, first-cells}
+use Rattle.row_slots.proofs.First.{listed-ext, first-cells}
 use Rattle.recv_queue.proofs.Words.{listed-take, words-append, words-length, row-of-words}
 
 first-length : (rs : List Cell) (n : ℕ) → n ≤ length rs → length (wordsOf (map storedRow (take n rs))) ≡ rowWords * n
@@ -24,7 +24,12 @@ loaded-none rs ws = refl
 
 pub loaded-length : (rs : List Cell) (ws : List ℕ) (n : ℕ) → n ≤ length rs → rowWords * n ≤ length ws → length (loaded rs n ws) ≡ length ws
 unfolding loaded
-loaded-length rs ws n l room = omega (arith, length-append (wordsOf (map storedRow (take n rs))) (drop (rowWords * n) ws), length-drop (rowWords * n) ws, first-length rs n l)
+loaded-length rs ws n l room = omega (
+  arith,
+  length-append (wordsOf (map storedRow (take n rs))) (drop (rowWords * n) ws),
+  length-drop (rowWords * n) ws,
+  first-length rs n l,
+)
 
 -- record i is written as row i
 pub loaded-more : (rs : List Cell) (ws : List ℕ) (i : ℕ) → i < length rs → rowWords * i + rowWords ≤ length ws
@@ -34,11 +39,15 @@ loaded-more rs ws i l room =
     let c : Cell = getD rs i blank in
     let W : List ℕ = wordsOf (map storedRow (take i rs)) in
     let len : length W ≡ rowWords * i = first-length rs i (omega arith) in
-    let fits : rowWords * i + rowWords ≤ length (W ++ drop (rowWords * i) ws) = omega (arith, length-append W (drop (rowWords * i) ws), length-drop (rowWords * i) ws) in
+    let fits : rowWords * i + rowWords ≤ length (W ++ drop (rowWords * i) ws) =
+    omega (arith, length-append W (drop (rowWords * i) ws), length-drop (rowWords * i) ws) in
     let e₁ : take (rowWords * i) (W ++ drop (rowWords * i) ws) ≡ W = take-at W (drop (rowWords * i) ws) (rowWords * i) len in
-    let e₂ : drop (rowWords * i + rowWords) (W ++ drop (rowWords * i) ws) ≡ drop (rowWords * i + rowWords) ws = rw (← len, drop-append-add W (drop (length W) ws) rowWords, drop-drop) in
+    let e₂ : drop (rowWords * i + rowWords) (W ++ drop (rowWords * i) ws) ≡ drop (rowWords * i + rowWords) ws =
+    rw (← len, drop-append-add W (drop (length W) ws) rowWords, drop-drop) in
     let e₃ : rowWords * suc i ≡ rowWords * i + rowWords = omega arith in
-    let e₄ : wordsOf (map storedRow (take (suc i) rs)) ≡ W ++ wordsIn (storedRow c) = rw (take-suc rs i blank l, map-append storedRow (take i rs) (c ∷ [])) (words-append (map storedRow (take i rs)) (storedRow c ∷ [])) in
+    let e₄ : wordsOf (map storedRow (take (suc i) rs)) ≡ W ++ wordsIn (storedRow c) =
+    rw (take-suc rs i blank l, map-append storedRow (take i rs) (c ∷ [])) (words-append (map storedRow (take i rs)) (storedRow c ∷ []))
+    in
     sets-eq (wordsIn (storedRow c)) (W ++ drop (rowWords * i) ws) (rowWords * i) fits ∙ rw (e₁, e₂, e₃, e₄)
 
 -- ---- the rows that the words hold
@@ -52,9 +61,11 @@ loaded-row rs ws n i l m =
     ∙ (List·getD-map storedRow (take n rs) i blank ∙ ap storedRow (getD-take n rs i blank m))
 
 -- The cells of the loaded words are the first n records.
-pub loaded-cells : (rs : List Cell) (ws : List ℕ) (n : ℕ) → n ≤ length rs → rowWords * n ≤ length ws → firstCells n (loaded rs n ws) ≡ take n rs
+pub loaded-cells : (rs : List Cell) (ws : List ℕ) (n : ℕ) → n ≤ length rs → rowWords * n ≤ length ws → firstCells n (loaded rs n ws)
+    ≡ take n rs
 unfolding cellOf storedRow
 loaded-cells rs ws n l room =
     let enough : rowWords * n ≤ length (loaded rs n ws) = omega (arith, loaded-length rs ws n l room) in
     first-cells (loaded rs n ws) n enough
-    ∙ (listed-ext (λ i. cellOf (rowAt (loaded rs n ws) i)) (λ i. getD rs i blank) n (λ i m. ap cellOf (loaded-row rs ws n i l m)) ∙ listed-take rs n blank l)
+    ∙ (listed-ext (λ i. cellOf (rowAt (loaded rs n ws) i)) (λ i. getD rs i blank) n (λ i m. ap cellOf (loaded-row rs ws n i l m))
+    ∙ listed-take rs n blank l)

@@ -10,18 +10,18 @@ use Rattle.cells.specs.Cell.{Cell}
 use Rattle.cells.specs.Sound.{lengths}
 use Rattle.rows.specs.declared.Row.{Row}
 use Rattle.rows.specs.Rows.{rowWords, cellOf}
-use Rattle.slots.specs.First.{firstRows, afterRows, firstCells}
-use Rattle.slots.proofs.First.{first-cells-of, stored-cells}
-use Rattle.recv.specs.declared.RecvQueue.{RecvQueue}
-use Rattle.recv.specs.Receive.{Report, Received, refusedOf, acceptedOf, receiveOf}
-use Rattle.recv.proofs.Ways.{by-true, by-le, receive-ways}
-use Rattle.narrow.specs.Needs.{lastUsed, receiveNeeds}
-use Rattle.narrow.specs.Receiving.{withRest, beside, receiveFirst}
-use Rattle.narrow.proofs.Enough.{receive-enough}
-use Rattle.narrow.proofs.Used.{last-within}
-use Rattle.narrow.proofs.Needs.{receive-few}
-use Rattle.pass.specs.declared.Receive.{Receive}
-use Rattle.pass.specs.Outcome.{receiveAnswer, rowsAccepted, rowsByAnswer, rowsOutcome}
+use Rattle.row_slots.specs.First.{firstRows, afterRows, firstCells}
+use Rattle.row_slots.proofs.First.{first-cells-of, stored-cells}
+use Rattle.receiver.specs.declared.RecvQueue.{RecvQueue}
+use Rattle.receiver.specs.Receive.{Report, Received, refusedResult, acceptedResult, receiveOf}
+use Rattle.receiver.proofs.AnswerCases.{by-true, by-le, receive-ways}
+use Rattle.recv_prefix.specs.Needs.{lastUsed, receiveNeeds}
+use Rattle.recv_prefix.specs.Receiving.{withRest, beside, receiveFirst}
+use Rattle.recv_prefix.proofs.Enough.{receive-enough}
+use Rattle.recv_prefix.proofs.Used.{last-within}
+use Rattle.recv_prefix.proofs.Needs.{receive-few}
+use Rattle.recv_steps.specs.declared.Receive.{Receive}
+use Rattle.recv_steps.specs.Outcome.{receiveAnswer, rowsAccepted, rowsByAnswer, rowsOutcome}
 use Rattle.recv_lent.specs.Calls.{ReceivedWith, receivedWith, receiveWithOf}
 use Rattle.recv_queue.specs.Records.{loaded, saved}
 use Rattle.recv_queue.specs.Answers.{received, rowsWritten}
@@ -35,7 +35,8 @@ Enough rs st d k = k ≡ receiveNeeds (lastUsed rs) (length rs) (length st) d
 pub enough-few : (rs : List Cell) (st d : List ℕ) (k : ℕ) → Enough rs st d k → (k ≤ length rs) × (k ≤ maxCells)
 enough-few rs st d k is = receive-few (lastUsed rs) (length rs) (length st) d k is (last-within rs)
 
--- what the core promises of the receiver q, where it gets k rows of c in the words ws, the store st and the datagram d, answers r and leaves the receiver h, the words w and the store s
+-- what the core promises of the receiver q, where it gets k rows of c in the words ws, the store st and the datagram d, answers r and
+-- leaves the receiver h, the words w and the store s
 abbrev pub CoreSays : RecvQueue → ℕ → ℕ → List ℕ → List ℕ → List ℕ → Receive → RecvQueue → List ℕ → List ℕ → Type 0
 CoreSays q c k ws st d r h w s = receivedWith r h (firstRows k w) (afterRows k w) s ≡ receiveWithOf q k c ws st d
 
@@ -55,19 +56,23 @@ given-not x number e = subst (λ (a : Answer Report). unless a) e tt
     unless (gives y) = Unit {0}
 
 call-leaves : (q : RecvQueue) (cs : List Cell) (st d : List ℕ) → Leaves cs (receiveOf q cs st d)
-unfolding refusedOf acceptedOf
+unfolding refusedResult acceptedResult
 call-leaves q cs st d = receive-ways q cs st d (Leaves cs) (λ n m e. refl) (λ a m e. absurd (given-not _ m e))
 
 first-leaves : (q : RecvQueue) (n : ℕ) (cs : List Cell) (st d : List ℕ) → Leaves cs (receiveFirst q n cs st d)
-unfolding receiveFirst refusedOf withRest
+unfolding receiveFirst refusedResult withRest
 first-leaves q n cs st d =
-    by-true (Leaves cs) (lengths n (length st)) (λ t. by-le (Leaves cs) (length cs) n (λ l. call-leaves q cs (take (cellBytes * length cs) st) d) (λ l m e. refl)) (λ t m e. refl)
+    by-true (Leaves cs) (lengths n (length st)) (λ t. by-le (Leaves cs) (length cs) n
+    (λ l. call-leaves q cs (take (cellBytes * length cs) st) d) (λ l m e. refl)) (λ t m e. refl)
 
 -- ---- the records that are saved
-module _ (q : RecvQueue) (rs : List Cell) (k : ℕ) (w : List ℕ) (room : rowWords * k ≤ length w) (rows : List Row) (after : List ℕ) (x : Received) (leaves : Leaves (take k rs) x) where
-  saved-by : (a : Answer Report) → a ≡ x .answer → firstRows k w ≡ rowsByAnswer a q rows after x .rows → saved rs (rowsWritten a k) w ≡ x .records ++ drop k rs
+module _ (q : RecvQueue) (rs : List Cell) (k : ℕ) (w : List ℕ) (room : rowWords * k ≤ length w) (rows : List Row) (after : List ℕ)
+    (x : Received) (leaves : Leaves (take k rs) x) where
+  saved-by : (a : Answer Report) → a ≡ x .answer → firstRows k w ≡ rowsByAnswer a q rows after x .rows → saved rs (rowsWritten a k) w
+      ≡ x .records ++ drop k rs
   unfolding rowsWritten rowsByAnswer rowsAccepted
-  saved-by (refused number) e is = sym (saved-none rs w) ∙ (sym (take-append-drop k rs) ∙ ap (λ (cs : List Cell). cs ++ drop k rs) (sym (leaves number (sym e))))
+  saved-by (refused number) e is = sym (saved-none rs w) ∙ (sym (take-append-drop k rs) ∙ ap (λ (cs : List Cell). cs ++ drop k rs)
+      (sym (leaves number (sym e))))
   saved-by (gives report) e is =
       let cells : firstCells k w ≡ x .records = first-cells-of k w ∙ (ap (map cellOf) is ∙ stored-cells (x .records)) in
       saved-cells rs w k room ∙ ap (λ (cs : List Cell). cs ++ drop k rs) cells
@@ -81,22 +86,33 @@ module _ (q : RecvQueue) (rs : List Cell) (st d : List ℕ) (k : ℕ) (is : Enou
   first = receiveFirst q (length rs) (take k rs) st d
 
   received-of : (r : Receive) (h : RecvQueue) (w s : List ℕ) (rows : List Row) (after : List ℕ) → rowWords * k ≤ length w
-      → receiveAnswer r ≡ first .answer → h ≡ first .queue → firstRows k w ≡ rowsOutcome q rows after first .rows → s ≡ first .store → CallSays q rs st d r h (saved rs (rowsWritten (receiveAnswer r) k) w) s
+      → receiveAnswer r ≡ first .answer → h ≡ first .queue → firstRows k w ≡ rowsOutcome q rows after first .rows → s ≡ first .store
+      → CallSays q rs st d r h (saved rs (rowsWritten (receiveAnswer r) k) w) s
   unfolding received beside rowsOutcome
   received-of r h w s rows after room answer queue left store =
       let zs : saved rs (rowsWritten (receiveAnswer r) k) w ≡ first .records ++ drop k rs =
-      saved-by q rs k w room rows after first (first-leaves q (length rs) (take k rs) st d) (receiveAnswer r) answer (left ∙ ap (λ (a : Answer Report). rowsByAnswer a q rows after first .rows) (sym answer))
+      saved-by q rs k w room rows after first (first-leaves q (length rs) (take k rs) st d) (receiveAnswer r) answer
+      (left ∙ ap (λ (a : Answer Report). rowsByAnswer a q rows after first .rows) (sym answer))
       in
       let e : received r h (saved rs (rowsWritten (receiveAnswer r) k) w) s ≡ beside (drop k rs) first = rw (zs, answer, queue, store) in
       e ∙ sym (receive-enough q rs st d k is)
 
   -- The call's promise, of what its body does.
-  pub received-in : (ws : List ℕ) (r : Receive) (h : RecvQueue) (w s : List ℕ) → rowWords * k ≤ length ws → length w ≡ length ws → CoreSays q (length rs) k (loaded rs k ws) st d r h w s
+  pub received-in : (ws : List ℕ) (r : Receive) (h : RecvQueue) (w s : List ℕ) → rowWords * k ≤ length ws → length w ≡ length ws
+      → CoreSays q (length rs) k (loaded rs k ws) st d r h w s
       → CallSays q rs st d r h (saved rs (rowsWritten (receiveAnswer r) k) w) s
   unfolding receivedWith receiveWithOf
   received-in ws r h w s room len said =
       let ls : List ℕ = loaded rs k ws in
       let cells : firstCells k ls ≡ take k rs = loaded-cells rs ws k few room in
-      let of : Received → ReceivedWith = λ x. record { answer = x .answer; queue = x .queue; rows = rowsOutcome q (firstRows k ls) (afterRows k ls) x .rows; after = rowsOutcome q (firstRows k ls) (afterRows k ls) x .after; store = x .store } in
-      let e : receivedWith r h (firstRows k w) (afterRows k w) s ≡ of first = said ∙ ap (λ (cs : List Cell). of (receiveFirst q (length rs) cs st d)) cells in
-      received-of r h w s (firstRows k ls) (afterRows k ls) (omega arith) (ap (λ (x : ReceivedWith). x .answer) e) (ap (λ (x : ReceivedWith). x .queue) e) (ap (λ (x : ReceivedWith). x .rows) e) (ap (λ (x : ReceivedWith). x .store) e)
+      let of : Received → ReceivedWith = λ x. record {
+        answer = x .answer;
+        queue = x .queue;
+        rows = rowsOutcome q (firstRows k ls) (afterRows k ls) x .rows;
+        after = rowsOutcome q (firstRows k ls) (afterRows k ls) x .after;
+        store = x .store;
+      } in
+      let e : receivedWith r h (firstRows k w) (afterRows k w) s ≡ of first =
+      said ∙ ap (λ (cs : List Cell). of (receiveFirst q (length rs) cs st d)) cells in
+      received-of r h w s (firstRows k ls) (afterRows k ls) (omega arith) (ap (λ (x : ReceivedWith). x .answer) e)
+      (ap (λ (x : ReceivedWith). x .queue) e) (ap (λ (x : ReceivedWith). x .rows) e) (ap (λ (x : ReceivedWith). x .store) e)

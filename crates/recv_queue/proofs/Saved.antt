@@ -8,9 +8,9 @@ use lib.Seq.{drop-cons, set-at, append-snoc}
 use Rattle.cells.specs.Cell.{Cell}
 use Rattle.rows.specs.Rows.{rowWords, rowAt, listed, cellOf}
 use Rattle.rows.proofs.Listed.{listed-length}
-use Rattle.slots.specs.First.{firstCells, blank}
+use Rattle.row_slots.specs.First.{firstCells, blank}
 use Rattle.recv_queue.specs.Records.{saved}
-use Rattle.slots.proofs.First.{first-cells}
+use Rattle.row_slots.proofs.First.{first-cells}
 
 -- the records of the first n rows
 abbrev records : ℕ → List ℕ → List Cell
@@ -23,12 +23,23 @@ saved-none rs ws = refl
 
 pub saved-length : (rs : List Cell) (ws : List ℕ) (n : ℕ) → n ≤ length rs → length (saved rs n ws) ≡ length rs
 unfolding saved
-saved-length rs ws n l = omega (arith, length-append (records n ws) (drop n rs), length-drop n rs, listed-length (λ i. cellOf (rowAt ws i)) n)
+saved-length rs ws n l = omega (
+  arith,
+  length-append (records n ws) (drop n rs),
+  length-drop n rs,
+  listed-length (λ i. cellOf (rowAt ws i))
+      n,
+)
 
 -- record i is read from row i
 pub saved-more : (rs : List Cell) (ws : List ℕ) (i : ℕ) → i < length rs → set (saved rs i ws) i (cellOf (rowAt ws i)) ≡ saved rs (suc i) ws
 unfolding saved listed
-saved-more rs ws i l = rw (drop-cons rs i blank l, set-at (records i ws) (getD rs i blank) (drop (suc i) rs) (cellOf (rowAt ws i)) i (listed-length (λ j. cellOf (rowAt ws j)) i), append-snoc)
+saved-more rs ws i l = rw (
+  drop-cons rs i blank l,
+  set-at (records i ws) (getD rs i blank) (drop (suc i) rs) (cellOf (rowAt ws i)) i
+      (listed-length (λ j. cellOf (rowAt ws j)) i),
+  append-snoc,
+)
 
 -- The first n records are the cells of the words' first n rows.
 pub saved-cells : (rs : List Cell) (ws : List ℕ) (n : ℕ) → rowWords * n ≤ length ws → saved rs n ws ≡ firstCells n ws ++ drop n rs

@@ -9,7 +9,7 @@ use Rattle.rows.specs.declared.Row.{Row}
 use Rattle.rows.specs.Rows.{rowWords, field, rowAt, listed, rowCount, rowsOf}
 use Rattle.rows.specs.Whole.{rest}
 use Rattle.rows.proofs.Stores as Stores
-use Rattle.slots.proofs.First.{listed-ext, row-same}
+use Rattle.row_slots.proofs.First.{listed-ext, row-same}
 use Rattle.recv_queue.specs.Records.{wordsIn, wordsOf, putRow}
 
 -- the first n elements of a list, by index
@@ -68,8 +68,10 @@ pub same-words : (vs ws : List ℕ) → rowsOf vs ≡ rowsOf ws → rest vs ≡ 
 same-words vs ws e f = sym (words-back vs) ∙ rw (e, f) (words-back ws)
 
 -- What `put_row` leaves is the words with another row i.
-pub put-row-is : (ws w : List ℕ) (i : ℕ) (r : Row) → rowWords * i + rowWords ≤ length ws → (x : Row) → x ≡ r → rowsOf w ≡ set (rowsOf ws) i x → rest w ≡ rest ws → w ≡ putRow ws i r
+pub put-row-is : (ws w : List ℕ) (i : ℕ) (r : Row) → rowWords * i + rowWords ≤ length ws → (x : Row) → x ≡ r → rowsOf w
+    ≡ set (rowsOf ws) i x → rest w ≡ rest ws → w ≡ putRow ws i r
 unfolding putRow Stores.putRow
 put-row-is ws w i r room x is e f =
-    same-words w (Stores.putRow ws i r) (e ∙ (ap (set (rowsOf ws) i) is ∙ sym (Stores.rows-put ws i r (omega arith)))) (f ∙ sym (Stores.rest-put ws i r (omega arith)))
+    same-words w (Stores.putRow ws i r) (e ∙ (ap (set (rowsOf ws) i) is ∙ sym (Stores.rows-put ws i r (omega arith))))
+    (f ∙ sym (Stores.rest-put ws i r (omega arith)))
     ∙ sym (sets-eq (wordsIn r) ws (rowWords * i) room)

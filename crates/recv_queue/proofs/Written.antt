@@ -7,14 +7,15 @@ use mathlib.Core.List.{[], _∷_}
 use types.Run.{OneOf, miss}
 use denote.Enum.Declared.{tagOf}
 use Rattle.base.specs.Answer.{Answer, refused, gives}
-use Rattle.pass.specs.declared.Receive.{Receive}
-use Rattle.pass.specs.declared.Receive.the-variants.{NotSound, TooShort, TooLong, NotDatagram, Old, Beyond, UnsentFull, ReliableBeyond, NoRoom, Accepted}
-use Rattle.pass.specs.Outcome.{receiveAnswer}
-use Rattle.pass.proofs.Receive as R
-use Rattle.takes.specs.declared.Take.{Take}
-use Rattle.takes.specs.declared.Take.the-variants.{NotSound as Unsound, NoneReady, ShortBuffer, InStore, Joined}
-use Rattle.takes.specs.Outcome.{takeAnswer}
-use Rattle.takes.proofs.Take as T
+use Rattle.recv_steps.specs.declared.Receive.{Receive}
+use Rattle.recv_steps.specs.declared.Receive.the-variants.{NotSound, TooShort, TooLong, NotDatagram, Old, Beyond, UnsentFull}
+use Rattle.recv_steps.specs.declared.Receive.the-variants.{ReliableBeyond, NoRoom, Accepted}
+use Rattle.recv_steps.specs.Outcome.{receiveAnswer}
+use Rattle.recv_steps.proofs.Receive as R
+use Rattle.recv_take.specs.declared.Take.{Take}
+use Rattle.recv_take.specs.declared.Take.the-variants.{NotSound as Unsound, NoneReady, ShortBuffer, InStore, Joined}
+use Rattle.recv_take.specs.Outcome.{takeAnswer}
+use Rattle.recv_take.proofs.Take as T
 use Rattle.recv_queue.specs.Answers.{rowsWritten}
 
 pub written-within : {A : Type 0} (a : Answer A) (k : ℕ) → rowsWritten a k ≤ k
@@ -35,7 +36,8 @@ saved-all ReliableBeyond n k = absurd (miss (9 ∷ []) 7 tt k)
 saved-all NoRoom n k = absurd (miss (9 ∷ []) 8 tt k)
 saved-all (Accepted ready dropped left) n k = refl
 
-pub saved-no : (a : Receive) (n : ℕ) → OneOf (0 ∷ 1 ∷ 2 ∷ 3 ∷ 4 ∷ 5 ∷ 6 ∷ 7 ∷ 8 ∷ []) (tagOf R.the-type a) → 0 ≡ rowsWritten (receiveAnswer a) n
+pub saved-no : (a : Receive) (n : ℕ) → OneOf (0 ∷ 1 ∷ 2 ∷ 3 ∷ 4 ∷ 5 ∷ 6 ∷ 7 ∷ 8 ∷ []) (tagOf R.the-type a) → 0
+    ≡ rowsWritten (receiveAnswer a) n
 unfolding rowsWritten receiveAnswer
 saved-no NotSound n k = refl
 saved-no TooShort n k = refl

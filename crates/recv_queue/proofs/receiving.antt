@@ -1,5 +1,5 @@
 mod Core
-mod In
+mod CallsReceiveIn
 mod Sizes
 mod Sized
-mod Out
+mod CallsReceiveMore

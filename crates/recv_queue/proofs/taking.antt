@@ -1,5 +1,5 @@
 mod Core
-mod In
+mod CallsTakeIn
 mod Sizes
 mod Sized
-mod Out
+mod CallsTakeMore

@@ -3,10 +3,10 @@ use Prim.Native.Nat.{ℕ}
 use mathlib.Core.List.{List}
 use Rattle.base.specs.Answer.{Answer, refused, gives}
 use Rattle.cells.specs.Cell.{Cell}
-use Rattle.recv.specs.declared.RecvQueue.{RecvQueue}
-use Rattle.recv.specs.Receive.{Received}
-use Rattle.pass.specs.declared.Receive.{Receive}
-use Rattle.pass.specs.Outcome.{receiveAnswer}
+use Rattle.receiver.specs.declared.RecvQueue.{RecvQueue}
+use Rattle.receiver.specs.Receive.{Received}
+use Rattle.recv_steps.specs.declared.Receive.{Receive}
+use Rattle.recv_steps.specs.Outcome.{receiveAnswer}
 
 -- a receive's outcome, of what it returns and of the last values of receiver, records and store
 unfoldable pub received : Receive → RecvQueue → List Cell → List ℕ → Received

@@ -9,7 +9,7 @@ use lib.Seq.{sets}
 use Rattle.cells.specs.Cell.{Cell, bears, readyAs, emptyCell}
 use Rattle.rows.specs.declared.Row.{Row}
 use Rattle.rows.specs.Rows.{rowWords, rowAt, listed, cellOf}
-use Rattle.slots.specs.First.{blank, storedRow}
+use Rattle.row_slots.specs.First.{blank, storedRow}
 
 -- the words of a row, and of rows
 abbrev pub wordsIn : Row → List ℕ
@@ -32,12 +32,12 @@ unfoldable pub saved : List Cell → ℕ → List ℕ → List Cell
 saved cs n ws = listed (λ i. cellOf (rowAt ws i)) n ++ drop n cs
 
 -- what a take of the ready message of that turn leaves of a record
-unfoldable pub leftBy : ℕ → Cell → Cell
-leftBy turn c = cond (bears (readyAs turn) c) emptyCell c
+unfoldable pub recordLeftBy : ℕ → Cell → Cell
+recordLeftBy turn c = cond (bears (readyAs turn) c) emptyCell c
 
 -- the records cs of which the first n are left by it so
 unfoldable pub freedTo : List Cell → ℕ → ℕ → List Cell
-freedTo cs n turn = map (leftBy turn) (take n cs) ++ drop n cs
+freedTo cs n turn = map (recordLeftBy turn) (take n cs) ++ drop n cs
 
 -- is one of eight uses other than 0? and of the eight records from i on?
 unfoldable pub anyUsed : ℕ → ℕ → ℕ → ℕ → ℕ → ℕ → ℕ → ℕ → Bool

@@ -1,31 +1,31 @@
-// "One record stands beside each cell, in a lent slice of structs": receive and take over such a slice, and the few functions that touch it; the
-// other calls are offered here too. The cores of receive and take work on rows of words.
+// "One record stands beside each cell, in a lent slice of structs": receive and take over such a slice, and the few functions that touch
+// it; the other calls are offered here too. The cores of receive and take work on rows of words.
 use rows::Row;
 ghost use mathlib.Core.Path.{_≡_};
 ghost use Prim.Native.Nat.{_<_, _≤_, _+_, _*_};
 ghost use lib.ListN.{length, set, getD};
 ghost use Rattle.cells.specs.Cell.{bears, readyAs};
 ghost use Rattle.rows.specs.Rows.{rowWords, rowAt, cellOf};
-ghost use Rattle.slots.specs.First.{blank, storedRow};
-ghost use Rattle.narrow.specs.Needs.{usedIn, lastUsed};
-ghost use Rattle.recv_queue.specs.Records.{anyUsed, eightUsed, putRow, loaded, saved, leftBy, freedTo};
+ghost use Rattle.row_slots.specs.First.{blank, storedRow};
+ghost use Rattle.recv_prefix.specs.Needs.{usedIn, lastUsed};
+ghost use Rattle.recv_queue.specs.Records.{anyUsed, eightUsed, putRow, loaded, saved, recordLeftBy, freedTo};
 
 pub mod receiving;
 pub mod taking;
 
-pub use acks::WriteQueue;
-pub use acks::write_missing;
-pub use acks::write_unsent;
 pub use cells::CellRecord;
-pub use pass::Receive;
+pub use receiver::RecvQueue;
 pub use receiving::receive;
-pub use recv::RecvQueue;
+pub use recv_acks::WriteQueue;
+pub use recv_acks::write_missing;
+pub use recv_acks::write_unsent;
+pub use recv_body::body;
 pub use recv_new::MakeNew;
 pub use recv_new::make_new;
 pub use recv_new::new_queue;
 pub use recv_new::unused;
-pub use taken::body;
-pub use takes::Take;
+pub use recv_steps::Receive;
+pub use recv_take::Take;
 pub use taking::take;
 
 // A call works on the records that it may need, and zeroes words for them: of five sizes, the last for as many records as a receiver
@@ -105,13 +105,13 @@ fn put_record(records: &mut [CellRecord], i: usize, r: CellRecord)
 fn is_taken(r: CellRecord, turn: u32) -> bool
     ensures { λ x. ⌜ x ≡ bears (readyAs turn) r ⌝ }
 {
-    (r.used == 3) & (r.turn == turn)
+    (r.used == cells::READY) & (r.turn == turn)
 }
 
 // Record i becomes unused where it is of the message taken.
 fn free_at(records: &mut [CellRecord], i: usize, turn: u32)
     requires { ⌜ i < length (now records) ⌝ }
-    ensures { λ _. ⌜ now (records .exit) ≡ set (now (records .entry)) i (leftBy turn (getD (now (records .entry)) i blank)) ⌝ }
+    ensures { λ _. ⌜ now (records .exit) ≡ set (now (records .entry)) i (recordLeftBy turn (getD (now (records .entry)) i blank)) ⌝ }
 {
     let r = record_at(records, i);
     if is_taken(r, turn) {

@@ -1,14 +1,14 @@
 // Receive: the records that it may need are loaded as rows, the core works on these, and where it accepts the datagram they are saved.
 use cells::CellRecord;
-use pass::Receive;
-use recv::RecvQueue;
+use receiver::RecvQueue;
+use recv_steps::Receive;
 ghost use mathlib.Core.Path.{_≡_};
 ghost use Prim.Native.Nat.{_≤_, _+_, _*_, min};
 ghost use lib.ListN.{length};
 ghost use Rattle.rows.specs.Rows.{rowWords};
-ghost use Rattle.recv.specs.Receive.{receiveOf};
-ghost use Rattle.narrow.specs.Needs.{lastUsed, receiveNeeds};
-ghost use Rattle.pass.specs.Outcome.{receiveAnswer};
+ghost use Rattle.receiver.specs.Receive.{receiveOf};
+ghost use Rattle.recv_prefix.specs.Needs.{lastUsed, receiveNeeds};
+ghost use Rattle.recv_steps.specs.Outcome.{receiveAnswer};
 ghost use Rattle.recv_queue.specs.Call.{fewCells, smallCells, middleCells, manyCells, mostCells};
 ghost use Rattle.recv_queue.specs.Answers.{received, rowsWritten};
 

@@ -1,15 +1,15 @@
 // Take: the records that it may need are loaded as rows, the core reads these, and where it gives a message its records are freed.
 use cells::CellRecord;
-use recv::RecvQueue;
-use takes::Take;
-use takes::TakenRows;
+use receiver::RecvQueue;
+use recv_take::Take;
+use recv_take::TakenRows;
 ghost use mathlib.Core.Path.{_≡_};
 ghost use Prim.Native.Nat.{_≤_, _*_};
 ghost use lib.ListN.{length};
 ghost use Rattle.rows.specs.Rows.{rowWords};
-ghost use Rattle.recv.specs.Take.{takeOf};
-ghost use Rattle.narrow.specs.Needs.{lastUsed, takeNeeds};
-ghost use Rattle.takes.specs.Outcome.{takeResult, takeAnswer};
+ghost use Rattle.receiver.specs.Take.{takeOf};
+ghost use Rattle.recv_prefix.specs.Needs.{lastUsed, takeNeeds};
+ghost use Rattle.recv_take.specs.Outcome.{takeResult, takeAnswer};
 ghost use Rattle.recv_queue.specs.Call.{fewCells, smallCells, middleCells, manyCells, mostCells};
 ghost use Rattle.recv_queue.specs.Answers.{rowsWritten};
 

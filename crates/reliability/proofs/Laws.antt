@@ -22,7 +22,14 @@ small k =
     let d = when-le (hasOrder k) 4 in
     let d′ = when-le (hasOrder k) (afterSequence k) in
     let e = when-le (hasOrder k) (afterSequence k + 3) in
-    record { reliable = omega arith; sequence = omega arith; order = omega arith; channel = omega arith; low = omega arith; header = omega arith }
+    record {
+      reliable = omega arith;
+      sequence = omega arith;
+      order = omega arith;
+      channel = omega arith;
+      low = omega arith;
+      header = omega arith;
+    }
 
 -- each field lies in the header: three bytes for a number, and one for the channel
 pub record Inside (f : KindFields) : Type 0 where
@@ -53,7 +60,12 @@ there true = refl
 there false = refl
 
 none-from-8 : (k : ℕ) → 8 ≤ k → hasReliable k ≡ false
-none-from-8 k ge = rw (ne-eqb k 2 (λ e. omega arith), ne-eqb k 3 (λ e. omega arith), ne-eqb k 4 (λ e. omega arith), ne-eqb k 7 (λ e. omega arith))
+none-from-8 k ge = rw (
+  ne-eqb k 2 (λ e. omega arith),
+  ne-eqb k 3 (λ e. omega arith),
+  ne-eqb k 4 (λ e. omega arith),
+  ne-eqb k 7 (λ e. omega arith),
+)
 
 pub reliable-there : (k : ℕ) (f : KindFields) → f ≡ fieldsOf k → (ltb k 8 && not (eqb (f .reliable) 0)) ≡ hasReliable k
 unfolding fieldsOf

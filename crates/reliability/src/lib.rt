@@ -2,8 +2,8 @@
 ghost use mathlib.Core.Path.{_≡_};
 ghost use Rattle.reliability.specs.Kinds.{fieldsOf, hasReliable, Small};
 
-// What a frame of a kind carries: for each field the place in the header, counted from the frame's first byte, or 0 where the kind lacks it;
-// and how many bytes the header takes, without a piece's.
+// What a frame of a kind carries: for each field the place in the header, counted from the frame's first byte, or 0 where the kind lacks
+// it; and how many bytes the header takes, without a piece's.
 pub struct KindFields {
     pub reliable: usize,
     pub sequence: usize,

@@ -20,7 +20,7 @@ use Rattle.rows.specs.declared.Row.{Row}
 use Rattle.rows.specs.Rows.{rowCount, rowsOf, cellOf, cellsIn, markRow, changeRows}
 use Rattle.rows.specs.Whole.{wholeRow}
 use Rattle.row_tests.specs.Uses.{uses}
-use Rattle.rows.proofs.ForBase.{count-append, map-append}
+use Rattle.rows.proofs.ListMaps.{count-append, map-append}
 use Rattle.rows.proofs.Rows.{whole-is}
 use Rattle.rows.proofs.Below.{cellsBelow, below-none, below-more, below-all}
 use Rattle.row_ranks.specs.Renumber.{renumbered, firstTurns, isBelow, rankRow}
@@ -50,7 +50,8 @@ module _ (t : ℕ) (l : List ℕ) where
   rank-end {i} a b e = let q : i ≡ length l = omega arith in e ∙ rw (q, take-length l)
 
 -- a row with the rank k of its turn
-pub rank-row : (turns : List ℕ) (r : Row) {k : ℕ} {q : Row} → k ≡ countOf (isBelow (r .turn)) turns → q ≡ markRow 3 k r → q ≡ rankRow turns r
+pub rank-row : (turns : List ℕ) (r : Row) {k : ℕ} {q : Row} → k ≡ countOf (isBelow (r .turn)) turns → q ≡ markRow 3 k r → q
+    ≡ rankRow turns r
 unfolding rankRow
 rank-row turns r e q = rw (← e) q
 
@@ -76,13 +77,15 @@ module _ (ws d : List ℕ) where
   unfolding firstTurns only
   copy-starts = record { count = rw (below-none ws); few = omega arith; long = refl; front = rw (below-none ws) }
 
-  module _ {i m : ℕ} {now : List ℕ} (h : Copied ws d i m now) {r : Row} (inside : i < rowCount ws) (q : r ≡ wholeRow ws i) {b : Bool} (t : b ≡ firstCell (cellOf r)) where
+  module _ {i m : ℕ} {now : List ℕ} (h : Copied ws d i m now) {r : Row} (inside : i < rowCount ws) (q : r ≡ wholeRow ws i) {b : Bool}
+      (t : b ≡ firstCell (cellOf r)) where
     more : firstTurns (cellsBelow ws (i + 1)) ≡ firstTurns (cellsBelow ws i ++ (cellOf r ∷ []))
     more = rw (below-more ws i, q, whole-is ws i inside)
 
     pub copy-no : b ≡ false → Copied ws d (i + 1) m now
     copy-no y =
-        let e : firstTurns (cellsBelow ws (i + 1)) ≡ firstTurns (cellsBelow ws i) = more ∙ first-no (cellsBelow ws i) (cellOf r) (sym t ∙ y) in
+        let e : firstTurns (cellsBelow ws (i + 1)) ≡ firstTurns (cellsBelow ws i) = more ∙ first-no (cellsBelow ws i) (cellOf r) (sym t ∙ y)
+        in
         record { count = rw e (h .count); few = omega (arith, h .few); long = h .long; front = rw e (h .front) }
 
     turn-of : cellOf r .turn ≡ r .turn
@@ -92,12 +95,14 @@ module _ (ws d : List ℕ) where
     pub copy-yes : b ≡ true → rowCount ws ≤ length d → Copied ws d (i + 1) (m + 1) (set now m (r .turn))
     copy-yes y room =
         let l : m < length d = omega (arith, h .few) in
-        let e : firstTurns (cellsBelow ws (i + 1)) ≡ firstTurns (cellsBelow ws i) ++ (r .turn ∷ []) = more ∙ first-yes (cellsBelow ws i) (cellOf r) (sym t ∙ y) ∙ rw turn-of in
+        let e : firstTurns (cellsBelow ws (i + 1)) ≡ firstTurns (cellsBelow ws i) ++ (r .turn ∷ []) =
+        more ∙ first-yes (cellsBelow ws i) (cellOf r) (sym t ∙ y) ∙ rw turn-of in
         record {
           count = rw (e, length-append (firstTurns (cellsBelow ws i)) (r .turn ∷ [])) (omega (arith, h .count));
           few = omega (arith, h .few);
           long = length-set now m (r .turn) ∙ h .long;
-          front = rw (e, h .front, drop-cons d m 0 l, add-one m) (set-at (firstTurns (cellsBelow ws i)) (getD d m 0) (drop (suc m) d) (r .turn) m (sym (h .count)) ∙ sym (append-snoc (firstTurns (cellsBelow ws i)) (r .turn) (drop (suc m) d)));
+          front = rw (e, h .front, drop-cons d m 0 l, add-one m) (set-at (firstTurns (cellsBelow ws i)) (getD d m 0) (drop (suc m) d)
+              (r .turn) m (sym (h .count)) ∙ sym (append-snoc (firstTurns (cellsBelow ws i)) (r .turn) (drop (suc m) d)));
         }
 
   pub copy-ends : {i m : ℕ} {now : List ℕ} → Copied ws d i m now → i ≤ rowCount ws → rowCount ws ≤ i
@@ -115,11 +120,13 @@ rank-firsts t [] = refl
 rank-firsts t (c ∷ cs) = ranked (eqb (c .used) 3 && eqb (c .index) 0) (rank-firsts t cs)
   where
     ranked : (v : Bool) → countOf (isBelow t) (firstTurns cs) ≡ countOf (beforeCell t) cs
-        → countOf (isBelow t) (map (λ (x : Cell). x .turn) (cond v (c ∷ only firstCell cs) (only firstCell cs))) ≡ cond (v && ltb (c .turn) t) (suc (countOf (beforeCell t) cs)) (countOf (beforeCell t) cs)
+        → countOf (isBelow t) (map (λ (x : Cell). x .turn) (cond v (c ∷ only firstCell cs) (only firstCell cs)))
+        ≡ cond (v && ltb (c .turn) t) (suc (countOf (beforeCell t) cs)) (countOf (beforeCell t) cs)
     ranked true e = ap (λ (n : ℕ). cond (ltb (c .turn) t) (suc n) n) e
     ranked false e = e
 
-pub renumber-is : (ws turns old : List ℕ) {m : ℕ} {rs : List Row} → rowCount ws ≤ maxCells → m ≡ length (firstTurns (cellsIn ws)) → turns ≡ firstTurns (cellsIn ws) ++ drop m old
+pub renumber-is : (ws turns old : List ℕ) {m : ℕ} {rs : List Row} → rowCount ws ≤ maxCells → m ≡ length (firstTurns (cellsIn ws)) → turns
+    ≡ firstTurns (cellsIn ws) ++ drop m old
     → rs ≡ changeRows (uses 3) (rankRow (take m turns)) (rowsOf ws) → rs ≡ renumbered ws
 unfolding renumbered rankRow
 renumber-is ws turns old {m} h n e r =
@@ -131,6 +138,7 @@ unfolding renumbered
 renumber-none ws h = le-no _ _ _ _ _ h refl
 
 -- What `renumber` makes of as many rows as there may be cells.
-pub renumbered-is : (ws : List ℕ) → rowCount ws ≤ maxCells → renumbered ws ≡ changeRows (uses 3) (λ r. markRow 3 (countOf (beforeCell (r .turn)) (cellsIn ws)) r) (rowsOf ws)
+pub renumbered-is : (ws : List ℕ) → rowCount ws ≤ maxCells → renumbered ws
+    ≡ changeRows (uses 3) (λ r. markRow 3 (countOf (beforeCell (r .turn)) (cellsIn ws)) r) (rowsOf ws)
 unfolding renumbered
 renumbered-is ws h = sym (le-yes _ _ _ _ _ h refl)

@@ -19,12 +19,13 @@ use Rattle.cells.specs.Records.{firstCell}
 use Rattle.rows.specs.declared.Row.{Row}
 use Rattle.rows.specs.Rows.{rowCount, cellOf, cellsIn}
 use Rattle.rows.specs.Whole.{wholeRow}
-use Rattle.rows.proofs.ForBase.{count-append, every-append}
+use Rattle.rows.proofs.ListMaps.{count-append, every-append}
 use Rattle.rows.proofs.Rows.{whole-is}
 use Rattle.rows.proofs.Below.{cellsBelow, below-none, below-more, below-all, below-length}
 use Rattle.row_tests.specs.Uses.{uses}
 use Rattle.row_ranks.specs.declared.Turns.{Turns}
-use Rattle.row_ranks.specs.Renumber.{lesser, greater, withTurn, markAt, isNew, markedWith, gapless, excess, firstAt, between, Surveyed}
+use Rattle.row_ranks.specs.Renumber.{lesser, greater, withTurn, markAt, isNew, markedWith, gapless, excess, firstOfTurn, between}
+use Rattle.row_ranks.specs.Renumber.{Surveyed}
 
 module _ (a b : ℕ) where
   pub lesser-yes : a < b → a ≡ lesser a b
@@ -57,7 +58,7 @@ module _ (a b : ℕ) where
 pub record Marked (n : ℕ) (cs : List Cell) (marks : List ℕ) (t : Turns) : Type 0 where
   pub long : length marks ≡ n
   pub told : Surveyed cs t
-  pub clear : (v : ℕ) → getD marks (v % n) 0 ≡ 0 → countOf (firstAt v) cs ≡ 0
+  pub clear : (v : ℕ) → getD marks (v % n) 0 ≡ 0 → countOf (firstOfTurn v) cs ≡ 0
 
 module _ (n : ℕ) (cs : List Cell) (marks : List ℕ) (t : Turns) (h : Marked n cs marks t) (c : Cell) where
   more : (p : Cell → Bool) → countOf p (cs ++ (c ∷ [])) ≡ countOf p cs + cond (p c) 1 0
@@ -69,8 +70,8 @@ module _ (n : ℕ) (cs : List Cell) (marks : List ℕ) (t : Turns) (h : Marked n
     unfolding firstCell
     not-first = rw u
 
-    not-at : (v : ℕ) → firstAt v c ≡ false
-    unfolding firstAt
+    not-at : (v : ℕ) → firstOfTurn v c ≡ false
+    unfolding firstOfTurn
     not-at v = rw not-first
 
     pub other-cell : Marked n (cs ++ (c ∷ [])) marks t
@@ -79,10 +80,10 @@ module _ (n : ℕ) (cs : List Cell) (marks : List ℕ) (t : Turns) (h : Marked n
       long = h .long;
       told = record {
         count = h .told .count ∙ (let e = more firstCell in omega (arith, rw not-first at e));
-        once = λ v. let e = more (firstAt v) in omega (arith, rw (not-at v) at e, h .told .once v);
+        once = λ v. let e = more (firstOfTurn v) in omega (arith, rw (not-at v) at e, h .told .once v);
         within = every-append (between (t .least) (t .top)) cs (c ∷ []) ∙ rw (h .told .within, u);
       };
-      clear = λ v z. let e = more (firstAt v) in omega (arith, rw (not-at v) at e, h .clear v z);
+      clear = λ v z. let e = more (firstOfTurn v) in omega (arith, rw (not-at v) at e, h .clear v z);
     }
 
   module _ (u : uses 3 c ≡ true) (new : isNew marks c ≡ true) (room : 0 < n) where
@@ -90,8 +91,8 @@ module _ (n : ℕ) (cs : List Cell) (marks : List ℕ) (t : Turns) (h : Marked n
     unfolding firstCell
     first-is = rw u
 
-    at-is : (v : ℕ) → firstAt v c ≡ (eqb (c .index) 0 && eqb (c .turn) v)
-    unfolding firstAt
+    at-is : (v : ℕ) → firstOfTurn v c ≡ (eqb (c .index) 0 && eqb (c .turn) v)
+    unfolding firstOfTurn
     at-is v = rw first-is
 
     count-more : withTurn t c .firsts ≡ countOf firstCell (cs ++ (c ∷ []))
@@ -113,23 +114,24 @@ module _ (n : ℕ) (cs : List Cell) (marks : List ℕ) (t : Turns) (h : Marked n
         (λ q. (unfold markedWith markAt in rw (y, h .long, getD-set-other marks (c .turn % n) g 1 0 (eqb-false _ _ q)) at z)))
         (λ y. (unfold markedWith in rw y at z))
 
-    first-here : (v : ℕ) → firstAt v c ≡ true → (eqb (c .index) 0 ≡ true) × (c .turn ≡ v)
+    first-here : (v : ℕ) → firstOfTurn v c ≡ true → (eqb (c .index) 0 ≡ true) × (c .turn ≡ v)
     first-here v y = let e = sym (at-is v) ∙ y in (and-left (eqb (c .index) 0) _ e, eqb-true _ _ (and-right (eqb (c .index) 0) _ e))
 
-    once-more : (v : ℕ) → countOf (firstAt v) (cs ++ (c ∷ [])) ≤ 1
-    once-more v = cases (firstAt v c)
+    once-more : (v : ℕ) → countOf (firstOfTurn v) (cs ++ (c ∷ [])) ≤ 1
+    once-more v = cases (firstOfTurn v c)
         (λ y. let f = first-here v y in
-        let e = rw y at (more (firstAt v)) in
+        let e = rw y at (more (firstOfTurn v)) in
         let none = h .clear v (rw (f .1) at (clear-mark (f .0))) in
         omega arith)
-        (λ y. let e = rw y at (more (firstAt v)) in omega (arith, h .told .once v))
+        (λ y. let e = rw y at (more (firstOfTurn v)) in omega (arith, h .told .once v))
 
-    clear-more : (v : ℕ) → getD (markedWith marks c) (v % n) 0 ≡ 0 → countOf (firstAt v) (cs ++ (c ∷ [])) ≡ 0
-    clear-more v z = cases (firstAt v c)
+    clear-more : (v : ℕ) → getD (markedWith marks c) (v % n) 0 ≡ 0 → countOf (firstOfTurn v) (cs ++ (c ∷ [])) ≡ 0
+    clear-more v z = cases (firstOfTurn v c)
         (λ y. let f = first-here v y in
-        let e : getD (markedWith marks c) (v % n) 0 ≡ 1 = ap (λ (k : ℕ). getD (markedWith marks c) (k % n) 0) (sym (f .1)) ∙ set-mark (f .0) in
+        let e : getD (markedWith marks c) (v % n) 0 ≡ 1 = ap (λ (k : ℕ). getD (markedWith marks c) (k % n) 0) (sym (f .1))
+        ∙ set-mark (f .0) in
         absurd (omega arith))
-        (λ y. let e = rw y at (more (firstAt v)) in omega (arith, h .clear v (kept-mark (v % n) z)))
+        (λ y. let e = rw y at (more (firstOfTurn v)) in omega (arith, h .clear v (kept-mark (v % n) z)))
 
     long-more : length (markedWith marks c) ≡ n
     unfolding markedWith
@@ -156,15 +158,24 @@ module _ (n : ℕ) (cs : List Cell) (marks : List ℕ) (t : Turns) (h : Marked n
     unfolding every
     within-more =
         every-append (between (withTurn t c .least) (withTurn t c .top)) cs (c ∷ [])
-        ∙ and-both _ _ (every-all (between (withTurn t c .least) (withTurn t c .top)) cs (λ d m. wider d (every-mem (between (t .least) (t .top)) cs (h .told .within) d m))) (rw own-between)
+        ∙ and-both _ _ (every-all (between (withTurn t c .least) (withTurn t c .top)) cs
+        (λ d m. wider d (every-mem (between (t .least) (t .top)) cs (h .told .within) d m))) (rw own-between)
 
     pub ready-cell : Marked n (cs ++ (c ∷ [])) (markedWith marks c) (withTurn t c)
-    ready-cell = record { long = long-more; told = record { count = count-more; once = once-more; within = within-more }; clear = clear-more }
+    ready-cell = record {
+      long = long-more;
+      told = record { count = count-more; once = once-more; within = within-more };
+      clear = clear-more;
+    }
 
 -- The rows passed, in the code's ways.
 pub survey-starts : (ws marks : List ℕ) (t : Turns) → t .firsts ≡ 0 → Marked (length marks) (cellsBelow ws 0) marks t
 unfolding countOf every
-survey-starts ws marks t e = rw (below-none ws) (record { long = refl; told = record { count = e; once = λ v. omega arith; within = refl }; clear = λ v z. refl })
+survey-starts ws marks t e = rw (below-none ws) (record {
+  long = refl;
+  told = record { count = e; once = λ v. omega arith; within = refl };
+  clear = λ v z. refl;
+})
 
 module _ (ws : List ℕ) {n i : ℕ} {marks : List ℕ} {t : Turns} (h : Marked n (cellsBelow ws i) marks t) where
   pub few-firsts : t .firsts ≤ i
@@ -177,7 +188,8 @@ module _ (ws : List ℕ) {n i : ℕ} {marks : List ℕ} {t : Turns} (h : Marked 
     pub survey-other : b ≡ false → Marked n (cellsBelow ws (i + 1)) marks t
     survey-other y = rw grown (other-cell n (cellsBelow ws i) marks t h (cellOf r) (sym e ∙ y))
 
-    pub survey-ready : {v : Bool} {new : List ℕ} {s : Turns} → 0 < n → b ≡ true → v ≡ isNew marks (cellOf r) → v ≡ true → new ≡ markedWith marks (cellOf r) → s ≡ withTurn t (cellOf r) → Marked n (cellsBelow ws (i + 1)) new s
+    pub survey-ready : {v : Bool} {new : List ℕ} {s : Turns} → 0 < n → b ≡ true → v ≡ isNew marks (cellOf r) → v ≡ true → new
+        ≡ markedWith marks (cellOf r) → s ≡ withTurn t (cellOf r) → Marked n (cellsBelow ws (i + 1)) new s
     survey-ready l y f z g k = rw (grown, g, k) (ready-cell n (cellsBelow ws i) marks t h (cellOf r) (sym e ∙ y) (sym f ∙ z) l)
 
   pub survey-ends : i ≤ rowCount ws → rowCount ws ≤ i → Surveyed (cellsIn ws) t
@@ -206,12 +218,14 @@ module _ (t : Turns) where
   unfolding excess
   excess-none l = rw (lt-ltb (t .top) (t .least) l)
 
-  pub turn-is : (r : Row) {k a b : ℕ} → k ≡ cond (eqb (r .index) 0) 1 0 → a ≡ lesser (t .least) (r .turn) → b ≡ greater (t .top) (r .turn) → record { firsts = t .firsts + k; least = a; top = b } ≡ withTurn t (cellOf r)
+  pub turn-is : (r : Row) {k a b : ℕ} → k ≡ cond (eqb (r .index) 0) 1 0 → a ≡ lesser (t .least) (r .turn) → b ≡ greater (t .top) (r .turn)
+      → record { firsts = t .firsts + k; least = a; top = b } ≡ withTurn t (cellOf r)
   unfolding withTurn cellOf
   turn-is r e f g = rw (e, f, g)
 
 module _ (marks : List ℕ) (r : Row) where
-  pub new-first : r .index ≡ 0 → (eqb (getD marks (r .turn % length marks) 0) 0 ≡ isNew marks (cellOf r)) × (set marks (r .turn % length marks) 1 ≡ markedWith marks (cellOf r))
+  pub new-first : r .index ≡ 0 → (eqb (getD marks (r .turn % length marks) 0) 0 ≡ isNew marks (cellOf r))
+      × (set marks (r .turn % length marks) 1 ≡ markedWith marks (cellOf r))
   unfolding isNew markedWith markAt cellOf
   new-first e = rw (eq-eqb (r .index) 0 e) (refl, refl)
 

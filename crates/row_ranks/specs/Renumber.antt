@@ -8,7 +8,7 @@ use lib.ListN.{length, getD, set}
 use Rattle.base.specs.If.{ifLe}
 use Rattle.base.specs.Limits.{maxCells}
 use Rattle.base.specs.Lists.{every, countOf, only}
-use Rattle.cells.specs.Cell.{Cell}
+use Rattle.cells.specs.Cell.{Cell, readyUse}
 use Rattle.cells.specs.Records.{firstCell, beforeCell}
 use Rattle.rows.specs.declared.Row.{Row}
 use Rattle.rows.specs.Rows.{rowCount, rowsOf, cellsIn, markRow, changeRows}
@@ -19,7 +19,7 @@ use Rattle.row_ranks.specs.declared.Turns.{Turns}
 unfoldable pub renumbered : List ℕ → List Row
 renumbered ws =
     ifLe (rowCount ws) maxCells
-    (changeRows (uses 3) (λ r. markRow 3 (countOf (beforeCell (r .turn)) (cellsIn ws)) r) (rowsOf ws))
+    (changeRows (uses readyUse) (λ r. markRow readyUse (countOf (beforeCell (r .turn)) (cellsIn ws)) r) (rowsOf ws))
     (rowsOf ws)
 
 -- ---- how it is computed
@@ -33,7 +33,11 @@ greater a b = cond (ltb a b) b a
 
 -- with one more ready cell: the first cells' number, and of all ready cells the least and the greatest turn
 unfoldable pub withTurn : Turns → Cell → Turns
-withTurn t c = record { firsts = t .firsts + cond (eqb (c .index) 0) 1 0; least = lesser (t .least) (c .turn); top = greater (t .top) (c .turn) }
+withTurn t c = record {
+  firsts = t .firsts + cond (eqb (c .index) 0) 1 0;
+  least = lesser (t .least) (c .turn);
+  top = greater (t .top) (c .turn);
+}
 
 -- Marks for first cells, by their turns' remainders. A ready cell that is first has its mark set, and is new where it was not.
 unfoldable pub markAt : List ℕ → Cell → ℕ
@@ -54,19 +58,19 @@ unfoldable pub excess : Turns → ℕ
 excess t = cond (ltb (t .top) (t .least)) 0 (t .least)
 
 unfoldable pub lowerRow : ℕ → Row → Row
-lowerRow by r = markRow 3 (r .turn - by) r
+lowerRow by r = markRow readyUse (r .turn - by) r
 
 -- a ready message's first cell of this turn, and a ready cell of a turn between these two
-unfoldable pub firstAt : ℕ → Cell → Bool
-firstAt turn c = firstCell c && eqb (c .turn) turn
+unfoldable pub firstOfTurn : ℕ → Cell → Bool
+firstOfTurn turn c = firstCell c && eqb (c .turn) turn
 
 unfoldable pub between : ℕ → ℕ → Cell → Bool
-between least top c = not (uses 3 c) || (leb least (c .turn) && leb (c .turn) top)
+between least top c = not (uses readyUse c) || (leb least (c .turn) && leb (c .turn) top)
 
 -- what a survey of the cells tells: first cells counted, each of another turn, and the bounds of the ready cells' turns
 pub record Surveyed (cs : List Cell) (t : Turns) : Type 0 where
   pub count : t .firsts ≡ countOf firstCell cs
-  pub once : (v : ℕ) → countOf (firstAt v) cs ≤ 1
+  pub once : (v : ℕ) → countOf (firstOfTurn v) cs ≤ 1
   pub within : every (between (t .least) (t .top)) cs ≡ true
 
 -- the turns of the ready messages, each as its first record has it
@@ -78,4 +82,4 @@ isBelow t u = ltb u t
 
 -- a row whose turn becomes the number of those turns that are below it
 unfoldable pub rankRow : List ℕ → Row → Row
-rankRow turns r = markRow 3 (countOf (isBelow (r .turn)) turns) r
+rankRow turns r = markRow readyUse (countOf (isBelow (r .turn)) turns) r

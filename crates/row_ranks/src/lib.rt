@@ -1,7 +1,8 @@
-// The ready messages' turns become 0, 1, 2, .. in their order. Mostly they follow one another, since a take frees the least one: then each is lowered by
-// the least, and nothing is written where that is 0. Else a rank is counted over the turns as they were, so these are copied first, one for each ready
-// message. Copy and marks are local arrays for as many rows as document 01 has cells. More rows are left as they are: a count of them all need not fit
-// a turn.
+// (A crate of its own only for the gate: a must-fail edit costs a check of its crate.) The ready messages' turns become 0, 1, 2, .. in
+// their order. Mostly they follow one another, since a take frees the least one: then each is lowered by the least, and nothing is written
+// where that is 0. Else a rank is counted over the turns as they were, so these are copied first, one for each ready message. Copy and
+// marks are local arrays for as many rows as document 01 has cells. More rows are left as they are: a count of them all need not fit a
+// turn.
 use rows::ROW;
 use rows::Row;
 ghost use mathlib.Core.Path.{_≡_};
@@ -15,12 +16,15 @@ ghost use Rattle.rows.specs.Rows.{rowCount, rowsOf, cellOf, cellsIn, changeRow,
 ghost use Rattle.rows.specs.Whole.{wholeRow, rest};
 ghost use Rattle.row_tests.specs.Uses.{uses};
 ghost use Rattle.row_ranks.specs.Renumber as Renumber;
-ghost use Rattle.row_ranks.specs.Renumber.{renumbered, withTurn, isNew, markedWith, gapless, Surveyed, lowerRow, firstTurns, isBelow, rankRow};
+ghost use Rattle.row_ranks.specs.Renumber.{renumbered, withTurn, isNew, markedWith, gapless, Surveyed, lowerRow, firstTurns, isBelow};
+ghost use Rattle.row_ranks.specs.Renumber.{rankRow};
+ghost use Rattle.cells.specs.Cell.{readyUse};
 
 // Up to so many rows few marks are enough.
 const FEW_ROWS: usize = 64;
 
-// How many first cells of ready messages there are, and of all ready cells the least and the greatest turn (the greatest is the less where none is ready).
+// How many first cells of ready messages there are, and of all ready cells the least and the greatest turn (the greatest is the less where
+// none is ready).
 struct Turns {
     firsts: u32,
     least: u32,
@@ -63,7 +67,8 @@ fn with_turn(t: Turns, r: Row) -> Turns
     }
 }
 
-// Is this a first cell of a turn whose mark is not set, or no first cell? The mark is set. Turns share a mark where their remainders are equal.
+// Is this a first cell of a turn whose mark is not set, or no first cell? The mark is set. Turns share a mark where their remainders are
+// equal.
 fn is_new(marks: &mut [u8], r: Row) -> bool
     requires { ⌜ 0 < length (now marks) ⌝ }
     ensures is { λ b. ⌜ b ≡ isNew (now (marks .entry)) (cellOf r) ⌝ }
@@ -92,7 +97,7 @@ fn survey(words: &[u32], marks: &mut [u8]) -> Turns
     let mut i = 0;
     while i < n {
         let r = rows::whole_row(words, i);
-        if row_tests::is_used_as(r, 3) {
+        if row_tests::is_used_as(r, cells::READY) {
             if is_new(marks, r) {
                 t = with_turn(t, r);
                 i += 1;
@@ -143,18 +148,19 @@ fn lowered(turn: u32, by: u32) -> u32
 }
 
 fn lower_row(words: &mut [u32], i: usize, by: u32)
-    ensures is { λ _. ⌜ rowsOf (now (words .exit)) ≡ set (rowsOf (now (words .entry))) i (changeRow (uses 3) (lowerRow by) (wholeRow (now (words .entry)) i)) ⌝ }
+    ensures is { λ _. ⌜ rowsOf (now (words .exit)) ≡ set (rowsOf (now (words .entry))) i
+        (changeRow (uses readyUse) (lowerRow by) (wholeRow (now (words .entry)) i)) ⌝ }
     ensures rest { λ _. ⌜ rest (now (words .exit)) ≡ rest (now (words .entry)) ⌝ }
 {
     let r = rows::whole_row(words, i);
-    if row_tests::is_used_as(r, 3) {
+    if row_tests::is_used_as(r, cells::READY) {
         let turn = lowered(r.turn, by);
-        rows::put_row(words, i, rows::mark_row(r, 3, turn));
+        rows::put_row(words, i, rows::mark_row(r, cells::READY, turn));
     }
 }
 
 fn lower_all(words: &mut [u32], by: u32)
-    ensures is { λ _. ⌜ rowsOf (now (words .exit)) ≡ changeRows (uses 3) (lowerRow by) (rowsOf (now (words .entry))) ⌝ }
+    ensures is { λ _. ⌜ rowsOf (now (words .exit)) ≡ changeRows (uses readyUse) (lowerRow by) (rowsOf (now (words .entry))) ⌝ }
     ensures rest { λ _. ⌜ rest (now (words .exit)) ≡ rest (now (words .entry)) ⌝ }
 {
     if by == 0 {
@@ -209,19 +215,20 @@ fn rank(turns: &[u32], turn: u32) -> usize
 
 fn rank_row(words: &mut [u32], turns: &[u32], i: usize)
     requires { ⌜ length (now turns) ≤ maxCells ⌝ }
-    ensures is { λ _. ⌜ rowsOf (now (words .exit)) ≡ set (rowsOf (now (words .entry))) i (changeRow (uses 3) (rankRow (now (turns .entry))) (wholeRow (now (words .entry)) i)) ⌝ }
+    ensures is { λ _. ⌜ rowsOf (now (words .exit)) ≡ set (rowsOf (now (words .entry))) i
+        (changeRow (uses readyUse) (rankRow (now (turns .entry))) (wholeRow (now (words .entry)) i)) ⌝ }
     ensures rest { λ _. ⌜ rest (now (words .exit)) ≡ rest (now (words .entry)) ⌝ }
 {
     let r = rows::whole_row(words, i);
-    if row_tests::is_used_as(r, 3) {
+    if row_tests::is_used_as(r, cells::READY) {
         let k = rank(turns, r.turn);
-        rows::put_row(words, i, rows::mark_row(r, 3, k as u32));
+        rows::put_row(words, i, rows::mark_row(r, cells::READY, k as u32));
     }
 }
 
 fn rank_all(words: &mut [u32], turns: &[u32])
     requires { ⌜ length (now turns) ≤ maxCells ⌝ }
-    ensures is { λ _. ⌜ rowsOf (now (words .exit)) ≡ changeRows (uses 3) (rankRow (now (turns .entry))) (rowsOf (now (words .entry))) ⌝ }
+    ensures is { λ _. ⌜ rowsOf (now (words .exit)) ≡ changeRows (uses readyUse) (rankRow (now (turns .entry))) (rowsOf (now (words .entry))) ⌝ }
     ensures rest { λ _. ⌜ rest (now (words .exit)) ≡ rest (now (words .entry)) ⌝ }
 {
     let n = words.len() / ROW;

@@ -18,7 +18,7 @@ use Rattle.rows.specs.declared.Row.{Row}
 use Rattle.rows.specs.Rows.{rowAt, rowCount, cellOf, cellsIn}
 use Rattle.rows.specs.Whole.{wholeRow}
 use Rattle.rows.proofs.Rows.{whole-is}
-use Rattle.rows.proofs.ForBase.{any-append}
+use Rattle.rows.proofs.ListMaps.{any-append}
 use Rattle.rows.proofs.Below.{cellsBelow, below-all, below-none, below-more, below-length}
 use Rattle.row_scans.specs.Ready.{isEarliest, firstReady}
 
@@ -34,7 +34,8 @@ module _ (p : Cell → Bool) where
   index-past : (cs ds : List Cell) → any p cs ≡ false → indexOf p (cs ++ ds) ≡ length cs + indexOf p ds
   unfolding indexOf any
   index-past [] ds e = omega arith
-  index-past (c ∷ cs) ds e = cases (p c) (λ t. absurd (true≢false (rw t at e))) (λ t. let k = index-past cs ds (rw t at e) in rw t (omega arith))
+  index-past (c ∷ cs) ds e = cases (p c) (λ t. absurd (true≢false (rw t at e))) (λ t. let k = index-past cs ds (rw t at e) in
+      rw t (omega arith))
 
   index-within : (cs ds : List Cell) → any p cs ≡ true → indexOf p (cs ++ ds) ≡ indexOf p cs
   unfolding indexOf any
@@ -158,7 +159,11 @@ module _ (cs : List Cell) (c : Cell) (k n i t : ℕ) (long : length cs ≡ k) (l
     }
 
   passes : Scanned cs n i t → (f && (eqb i n || ltb (c .turn) t)) ≡ false → Scanned (cs ++ (c ∷ [])) n i t
-  passes (inl z) h = inl (z .0, more firstCell (z .1) (sym e ∙ cases f (λ y. absurd (true≢false (rw (y, eq-eqb i n (z .0)) at h))) (λ y. y)))
+  passes (inl z) h = inl (
+    z .0,
+    more firstCell (z .1) (sym e ∙ cases f (λ y. absurd (true≢false (rw (y, eq-eqb i n (z .0)) at h)))
+        (λ y. y)),
+  )
   passes (inr v) h = inr (record {
     none = more (beforeCell t) {b = false} (v .none) (before-is t c ∙ rw (← e) (rw (other v) at h));
     there = any-append (at (readyAs t) 0) cs (c ∷ []) ∙ rw (v .there);
@@ -170,19 +175,25 @@ pub scan-starts : (ws : List ℕ) (n t : ℕ) → Scanned (cellsBelow ws 0) n n 
 unfolding any
 scan-starts ws n t = inl (refl, rw (below-none ws))
 
-module _ (ws : List ℕ) (i : ℕ) {j t : ℕ} {r : Row} {f : Bool} (l : i < rowCount ws) (q : r ≡ wholeRow ws i) (e : f ≡ firstCell (cellOf r)) (s : Scanned (cellsBelow ws i) (rowCount ws) j t) where
+module _ (ws : List ℕ) (i : ℕ) {j t : ℕ} {r : Row} {f : Bool} (l : i < rowCount ws) (q : r ≡ wholeRow ws i) (e : f ≡ firstCell (cellOf r))
+    (s : Scanned (cellsBelow ws i) (rowCount ws) j t) where
   row-is : cellOf (rowAt ws i) ≡ cellOf r
   row-is = ap cellOf (sym (q ∙ whole-is ws i l))
 
-  pub scan-takes : (f && (eqb j (rowCount ws) || ltb (r .turn) t)) ≡ true → {j′ t′ : ℕ} → j′ ≡ i → t′ ≡ r .turn → Scanned (cellsBelow ws (i + 1)) (rowCount ws) j′ t′
+  pub scan-takes : (f && (eqb j (rowCount ws) || ltb (r .turn) t)) ≡ true → {j′ t′ : ℕ} → j′ ≡ i → t′ ≡ r .turn
+      → Scanned (cellsBelow ws (i + 1)) (rowCount ws) j′ t′
   unfolding cellOf
-  scan-takes h ej et = inr (rw (ej, et, below-more ws i, row-is) (takes (cellsBelow ws i) (cellOf r) i (rowCount ws) j t (below-length ws i) l e s h))
+  scan-takes h ej et = inr (rw (ej, et, below-more ws i, row-is) (takes (cellsBelow ws i) (cellOf r) i (rowCount ws) j t (below-length ws i)
+      l e s h))
 
-  pub scan-passes : (f && (eqb j (rowCount ws) || ltb (r .turn) t)) ≡ false → {j′ t′ : ℕ} → j′ ≡ j → t′ ≡ t → Scanned (cellsBelow ws (i + 1)) (rowCount ws) j′ t′
+  pub scan-passes : (f && (eqb j (rowCount ws) || ltb (r .turn) t)) ≡ false → {j′ t′ : ℕ} → j′ ≡ j → t′ ≡ t
+      → Scanned (cellsBelow ws (i + 1)) (rowCount ws) j′ t′
   unfolding cellOf
-  scan-passes h ej et = rw (ej, et, below-more ws i, row-is) (passes (cellsBelow ws i) (cellOf r) i (rowCount ws) j t (below-length ws i) l e s h)
+  scan-passes h ej et = rw (ej, et, below-more ws i, row-is) (passes (cellsBelow ws i) (cellOf r) i (rowCount ws) j t (below-length ws i) l
+      e s h)
 
-pub scan-ends : (ws : List ℕ) {i j t : ℕ} → i ≤ rowCount ws → rowCount ws ≤ i → Scanned (cellsBelow ws i) (rowCount ws) j t → j ≡ firstReady (cellsIn ws)
+pub scan-ends : (ws : List ℕ) {i j t : ℕ} → i ≤ rowCount ws → rowCount ws ≤ i → Scanned (cellsBelow ws i) (rowCount ws) j t → j
+    ≡ firstReady (cellsIn ws)
 scan-ends ws {i} {j} {t} le ge s =
     let q : i ≡ rowCount ws = omega arith in
     found s ∙ ap (λ (k : ℕ). firstReady (cellsBelow ws k)) q ∙ ap firstReady (below-all ws)

@@ -1,4 +1,5 @@
--- One turn of a scan, and its end, for any test of a record. A scan goes by the records of the rows below i; r is row i, and b is what the test gave of it.
+-- One turn of a scan, and its end, for any test of a record. A scan goes by the records of the rows below i; r is row i, and b is what the
+-- test gave of it.
 -- Assumes nothing.
 use Prim.Native.Nat.{ℕ, suc, _+_, _<_, _≤_}
 use mathlib.Core.Path.{_≡_, refl, sym, ap, _∙_}
@@ -15,11 +16,12 @@ use Rattle.rows.specs.Rows.{rowAt, rowCount, cellOf, cellsIn}
 use Rattle.rows.specs.Whole.{wholeRow}
 use Rattle.row_tests.specs.Uses.{uses}
 use Rattle.rows.proofs.Rows.{whole-is}
-use Rattle.rows.proofs.ForBase.{count-append, any-append}
+use Rattle.rows.proofs.ListMaps.{count-append, any-append}
 use Rattle.rows.proofs.Below.{cellsBelow, below-all, below-none, below-more, below-length, below-split}
 
 -- what was found of all rows passed holds of all rows
-pub at-end : {A : Type 0} (f : List Cell → A) (ws : List ℕ) {i : ℕ} {a : A} → i ≤ rowCount ws → rowCount ws ≤ i → a ≡ f (cellsBelow ws i) → a ≡ f (cellsIn ws)
+pub at-end : {A : Type 0} (f : List Cell → A) (ws : List ℕ) {i : ℕ} {a : A} → i ≤ rowCount ws → rowCount ws ≤ i → a ≡ f (cellsBelow ws i)
+    → a ≡ f (cellsIn ws)
 at-end f ws {i} h k e = let q : i ≡ rowCount ws = omega arith in e ∙ ap (λ (j : ℕ). f (cellsBelow ws j)) q ∙ ap f (below-all ws)
 
 module _ (p : Cell → Bool) (ws : List ℕ) where
@@ -41,7 +43,9 @@ module _ (p : Cell → Bool) (ws : List ℕ) where
   index-skip [] ys e = omega arith
   index-skip (x ∷ xs) ys e = skipped (p x) e (λ h. index-skip xs ys h)
     where
-      skipped : (t : Bool) → suc (length xs) ≡ cond t 0 (suc (indexOf p xs)) → (length xs ≡ indexOf p xs → indexOf p (xs ++ ys) ≡ length xs + indexOf p ys) → cond t 0 (suc (indexOf p (xs ++ ys))) ≡ suc (length xs) + indexOf p ys
+      skipped : (t : Bool) → suc (length xs) ≡ cond t 0 (suc (indexOf p xs))
+          → (length xs ≡ indexOf p xs → indexOf p (xs ++ ys) ≡ length xs + indexOf p ys) → cond t 0 (suc (indexOf p (xs ++ ys)))
+          ≡ suc (length xs) + indexOf p ys
       skipped true h rest = absurd (omega arith)
       skipped false h rest = let e′ = rest (omega arith) in omega arith
 

@@ -1,4 +1,5 @@
-// Scans of the rows: the first, any or how many of the cells' records that pass a test.
+// (A crate of its own only for the gate: a must-fail edit costs a check of its crate.) Scans of the rows: the first, any or how many of the
+// cells' records that pass a test.
 use rows::ROW;
 use rows::Row;
 ghost use mathlib.Core.Path.{_≡_};
@@ -15,7 +16,7 @@ pub fn first_unused(words: &[u32]) -> usize
     let n = words.len() / ROW;
     let mut i = 0;
     while i < n {
-        if row_tests::is_used_as(rows::whole_row(words, i), 0) {
+        if row_tests::is_used_as(rows::whole_row(words, i), cells::UNUSED) {
             return i;
         }
         i += 1;

@@ -13,7 +13,7 @@ use Rattle.cells.specs.Cell.{Cell}
 use Rattle.rows.specs.declared.Row.{Row}
 use Rattle.rows.specs.Rows.{rowAt, rowCount, rowsOf, cellOf, cellsIn, blankRow, changeRow, changeRows}
 use Rattle.rows.specs.Whole.{wholeRow, rest}
-use Rattle.rows.proofs.ForBase.{map-append, any-append}
+use Rattle.rows.proofs.ListMaps.{map-append, any-append}
 use Rattle.rows.proofs.Rows.{rows-length, whole-is}
 use Rattle.rows.proofs.Below.{cellsBelow, below-all, below-none, below-more}
 
@@ -26,7 +26,8 @@ set-own {A} (x ∷ l) (suc i) d = ap (λ (k : List A). x ∷ k) (set-own l i d)
 
 -- Row i, which is r, is changed by g: what g makes of it is put, or it is left where g leaves it.
 module _ (g : Row → Row) (ws : List ℕ) (i : ℕ) {r : Row} (a : r ≡ wholeRow ws i) where
-  pub row-put : {q : Row} {rs : List Row} {o : List ℕ} → q ≡ g r → (rs ≡ set (rowsOf ws) i q) × (o ≡ rest ws) → (rs ≡ set (rowsOf ws) i (g (wholeRow ws i))) × (o ≡ rest ws)
+  pub row-put : {q : Row} {rs : List Row} {o : List ℕ} → q ≡ g r → (rs ≡ set (rowsOf ws) i q) × (o ≡ rest ws)
+      → (rs ≡ set (rowsOf ws) i (g (wholeRow ws i))) × (o ≡ rest ws)
   row-put e p = (p .0 ∙ ap (set (rowsOf ws) i) (e ∙ ap g a), p .1)
 
   pub row-left : r ≡ g r → (rowsOf ws ≡ set (rowsOf ws) i (g (wholeRow ws i))) × (rest ws ≡ rest ws)
@@ -71,7 +72,8 @@ module _ (g : Row → Row) (rs : List Row) where
     unfolding upTo
     up-to-more =
         rw (add-one i, take-suc rs i d l, map-append g (take i rs) (getD rs i d ∷ []), drop-cons rs i d l)
-        (set-at (map g (take i rs)) (getD rs i d) (drop (suc i) rs) (g (getD rs i d)) i head ∙ sym (append-snoc (map g (take i rs)) (g (getD rs i d)) (drop (suc i) rs)))
+        (set-at (map g (take i rs)) (getD rs i d) (drop (suc i) rs) (g (getD rs i d)) i head
+        ∙ sym (append-snoc (map g (take i rs)) (g (getD rs i d)) (drop (suc i) rs)))
 
 -- The rows below i are changed.
 pub record Sweeping (g : Row → Row) (ws₀ ws : List ℕ) (i : ℕ) : Type 0 where
@@ -112,16 +114,20 @@ pub any-goes : (p : Cell → Bool) {g : Row → Row} {ws₀ ws : List ℕ} {i : 
     → a ≡ any p (cellsBelow ws₀ i) → b ≡ p (cellOf (wholeRow ws i)) → (a || b) ≡ any p (cellsBelow ws₀ (i + 1))
 unfolding any
 any-goes p {g} {ws₀} {ws} {i} {a} {b} s l e t =
-    rw (below-more ws₀ i, any-append p (cellsBelow ws₀ i) (cellOf (rowAt ws₀ i) ∷ []), ← e, ← (sweep-here s l ∙ whole-is ws₀ i l), ← t) (or-none a b)
+    rw (below-more ws₀ i, any-append p (cellsBelow ws₀ i) (cellOf (rowAt ws₀ i) ∷ []), ← e, ← (sweep-here s l ∙ whole-is ws₀ i l), ← t)
+    (or-none a b)
   where
     or-none : (x y : Bool) → (x || y) ≡ (x || (y || false))
     or-none x true = refl
     or-none x false = refl
 
-pub any-ends : (p : Cell → Bool) {g : Row → Row} {ws₀ ws : List ℕ} {i : ℕ} {a : Bool} → Sweeping g ws₀ ws i → rowCount ws₀ ≤ i → a ≡ any p (cellsBelow ws₀ i) → a ≡ any p (cellsIn ws₀)
-any-ends p {g} {ws₀} {ws} {i} s l e = let q : i ≡ rowCount ws₀ = omega (arith, s .within) in e ∙ ap (λ (j : ℕ). any p (cellsBelow ws₀ j)) q ∙ ap (any p) (below-all ws₀)
+pub any-ends : (p : Cell → Bool) {g : Row → Row} {ws₀ ws : List ℕ} {i : ℕ} {a : Bool} → Sweeping g ws₀ ws i → rowCount ws₀ ≤ i → a
+    ≡ any p (cellsBelow ws₀ i) → a ≡ any p (cellsIn ws₀)
+any-ends p {g} {ws₀} {ws} {i} s l e = let q : i ≡ rowCount ws₀ = omega (arith, s .within) in e ∙ ap (λ (j : ℕ). any p (cellsBelow ws₀ j)) q
+    ∙ ap (any p) (below-all ws₀)
 
-pub sweep-all : {g : Row → Row} {ws₀ ws : List ℕ} {i : ℕ} → Sweeping g ws₀ ws i → rowCount ws₀ ≤ i → (rowsOf ws ≡ map g (rowsOf ws₀)) × (rest ws ≡ rest ws₀)
+pub sweep-all : {g : Row → Row} {ws₀ ws : List ℕ} {i : ℕ} → Sweeping g ws₀ ws i → rowCount ws₀ ≤ i → (rowsOf ws ≡ map g (rowsOf ws₀))
+    × (rest ws ≡ rest ws₀)
 sweep-all {g} {ws₀} {ws} {i} s l =
     let e : i ≡ length (rowsOf ws₀) = omega (arith, rows-length ws₀, s .within) in
     (s .rows ∙ ap (λ (k : ℕ). upTo g k (rowsOf ws₀)) e ∙ up-to-all g (rowsOf ws₀), s .over)

@@ -1,4 +1,5 @@
-// Tests of the record that a row stands for. `&` and not `&&`: a test has no branch.
+// (A crate of its own only for the gate: a must-fail edit costs a check of its crate.) Tests of the record that a row stands for. `&` and
+// not `&&`: a test has no branch.
 use rows::Row;
 ghost use mathlib.Core.Path.{_≡_};
 ghost use Rattle.cells.specs.Cell.{openAs, heldAs, readyAs, bears, at};
@@ -16,28 +17,28 @@ pub fn is_used_as(r: Row, used: u32) -> bool
 pub fn is_open(r: Row, id: u32) -> bool
     ensures { λ b. ⌜ b ≡ bears (openAs id) (cellOf r) ⌝ }
 {
-    (r.used == 1) & (r.id == id)
+    (r.used == cells::OPEN) & (r.id == id)
 }
 
 // A cell of the held message of this channel and order number.
 pub fn is_held(r: Row, channel: u32, order: u32) -> bool
     ensures { λ b. ⌜ b ≡ bears (heldAs channel order) (cellOf r) ⌝ }
 {
-    (r.used == 2) & ((r.channel == channel) & (r.order == order))
+    (r.used == cells::HELD) & ((r.channel == channel) & (r.order == order))
 }
 
 // The ready message's cell of this index.
 pub fn is_ready_at(r: Row, turn: u32, index: u32) -> bool
     ensures { λ b. ⌜ b ≡ at (readyAs turn) index (cellOf r) ⌝ }
 {
-    ((r.used == 3) & (r.turn == turn)) & (r.index == index)
+    ((r.used == cells::READY) & (r.turn == turn)) & (r.index == index)
 }
 
 // A ready message's first cell.
 pub fn is_first(r: Row) -> bool
     ensures { λ b. ⌜ b ≡ firstCell (cellOf r) ⌝ }
 {
-    (r.used == 3) & (r.index == 0)
+    (r.used == cells::READY) & (r.index == 0)
 }
 
 // An open piece beside which a may not be kept: of its id, with another count, kind, sequence, order number or channel, or with its index.
@@ -49,5 +50,5 @@ pub fn is_clash(a: Row, r: Row) -> bool
         & (r.sequence == a.sequence)
         & (r.order == a.order)
         & (r.channel == a.channel);
-    (r.used == 1) & ((r.id == a.id) & (!alike | (r.index == a.index)))
+    (r.used == cells::OPEN) & ((r.id == a.id) & (!alike | (r.index == a.index)))
 }

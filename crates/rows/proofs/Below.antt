@@ -11,7 +11,7 @@ use borrow.Author.Tests.{eqb-true, eqb-false}
 use Rattle.base.proofs.Choices.{cases}
 use Rattle.cells.specs.Cell.{Cell}
 use Rattle.rows.specs.Rows.{rowAt, listed, rowCount, rowsOf, cellOf, cellsIn}
-use Rattle.rows.proofs.ForBase.{map-append}
+use Rattle.rows.proofs.ListMaps.{map-append}
 use Rattle.rows.proofs.Listed.{listed-length}
 
 unfoldable pub cellsBelow : List ℕ → ℕ → List Cell
@@ -44,5 +44,8 @@ module _ (ws : List ℕ) where
   below-split i (suc n) l = cases (eqb i n)
       (λ t. ([], rw (eqb-true i n t) (below-suc n)))
       (λ t. let ne : i ≡ n → ⊥ = eqb-false i n t in
-      let s = below-split i n (omega arith) in
-      (s .0 ++ (cellOf (rowAt ws n) ∷ []), below-suc n ∙ rw (s .1) (append-assoc (cellsBelow ws i) (cellOf (rowAt ws i) ∷ s .0) (cellOf (rowAt ws n) ∷ []))))
+      let s = below-split i n (omega arith) in (
+        s .0 ++ (cellOf (rowAt ws n) ∷ []),
+        below-suc n ∙ rw (s .1) (append-assoc (cellsBelow ws i) (cellOf (rowAt ws i) ∷ s .0)
+            (cellOf (rowAt ws n) ∷ [])),
+      ))

@@ -1,4 +1,4 @@
-pub mod ForBase
+pub mod ListMaps
 pub mod Listed
 pub mod Rows
 pub mod Below

@@ -25,7 +25,10 @@ putRow ws i r = take (rowWords * i) ws ++ wordsOf r ++ drop (rowWords * i + rowW
 
 -- the words of r stored one after the other from place b on
 abbrev storeRow : List ℕ → ℕ → Row → List ℕ
-storeRow ws b r = set (set (set (set (set (set (set (set (set (set (set ws (b + 0) (r .used)) (b + 1) (r .kind)) (b + 2) (r .channel)) (b + 3) (r .id)) (b + 4) (r .index)) (b + 5) (r .count)) (b + 6) (r .length)) (b + 7) (r .sequence)) (b + 8) (r .order)) (b + 9) (r .turn)) (b + 10) (r .place)
+storeRow ws b r =
+    set (set (set
+    (set (set (set (set (set (set (set (set ws (b + 0) (r .used)) (b + 1) (r .kind)) (b + 2) (r .channel)) (b + 3) (r .id)) (b + 4)
+    (r .index)) (b + 5) (r .count)) (b + 6) (r .length)) (b + 7) (r .sequence)) (b + 8) (r .order)) (b + 9) (r .turn)) (b + 10) (r .place)
 
 store-row : (ws : List ℕ) (b : ℕ) (r : Row) → b + rowWords ≤ length ws → storeRow ws b r ≡ take b ws ++ wordsOf r ++ drop (b + rowWords) ws
 store-row ws b r h =
@@ -88,20 +91,46 @@ module _ (ws : List ℕ) (i : ℕ) (r : Row) (inside : i < rowCount ws) where
   length-put = simp (length-append, length-take, length-drop) (omega arith)
 
   row-same : rowAt (putRow ws i r) i ≡ r
-  row-same = λ k. record { used = put-same 0 (lit< tt) k; kind = put-same 1 (lit< tt) k; channel = put-same 2 (lit< tt) k; id = put-same 3 (lit< tt) k; index = put-same 4 (lit< tt) k; count = put-same 5 (lit< tt) k; length = put-same 6 (lit< tt) k; sequence = put-same 7 (lit< tt) k; order = put-same 8 (lit< tt) k; turn = put-same 9 (lit< tt) k; place = put-same 10 (lit< tt) k }
+  row-same = λ k. record {
+    used = put-same 0 (lit< tt) k;
+    kind = put-same 1 (lit< tt) k;
+    channel = put-same 2 (lit< tt) k;
+    id = put-same 3 (lit< tt) k;
+    index = put-same 4 (lit< tt) k;
+    count = put-same 5 (lit< tt) k;
+    length = put-same 6 (lit< tt) k;
+    sequence = put-same 7 (lit< tt) k;
+    order = put-same 8 (lit< tt) k;
+    turn = put-same 9 (lit< tt) k;
+    place = put-same 10 (lit< tt) k;
+  }
 
   row-other : (j : ℕ) → (j ≡ i → ⊥) → rowAt (putRow ws i r) j ≡ rowAt ws j
-  row-other j ne = λ k. record { used = put-other j 0 (lit< tt) ne k; kind = put-other j 1 (lit< tt) ne k; channel = put-other j 2 (lit< tt) ne k; id = put-other j 3 (lit< tt) ne k; index = put-other j 4 (lit< tt) ne k; count = put-other j 5 (lit< tt) ne k; length = put-other j 6 (lit< tt) ne k; sequence = put-other j 7 (lit< tt) ne k; order = put-other j 8 (lit< tt) ne k; turn = put-other j 9 (lit< tt) ne k; place = put-other j 10 (lit< tt) ne k }
+  row-other j ne = λ k. record {
+    used = put-other j 0 (lit< tt) ne k;
+    kind = put-other j 1 (lit< tt) ne k;
+    channel = put-other j 2 (lit< tt) ne k;
+    id = put-other j 3 (lit< tt) ne k;
+    index = put-other j 4 (lit< tt) ne k;
+    count = put-other j 5 (lit< tt) ne k;
+    length = put-other j 6 (lit< tt) ne k;
+    sequence = put-other j 7 (lit< tt) ne k;
+    order = put-other j 8 (lit< tt) ne k;
+    turn = put-other j 9 (lit< tt) ne k;
+    place = put-other j 10 (lit< tt) ne k;
+  }
 
   -- The rows after a row was put.
   pub rows-put : rowsOf (putRow ws i r) ≡ set (rowsOf ws) i r
   unfolding rowsOf
   rows-put = rw length-put (listed-set (rowAt ws) (rowAt (putRow ws i r)) (rowCount ws) i r row-same row-other)
 
-  drop-past : (k : ℕ) → rowWords * i + rowWords + k ≡ rowWords * rowCount ws → drop (rowWords * rowCount ws) (putRow ws i r) ≡ drop (rowWords * rowCount ws) ws
+  drop-past : (k : ℕ) → rowWords * i + rowWords + k ≡ rowWords * rowCount ws → drop (rowWords * rowCount ws) (putRow ws i r)
+      ≡ drop (rowWords * rowCount ws) ws
   unfolding putRow
   drop-past k e =
-      ap (λ (m : ℕ). drop m (take (rowWords * i) ws ++ wordsOf r ++ drop (rowWords * i + rowWords) ws)) (sym e ∙ ap (λ (m : ℕ). m + k) (sym front))
+      ap (λ (m : ℕ). drop m (take (rowWords * i) ws ++ wordsOf r ++ drop (rowWords * i + rowWords) ws))
+      (sym e ∙ ap (λ (m : ℕ). m + k) (sym front))
       ∙ drop-append-add (take (rowWords * i) ws ++ wordsOf r) (drop (rowWords * i + rowWords) ws) k
       ∙ drop-drop k (rowWords * i + rowWords) ws
       ∙ ap (λ (m : ℕ). drop m ws) e
@@ -123,7 +152,19 @@ module _ (ws : List ℕ) (i : ℕ) (r : Row) (inside : i < rowCount ws) where
 -- Past the end every word is 0.
 pub row-past : (ws : List ℕ) (i : ℕ) {r : Row} → r ≡ blankRow → rowCount ws ≤ i → (i ≡ rowCount ws → ⊥) → r ≡ rowAt ws i
 unfolding blankRow
-row-past ws i e h ne = e ∙ (λ k. record { used = zeros 0 k; kind = zeros 1 k; channel = zeros 2 k; id = zeros 3 k; index = zeros 4 k; count = zeros 5 k; length = zeros 6 k; sequence = zeros 7 k; order = zeros 8 k; turn = zeros 9 k; place = zeros 10 k })
+row-past ws i e h ne = e ∙ (λ k. record {
+  used = zeros 0 k;
+  kind = zeros 1 k;
+  channel = zeros 2 k;
+  id = zeros 3 k;
+  index = zeros 4 k;
+  count = zeros 5 k;
+  length = zeros 6 k;
+  sequence = zeros 7 k;
+  order = zeros 8 k;
+  turn = zeros 9 k;
+  place = zeros 10 k;
+})
   where
     zeros : (f : ℕ) → 0 ≡ field ws i f
     zeros f = past ws (rowWords * i + f) (omega arith)

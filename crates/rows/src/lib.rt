@@ -1,4 +1,5 @@
-// Rows of eleven numbers, one for each cell: its record, and where its body stands. The receiver works on a private copy of the records as rows.
+// Rows of eleven numbers, one for each cell: its record, and where its body stands. The receiver works on a private copy of the records as
+// rows.
 ghost use mathlib.Core.Path.{_≡_};
 ghost use Prim.Native.Nat.{_<_, _≤_};
 ghost use lib.ListN.{getD, set};
@@ -8,7 +9,8 @@ ghost use Rattle.rows.specs.Whole.{wholeRow, rest};
 // How many words a row has.
 pub const ROW: usize = 11;
 
-// A cell's record as numbers of one width. place: 0 where the body stands in the store, else one more than its place in the datagram that is worked on.
+// A cell's record as numbers of one width. place: 0 where the body stands in the store, else one more than its place in the datagram that
+// is worked on.
 pub struct Row {
     pub used: u32,
     pub kind: u32,
@@ -28,7 +30,7 @@ pub fn blank_row() -> Row
     ensures { λ r. ⌜ r ≡ blankRow ⌝ }
 {
     Row {
-        used: 0,
+        used: cells::UNUSED,
         kind: 0,
         channel: 0,
         id: 0,
@@ -115,7 +117,8 @@ pub fn row_at(words: &[u32], i: usize) -> Row
     blank_row()
 }
 
-// Row i where the words have it whole, else a blank row. It is small enough to be inlined: a loop then reads only the words that it looks at.
+// Row i where the words have it whole, else a blank row. It is small enough to be inlined: a loop then reads only the words that it looks
+// at.
 pub fn whole_row(words: &[u32], i: usize) -> Row
     ensures { λ r. ⌜ r ≡ wholeRow (now (words .entry)) i ⌝ }
 {

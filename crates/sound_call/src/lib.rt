@@ -1,4 +1,5 @@
-// Whether the slices that a call is lent are as long as document 01 says ("Calls and their numbers", 9).
+// (A crate of its own only for the gate: a must-fail edit costs a check of its crate.) Whether the slices that a call is lent are as long
+// as document 01 says ("Calls and their numbers", 9).
 ghost use mathlib.Core.Path.{_≡_};
 ghost use Rattle.cells.specs.Sound.{lengths};
 

@@ -1,3 +1,2 @@
 pub mod Ascending
 pub mod SoundCases
-pub mod Told

@@ -21,12 +21,12 @@ use Rattle.window.specs.Places.{placeSet}
 use Rattle.window.specs.Window.{windowOf, accepted}
 use Rattle.window.proofs.Accepted.{accepted-place, accepted-below}
 use Rattle.cells.specs.Sound.{soundNexts}
-use Rattle.recv.specs.declared.Heads.{Heads}
-use Rattle.recv.specs.declared.RecvQueue.{RecvQueue}
-use Rattle.recv.specs.Parts.{nextAt, queueOf}
-use Rattle.recv.specs.Queue.{unsentOf, placesWithin, soundWindow, differ, soundUnsent, soundQueue}
-use Rattle.recv.proofs.ByParts.{next-of-parts}
-use Rattle.recv.proofs.Parts.{from-here, part-from}
+use Rattle.receiver.specs.declared.Heads.{Heads}
+use Rattle.receiver.specs.declared.RecvQueue.{RecvQueue}
+use Rattle.receiver.specs.Parts.{nextAt, queueOf}
+use Rattle.receiver.specs.Queue.{unsentOf, placesWithin, soundWindow, differ, soundUnsent, soundQueue}
+use Rattle.receiver.proofs.ByParts.{next-of-parts}
+use Rattle.receiver.proofs.Parts.{from-here, part-from}
 use Rattle.sound_queue.specs.declared.QueueSound.{QueueSound}
 use Rattle.sound_queue.specs.Sound.{told, queueSoundOf, nextsWithin, soundNumber, soundNumbers, numbersSoundOf}
 use Rattle.sound_queue.proofs.Ascending.{ascending-differ, rising-all}
@@ -143,7 +143,8 @@ module _ (l : List ℕ) (i : ℕ) (t : Bool) (e : differ (drop i l) ≡ t) where
   unfolding differ
   differ-here h = sym (ap differ (from-here l i h)) ∙ e
 
-  pub differ-not : i < length l → (b : Bool) → b ≡ any (eqb (getD l i 0)) (take (length l - (i + 1)) (drop (i + 1) l)) → b ≡ true → false ≡ t
+  pub differ-not : i < length l → (b : Bool) → b ≡ any (eqb (getD l i 0)) (take (length l - (i + 1)) (drop (i + 1) l)) → b ≡ true → false
+      ≡ t
   differ-not h b f g = let q : any (eqb (getD l i 0)) (drop (i + 1) l) ≡ true = rw part-from at (sym f ∙ g) in rw q at (differ-here h)
 
   pub differ-further : i < length l → (b : Bool) → b ≡ false → b ≡ any (eqb (getD l i 0)) (take (length l - (i + 1)) (drop (i + 1) l))
@@ -161,7 +162,8 @@ fails p [] i h e = absurd (not-suc-le-zero h)
 fails p (x ∷ l) zero h e = rw e
 fails p (x ∷ l) (suc i) h e = sym (rw (← fails p l i (omega arith) e) (and-false (p x)))
 
-module _ (low : ℕ) (bits l : List ℕ) (i : ℕ) (h : 0 < i) (k : i ≤ length l) (b : Bool) (e : b ≡ soundNumber (windowOf low bits) (getD l (i - 1) 0)) where
+module _ (low : ℕ) (bits l : List ℕ) (i : ℕ) (h : 0 < i) (k : i ≤ length l) (b : Bool)
+    (e : b ≡ soundNumber (windowOf low bits) (getD l (i - 1) 0)) where
   abbrev sound : ℕ → Bool
   sound = soundNumber (windowOf low bits)
 
@@ -174,12 +176,14 @@ module _ (low : ℕ) (bits l : List ℕ) (i : ℕ) (h : 0 < i) (k : i ≤ length
 
   pub rising-below : ascending l ≡ true → b ≡ true → every sound (drop i l) ≡ true → getD l (i - 1) 0 < low → true ≡ every sound l
   unfolding soundNumber
-  rising-below a f r q = sym (rising-all sound (getD l (i - 1) 0) l (i - 1) a (omega arith) (le-refl (getD l (i - 1) 0)) lower (rising-further f r))
+  rising-below a f r q = sym (rising-all sound (getD l (i - 1) 0) l (i - 1) a (omega arith) (le-refl (getD l (i - 1) 0)) lower
+      (rising-further f r))
     where
       lower : (m : ℕ) → m ≤ getD l (i - 1) 0 → sound m ≡ true
       lower m o =
           let z : getD l (i - 1) 0 < numbers24 = ltb-true _ _ (and-left (ltb (getD l (i - 1) 0) numbers24) _ (sym e ∙ f)) in
-          and-both (ltb m numbers24) (accepted (windowOf low bits) m) (lt-ltb m numbers24 (omega arith)) (accepted-below (windowOf low bits) m (omega arith))
+          and-both (ltb m numbers24) (accepted (windowOf low bits) m) (lt-ltb m numbers24 (omega arith))
+          (accepted-below (windowOf low bits) m (omega arith))
 
 pub rising-none : (p : ℕ → Bool) (l : List ℕ) → every p (drop (length l) l) ≡ true
 unfolding every
@@ -201,14 +205,21 @@ module _ (w : ReliableWindow) (l : List ℕ) (a : Bool) (e : a ≡ every (soundN
 module _ (w : ReliableWindow) (l : List ℕ) (a b : Bool) (e : a ≡ ascending l) where
   pub rising-told : a ≡ true → b ≡ every (soundNumber w) l → told b b ≡ numbersSoundOf w l
   unfolding numbersSoundOf soundNumbers
-  rising-told f g = rw (ascending-differ l (sym e ∙ f), sym e ∙ f, and-true (every (soundNumber w) l), and-true (every (soundNumber w) l), ← g)
+  rising-told f g = rw (
+    ascending-differ l (sym e ∙ f),
+    sym e ∙ f,
+    and-true (every (soundNumber w) l),
+    and-true (every (soundNumber w) l),
+    ← g,
+  )
 
   pub mixed-told : a ≡ false → b ≡ soundNumbers w l → told b false ≡ numbersSoundOf w l
   unfolding numbersSoundOf
   mixed-told f g = rw (sym e ∙ f, and-false (soundNumbers w l), ← g)
 
 -- the first m numbers, where there are no more than m
-pub first-all : (w : ReliableWindow) (l : List ℕ) (m : ℕ) (r : QueueSound) → length l < m → r ≡ numbersSoundOf w l → r ≡ numbersSoundOf w (take m l)
+pub first-all : (w : ReliableWindow) (l : List ℕ) (m : ℕ) (r : QueueSound) → length l < m → r ≡ numbersSoundOf w l → r
+    ≡ numbersSoundOf w (take m l)
 first-all w l m r h e = rw (take-all m l (omega arith)) e
 
 -- ---- all of them, one after the other
@@ -244,6 +255,7 @@ module _ (h : Heads) (dbits rbits nexts unsent : List ℕ) where
           unfolding soundUnsent queueOf
           pending-over o = not-sound (by-unsent ∙ rw (lt-leb (h .pending) maxUnsent o)) r
 
-          pub by-numbers : h .pending ≤ maxUnsent → r ≡ numbersSoundOf (windowOf (h .datagrams) dbits) (take (h .pending) unsent) → r ≡ queueSoundOf q
+          pub by-numbers : h .pending ≤ maxUnsent → r ≡ numbersSoundOf (windowOf (h .datagrams) dbits) (take (h .pending) unsent) → r
+              ≡ queueSoundOf q
           unfolding queueSoundOf numbersSoundOf soundNumbers soundNumber soundUnsent unsentOf queueOf
           by-numbers o l = l ∙ sym (rw (by-unsent, le-leb (h .pending) maxUnsent o))

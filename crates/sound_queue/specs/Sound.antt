@@ -8,9 +8,9 @@ use Rattle.base.specs.Lists.{every, below}
 use Rattle.window.specs.declared.ReliableWindow.{ReliableWindow}
 use Rattle.window.specs.Window.{accepted}
 use Rattle.ack.specs.Write.{ascending}
-use Rattle.recv.specs.declared.RecvQueue.{RecvQueue}
-use Rattle.recv.specs.Parts.{nextAt}
-use Rattle.recv.specs.Queue.{differ, unsentOf, soundQueue}
+use Rattle.receiver.specs.declared.RecvQueue.{RecvQueue}
+use Rattle.receiver.specs.Parts.{nextAt}
+use Rattle.receiver.specs.Queue.{differ, unsentOf, soundQueue}
 use Rattle.sound_queue.specs.declared.QueueSound.{QueueSound}
 
 abbrev pub told : Bool → Bool → QueueSound

@@ -1,5 +1,5 @@
 // The rules on the receiver's own values: document 01, 9, "Sound".
-use recv::Heads;
+use receiver::Heads;
 ghost use mathlib.Core.Path.{_≡_};
 ghost use mathlib.Core.Bool.{true, false, _||_, not};
 ghost use Prim.Native.Nat.{_+_, _<_, _≤_};
@@ -11,9 +11,9 @@ ghost use Rattle.window.specs.Places.{placeSet};
 ghost use Rattle.window.specs.Window.{windowOf};
 ghost use Rattle.cells.specs.Sound.{soundNexts};
 ghost use Rattle.ack.specs.Write.{ascending};
-ghost use Rattle.recv.specs.Parts.{nextAt, queueOf};
-ghost use Rattle.recv.specs.Queue.{placesWithin, soundWindow};
-ghost use Rattle.recv.specs.Queue as Queue;
+ghost use Rattle.receiver.specs.Parts.{nextAt, queueOf};
+ghost use Rattle.receiver.specs.Queue.{placesWithin, soundWindow};
+ghost use Rattle.receiver.specs.Queue as Queue;
 ghost use Rattle.sound_queue.specs.Sound.{told, queueSoundOf, nextsWithin, soundNumber, soundNumbers, numbersSoundOf};
 
 // sound: the rules hold. ascending: they do, and the unsent numbers ascend.

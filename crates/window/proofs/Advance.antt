@@ -41,7 +41,8 @@ rest w m z =
     (λ h. accepted-below w m h ∙ sym (moving-below w m h))
     (λ h. accepted-low w m h ∙ sym (moving-place w m (omega arith) (omega arith) ∙ same-place (w .bits) m (w .low) (omega arith) ∙ z))
     (λ h k. accepted-place w m h (omega arith) ∙ sym (moving-place w m (omega arith) k))
-    (λ h. accepted-place w m (omega arith) (omega arith) ∙ same-place (w .bits) m (w .low) (omega arith) ∙ z ∙ sym (moving-above w m (omega arith)))
+    (λ h. accepted-place w m (omega arith) (omega arith) ∙ same-place (w .bits) m (w .low) (omega arith) ∙ z
+    ∙ sym (moving-above w m (omega arith)))
     (λ h. accepted-above w m h ∙ sym (moving-above w m (omega arith)))
 
 -- one number passed
@@ -49,9 +50,12 @@ pass : (w : ReliableWindow) (m : ℕ) → Sized w → placeSet (w .bits) (w .low
 pass w m s z =
     zones (moving (passed w) m ≡ moving w m) (w .low) m
     (λ h. moving-below (passed w) m (omega arith) ∙ sym (moving-below w m h))
-    (λ h. moving-below (passed w) m (omega arith) ∙ sym (moving-place w m (omega arith) (omega arith) ∙ same-place (w .bits) m (w .low) (omega arith) ∙ z))
-    (λ h k. moving-place (passed w) m (omega arith) (omega arith) ∙ clear-other (w .bits) (w .low) s z m (omega arith) ∙ sym (moving-place w m (omega arith) k))
-    (λ h. moving-place (passed w) m (omega arith) (omega arith) ∙ clear-same (w .bits) (w .low) s z m (omega arith) ∙ sym (moving-above w m (omega arith)))
+    (λ h. moving-below (passed w) m (omega arith) ∙ sym (moving-place w m (omega arith) (omega arith) ∙ same-place (w .bits) m (w .low)
+    (omega arith) ∙ z))
+    (λ h k. moving-place (passed w) m (omega arith) (omega arith) ∙ clear-other (w .bits) (w .low) s z m (omega arith)
+    ∙ sym (moving-place w m (omega arith) k))
+    (λ h. moving-place (passed w) m (omega arith) (omega arith) ∙ clear-same (w .bits) (w .low) s z m (omega arith)
+    ∙ sym (moving-above w m (omega arith)))
     (λ h. moving-above (passed w) m (omega arith) ∙ sym (moving-above w m (omega arith)))
 
 -- the places passed since base are clear
@@ -71,7 +75,8 @@ unfolding clearPlace
 passed-sized w s = simp length-set s
 
 -- low was base at first, and k of the 2,048 turns are left: with none left, the place of low is that of base, which was passed
-advance-left : (k : ℕ) (w : ReliableWindow) (base m : ℕ) → Sized w → w .low + k ≡ base + windowPlaces → Clear base w → accepted (advance k w) m ≡ moving w m
+advance-left : (k : ℕ) (w : ReliableWindow) (base m : ℕ) → Sized w → w .low + k ≡ base + windowPlaces → Clear base w
+    → accepted (advance k w) m ≡ moving w m
 unfolding advance Clear ifTrue
 advance-left zero w base m s l c = rest w m (same-place (w .bits) (w .low) base (omega arith) ∙ c base (le-refl base) (omega arith))
 advance-left (suc k) w base m s l c =

@@ -9,11 +9,11 @@ use native.Mathlib.Decide.{ℕ-discrete}
 use lib.Dec.{eqb}
 use Rattle.base.specs.If.{ifTrue}
 use Rattle.window.specs.Window.{newWindow, accepted, accept, Insertion, insertOf}
-use Rattle.window.specs.Proper.{Sized, Proper}
+use Rattle.window.specs.Proper.{Sized}
 use Rattle.window.specs.History.{insertAll, isGiven, answeredAccepted}
 use Rattle.window.specs.declared.ReliableWindow.{ReliableWindow}
 use Rattle.window.proofs.Inserts.{is-n, not-n, insert-ways, accept-accepts}
-use Rattle.window.proofs.Laws.{low-first, insert-sized, insert-proper, new-accepts-none, new-proper}
+use Rattle.window.proofs.Laws.{low-first, insert-sized, new-accepts-none, new-proper}
 
 -- one insert more: m is in the rest or accepted after the insert, exactly where it is answered now or in the rest, or was accepted before
 one-more : (w : ReliableWindow) (n m : ℕ) (rest : List ℕ) → Sized w
@@ -22,7 +22,8 @@ one-more : (w : ReliableWindow) (n m : ℕ) (rest : List ℕ) → Sized w
 unfolding ifTrue
 one-more w n m rest s =
     insert-ways w n
-    (λ (r : Insertion). List·Memᴰ m rest ⊎ (accepted (r .window) m ≡ true) ↔ List·Memᴰ m (ifTrue (isGiven (r .answer)) (n ∷ rest) rest) ⊎ (accepted w m ≡ true))
+    (λ (r : Insertion). List·Memᴰ m rest ⊎ (accepted (r .window) m ≡ true) ↔ List·Memᴰ m (ifTrue (isGiven (r .answer)) (n ∷ rest) rest) ⊎
+    (accepted w m ≡ true))
     (λ h. (λ x. x, λ x. x))
     (λ h t. (λ x. x, λ x. x))
     (λ h t b. (λ x. x, λ x. x))
@@ -34,7 +35,8 @@ one-more w n m rest s =
     there a (yes e) (inr x) = inl (List·Memᴰ·head e)
     there a (no d) (inr x) = inr (sym (not-n m n (accepted w m) d) ∙ sym a ∙ x)
 
-    now : accepted (accept w n) m ≡ (eqb m n || accepted w m) → (m ≡ n) ⊎ List·Memᴰ m rest → List·Memᴰ m rest ⊎ (accepted (accept w n) m ≡ true)
+    now : accepted (accept w n) m ≡ (eqb m n || accepted w m) → (m ≡ n) ⊎ List·Memᴰ m rest
+        → List·Memᴰ m rest ⊎ (accepted (accept w n) m ≡ true)
     now a (inl e) = inr (a ∙ is-n m n (accepted w m) e)
     now a (inr i) = inl i
 
@@ -77,9 +79,3 @@ low-not-answered ns i =
 -- every number below low is among them
 pub below-low-answered : (ns : List ℕ) (m : ℕ) → m < insertAll newWindow ns .low → List·Memᴰ m (answeredAccepted newWindow ns)
 below-low-answered ns m h = accepted-answered ns m .0 (low-first (insertAll newWindow ns) .1 m h)
-
--- inserts leave a proper window proper
-pub inserts-proper : (ns : List ℕ) (w : ReliableWindow) → Proper w → Proper (insertAll w ns)
-unfolding insertAll
-inserts-proper [] w p = p
-inserts-proper (n ∷ ns) w p = inserts-proper ns (insertOf w n .window) (insert-proper w n p)

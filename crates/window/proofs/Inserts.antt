@@ -61,7 +61,8 @@ pub is-n : (m n : ℕ) (x : Bool) → m ≡ n → eqb m n || x ≡ true
 is-n m n x h = rw (eq-eqb m n h)
 
 -- n is low: what is accepted from n + 1 on, before low moves
-after-low : (w : ReliableWindow) (n m : ℕ) → n ≡ w .low → moving (record { low = following n; bits = w .bits }) m ≡ (eqb m n || accepted w m)
+after-low : (w : ReliableWindow) (n m : ℕ) → n ≡ w .low → moving (record { low = following n; bits = w .bits }) m
+    ≡ (eqb m n || accepted w m)
 after-low w n m d =
     let v : ReliableWindow = record { low = following n; bits = w .bits } in
     zones (moving v m ≡ (eqb m n || accepted w m)) (w .low) m
@@ -84,7 +85,8 @@ with-place-accepts w n m s p q z =
   where
     within : w .low < m → m ≤ w .low + windowPlaces → Dec (m ≡ n) → accepted (withPlace w n) m ≡ (eqb m n || accepted w m)
     within h k (yes e) = accepted-place (withPlace w n) m h k ∙ set-same (w .bits) n s z m (omega arith) ∙ sym (is-n m n _ e)
-    within h k (no d) = accepted-place (withPlace w n) m h k ∙ set-other (w .bits) n s z m (omega arith) ∙ sym (not-n m n _ d ∙ accepted-place w m h k)
+    within h k (no d) = accepted-place (withPlace w n) m h k ∙ set-other (w .bits) n s z m (omega arith)
+        ∙ sym (not-n m n _ d ∙ accepted-place w m h k)
 
 module _ (w : ReliableWindow) (n : ℕ) where
   accept-is-low : n ≡ w .low → accept w n ≡ advance windowPlaces (record { low = following n; bits = w .bits })
@@ -95,7 +97,8 @@ module _ (w : ReliableWindow) (n : ℕ) where
   unfolding accept
   accept-is-place h = sym (eq-no _ _ _ _ _ h refl)
 
-  pub accept-accepts : (m : ℕ) → Sized w → accepted w n ≡ false → n ≤ w .low + windowPlaces → accepted (accept w n) m ≡ (eqb m n || accepted w m)
+  pub accept-accepts : (m : ℕ) → Sized w → accepted w n ≡ false → n ≤ w .low + windowPlaces → accepted (accept w n) m
+      ≡ (eqb m n || accepted w m)
   accept-accepts m s t k = go (ℕ-discrete n (w .low))
     where
       go : Dec (n ≡ w .low) → accepted (accept w n) m ≡ (eqb m n || accepted w m)

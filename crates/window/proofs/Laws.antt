@@ -5,19 +5,19 @@ use mathlib.Core.Bool.{Bool, true, false, true≢false, _||_}
 use mathlib.Core.Logic.{_↔_}
 use Prim.Native.Nat.{ℕ, _+_, _<_, _≤_}
 use native.Mathlib.Nat.{le-refl, lt-irrefl}
-use native.Mathlib.Decide.{ℕ-discrete, decLt}
+use native.Mathlib.Decide.{decLt}
 use native.Mathlib.Omega.{arith}
 use lib.Dec.{eqb}
 use lib.ListN.{length-replicate}
 use Rattle.base.specs.Answer.{Answer, refused, gives}
 use Rattle.base.specs.Limits.{numbers24, windowPlaces}
 use Rattle.window.specs.Places.{placeSet}
-use Rattle.window.specs.Window.{newWindow, accepted, accept, Insertion, insertOf}
+use Rattle.window.specs.Window.{newWindow, accepted, Insertion, insertOf}
 use Rattle.window.specs.Proper.{Sized, Proper}
 use Rattle.window.specs.declared.ReliableWindow.{ReliableWindow}
 use Rattle.window.proofs.Accepted.{accepted-below, accepted-low, accepted-place, accepted-above, zones}
 use Rattle.window.proofs.Places.{new-clear}
-use Rattle.window.proofs.Inserts.{not-n, insert-ways, accept-accepts, accept-sized}
+use Rattle.window.proofs.Inserts.{insert-ways, accept-accepts, accept-sized}
 
 -- ---- the answer, for every window
 other-number : {A X : Type 0} (a b : ℕ) → (a ≡ b → ⊥) → _≡_ {A = Answer A} (refused a) (refused b) → X
@@ -87,7 +87,8 @@ pub low-first : (w : ReliableWindow) → (accepted w (w .low) ≡ false) × ((m 
 low-first w = (accepted-low w (w .low) refl, λ m h. accepted-below w m h)
 
 -- after an insert that was not refused, accepted are the number inserted and those accepted before
-pub insert-accepts : (w : ReliableWindow) (n m : ℕ) → Sized w → insertOf w n .answer ≡ gives tt → accepted (insertOf w n .window) m ≡ (eqb m n || accepted w m)
+pub insert-accepts : (w : ReliableWindow) (n m : ℕ) → Sized w → insertOf w n .answer ≡ gives tt → accepted (insertOf w n .window) m
+    ≡ (eqb m n || accepted w m)
 insert-accepts w n m s =
     insert-ways w n (λ (r : Insertion). r .answer ≡ gives tt → accepted (r .window) m ≡ (eqb m n || accepted w m))
     (λ h e. never-refused tt 13 (sym e))
@@ -152,16 +153,3 @@ pub new-proper : Proper newWindow
 unfolding newWindow
 new-proper =
     accepted-proper newWindow (length-replicate {A = ℕ} 256 0) (λ m t. absurd (true≢false (sym t ∙ new-accepts-none m)))
-
--- an insert leaves a proper window proper
-pub insert-proper : (w : ReliableWindow) (n : ℕ) → Proper w → Proper (insertOf w n .window)
-insert-proper w n p =
-    insert-ways w n (λ (r : Insertion). Proper (r .window))
-    (λ h. p)
-    (λ h t. p)
-    (λ h t b. p)
-    (λ h t b. accepted-proper (accept w n) (accept-sized w n (p .sized)) (λ m e. below h m (ℕ-discrete m n) (sym (accept-accepts w n m (p .sized) t b) ∙ e)))
-  where
-    below : n < numbers24 → (m : ℕ) → Dec (m ≡ n) → (eqb m n || accepted w m) ≡ true → m < numbers24
-    below h m (yes e) t = omega arith
-    below h m (no d) t = proper-accepted w p m (sym (not-n m n (accepted w m) d) ∙ t)

@@ -49,7 +49,8 @@ module _ (w : ReliableWindow) where
   above-highest zero i h = λ l. absurd (omega arith)
   above-highest (suc k) i h = go (placeSet (w .bits) (w .low + suc k)) refl (ℕ-discrete i (suc k)) (above-highest k i)
     where
-      go : (t : Bool) → placeSet (w .bits) (w .low + suc k) ≡ t → Dec (i ≡ suc k) → (i ≤ k → highest w k < i → placeSet (w .bits) (w .low + i) ≡ false)
+      go : (t : Bool) → placeSet (w .bits) (w .low + suc k) ≡ t → Dec (i ≡ suc k)
+          → (i ≤ k → highest w k < i → placeSet (w .bits) (w .low + i) ≡ false)
           → ifTrue t (suc k) (highest w k) < i → placeSet (w .bits) (w .low + i) ≡ false
       go true e d later l = absurd (omega arith)
       go false e (yes d) later l = rw d e
@@ -99,13 +100,20 @@ module _ (w : ReliableWindow) where
   member-of : (k m : ℕ) → List·Memᴰ m (missingOf w k) ↔ Lacking k m
   unfolding missingOf andThen
   member-of zero m = (λ i. absurd (List·Memᴰ·not-nil i), λ e. absurd (omega arith))
-  member-of (suc k) m = (λ i. there (member-of k m .0) (List·Memᴰ·append-cases (missingOf w k) i), back (member-of k m .1) (ℕ-discrete m (w .low + k)))
+  member-of (suc k) m = (
+    λ i. there (member-of k m .0) (List·Memᴰ·append-cases (missingOf w k) i),
+    back (member-of k m .1)
+        (ℕ-discrete m (w .low + k)),
+  )
     where
-      there : (List·Memᴰ m (missingOf w k) → Lacking k m) → List·Memᴰ m (missingOf w k) ⊎ List·Memᴰ m (unlessAccepted w (w .low + k)) → Lacking (suc k) m
+      there : (List·Memᴰ m (missingOf w k) → Lacking k m) → List·Memᴰ m (missingOf w k) ⊎ List·Memᴰ m (unlessAccepted w (w .low + k))
+          → Lacking (suc k) m
       there later (inl i) = let e : Lacking k m = later i in (e .0, omega arith, e .2)
-      there later (inr i) = let e : (m ≡ w .low + k) × (accepted w m ≡ false) = one-member (w .low + k) m .0 i in (omega arith, omega arith, e .1)
+      there later (inr i) = let e : (m ≡ w .low + k) × (accepted w m ≡ false) = one-member (w .low + k) m .0 i in
+          (omega arith, omega arith, e .1)
 
-      back : (Lacking k m → List·Memᴰ m (missingOf w k)) → Dec (m ≡ w .low + k) → Lacking (suc k) m → List·Memᴰ m (missingOf w k ++ unlessAccepted w (w .low + k))
+      back : (Lacking k m → List·Memᴰ m (missingOf w k)) → Dec (m ≡ w .low + k) → Lacking (suc k) m
+          → List·Memᴰ m (missingOf w k ++ unlessAccepted w (w .low + k))
       back later (yes d) e = Memᴰ·append-right (missingOf w k) (one-member (w .low + k) m .1 (d, e .2))
       back later (no d) e = Memᴰ·append-left (unlessAccepted w (w .low + k)) (later (e .0, omega arith, e .2))
 
@@ -131,7 +139,10 @@ ascends-wider : (l : List ℕ) (b : ℕ) → Ascends l b → Ascends l (suc b)
 ascends-wider l b a = record { below = λ i h. omega (arith, a .below i h); rises = a .rises }
 
 ascends-one : (l : List ℕ) (b : ℕ) → Ascends l b → Ascends (l ++ (b ∷ [])) (suc b)
-ascends-one l b a = record { below = λ i h. below i (decLt i (length l)) (simp length-append at h); rises = λ i j h k. rises i j h (decLt j (length l)) (simp length-append at k) }
+ascends-one l b a = record {
+  below = λ i h. below i (decLt i (length l)) (simp length-append at h);
+  rises = λ i j h k. rises i j h (decLt j (length l)) (simp length-append at k);
+}
   where
     old : (i : ℕ) → i < length l → getD (l ++ (b ∷ [])) i 0 ≡ getD l i 0
     old i h = List·getD-append l (b ∷ []) 0 i h
@@ -174,7 +185,8 @@ module _ (w : ReliableWindow) where
           let l : w .low ≤ m = low-le w m (e .0) in
           let a : e .1 .0 ≤ w .low + highest w windowPlaces = accepted-within-highest w (e .1 .0) (omega arith) (e .1 .2) in
           let b : e .1 .0 < numbers24 = proper-accepted w p (e .1 .0) (e .1 .2) in
-          let s : m - w .low < searched w = below-least (highest w windowPlaces) (numbers24 - w .low) (m - w .low) (omega arith) (omega arith) in
+          let s : m - w .low < searched w = below-least (highest w windowPlaces) (numbers24 - w .low) (m - w .low) (omega arith)
+          (omega arith) in
           (l, omega arith, e .0)
 
   -- the missing numbers ascend
@@ -200,7 +212,8 @@ module _ (w : ReliableWindow) where
     where
       none : missing w ≡ [] → (x : ℕ) → w .low < x → (t : Bool) → accepted w x ≡ t → t ≡ false
       none e x h true t =
-          absurd (List·Memᴰ·not-nil (subst (λ (l : List ℕ). List·Memᴰ (w .low) l) e (missing-member p (w .low) .1 (low-first w .0, (x, h, t)))))
+          absurd (List·Memᴰ·not-nil (subst (λ (l : List ℕ). List·Memᴰ (w .low) l) e
+          (missing-member p (w .low) .1 (low-first w .0, (x, h, t)))))
       none e x h false t = refl
 
       some : ((x : ℕ) → w .low < x → accepted w x ≡ false) → (m : ℕ) → List·Memᴰ m (missing w) → ⊥

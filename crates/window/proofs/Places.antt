@@ -46,7 +46,10 @@ module _ (bits : List ℕ) (n at b : ℕ) (e : at ≡ placeByte n) (f : b ≡ ge
 
   pub set-fits : placeSet bits n ≡ false → (p : ℕ) → p ≡ 2 ^ placeBit n → Fits w8 b → Fits w8 (b + p)
   set-fits t p q g =
-      record { fits = rw (here, q) (bit-fits 8 (getD bits (placeByte n) 0) (placeBit n) (rw here at (g .fits)) (omega arith) (is-clear bits n t)) }
+      record {
+        fits = rw (here, q) (bit-fits 8 (getD bits (placeByte n) 0) (placeBit n) (rw here at (g .fits)) (omega arith)
+            (is-clear bits n t));
+      }
 
   pub clear-fits : placeSet bits n ≡ true → (p : ℕ) → p ≡ 2 ^ placeBit n → p ≤ b
   clear-fits t p q = rw (here, q) (bit-le _ _ (is-set bits n t))
@@ -74,7 +77,8 @@ module _ (bits : List ℕ) (n : ℕ) (long : length bits ≡ 256) where
   store-same v = let h : placeByte n < length bits = omega arith in rw (getD-set-same bits (placeByte n) v 0 h)
 
   store-other : (v m : ℕ) → (m % windowPlaces ≡ n % windowPlaces → ⊥)
-      → ((i : ℕ) → (i ≡ placeBit n → ⊥) → bit v i ≡ bit (getD bits (placeByte n) 0) i) → placeSet (set bits (placeByte n) v) m ≡ placeSet bits m
+      → ((i : ℕ) → (i ≡ placeBit n → ⊥) → bit v i ≡ bit (getD bits (placeByte n) 0) i) → placeSet (set bits (placeByte n) v) m
+      ≡ placeSet bits m
   unfolding placeSet
   store-other v m d k = go (ℕ-discrete (placeByte m) (placeByte n))
     where
@@ -88,7 +92,8 @@ module _ (bits : List ℕ) (n : ℕ) (long : length bits ≡ 256) where
   unfolding setPlace
   set-same z m e = same-place (setPlace bits n) m n e ∙ store-same _ ∙ ap (λ (x : ℕ). eqb x 1) (bit-set _ _ (is-clear bits n z))
 
-  pub set-other : placeSet bits n ≡ false → (m : ℕ) → (m % windowPlaces ≡ n % windowPlaces → ⊥) → placeSet (setPlace bits n) m ≡ placeSet bits m
+  pub set-other : placeSet bits n ≡ false → (m : ℕ) → (m % windowPlaces ≡ n % windowPlaces → ⊥) → placeSet (setPlace bits n) m
+      ≡ placeSet bits m
   unfolding setPlace
   set-other z m d = store-other _ m d (λ i e. bit-set-other _ i (placeBit n) e (is-clear bits n z))
 
@@ -96,6 +101,7 @@ module _ (bits : List ℕ) (n : ℕ) (long : length bits ≡ 256) where
   unfolding clearPlace
   clear-same z m e = same-place (clearPlace bits n) m n e ∙ store-same _ ∙ ap (λ (x : ℕ). eqb x 1) (bit-clear _ _ (is-set bits n z))
 
-  pub clear-other : placeSet bits n ≡ true → (m : ℕ) → (m % windowPlaces ≡ n % windowPlaces → ⊥) → placeSet (clearPlace bits n) m ≡ placeSet bits m
+  pub clear-other : placeSet bits n ≡ true → (m : ℕ) → (m % windowPlaces ≡ n % windowPlaces → ⊥) → placeSet (clearPlace bits n) m
+      ≡ placeSet bits m
   unfolding clearPlace
   clear-other z m d = store-other _ m d (λ i e. bit-clear-other _ i (placeBit n) e (is-set bits n z))

@@ -36,7 +36,8 @@ advance-set zero n m bits cleared t b z p q c f e = absurd (not-suc-le-zero z)
 advance-set (suc k) n m bits cleared t b z p q c f e = rw (c, f, sub-one) (rw (sym p ∙ q) at e)
 
 -- ---- a number is accepted
-pub accept-low : (w v : ReliableWindow) (n a : ℕ) → n ≡ w .low → a ≡ following n → v ≡ advance windowPlaces (record { low = a; bits = w .bits }) → v ≡ accept w n
+pub accept-low : (w v : ReliableWindow) (n a : ℕ) → n ≡ w .low → a ≡ following n → v
+    ≡ advance windowPlaces (record { low = a; bits = w .bits }) → v ≡ accept w n
 unfolding accept
 accept-low w v n a h e f = eq-yes _ _ _ _ _ h (rw e at f)
 
@@ -76,7 +77,8 @@ module _ (a b : ℕ) where
   below-least m h k = le-both (λ (r : ℕ). m < r) a b a b (λ l. h) (λ l. k)
 
 -- ---- the missing numbers, one after another, up to the highest and below the limit; none where low is past it
-pub run-accepted : (w : ReliableWindow) (n : ℕ) (b : Bool) (p : ℕ) (l : List ℕ) → b ≡ accepted w n → b ≡ true → Run p (unlessAccepted w n) l p l
+pub run-accepted : (w : ReliableWindow) (n : ℕ) (b : Bool) (p : ℕ) (l : List ℕ) → b ≡ accepted w n → b ≡ true → Run p (unlessAccepted w n) l
+    p l
 unfolding unlessAccepted
 run-accepted w n b p l e t = run-none p _ l (sym (by-yes _ b _ _ _ e t refl))
 
@@ -90,7 +92,8 @@ pub run-next : (w : ReliableWindow) (k n : ℕ) (l : List ℕ) (q : ℕ) (L : Li
 unfolding missingOf
 run-next w k n l q L r M b e a = rw add-one (run-then 0 (missingOf w k) _ l q L r M a (rw e at b))
 
-pub run-end : (w : ReliableWindow) (k h e : ℕ) (l : List ℕ) (q : ℕ) (L : List ℕ) → h ≡ highest w windowPlaces → e ≡ least h (numbers24 - w .low)
+pub run-end : (w : ReliableWindow) (k h e : ℕ) (l : List ℕ) (q : ℕ) (L : List ℕ) → h ≡ highest w windowPlaces → e
+    ≡ least h (numbers24 - w .low)
     → k ≤ e → e ≤ k → Run 0 (missingOf w k) l q L → Run 0 (missing w) l q L
 unfolding missing
 run-end w k h e l q L f g a b r = let d : k ≡ e = omega arith in (rw (d, g, f) at r)

@@ -1,5 +1,5 @@
--- Document 01, "window.rs" and "Window insert": "`insert` takes index low + 2,048 too. Low is the smallest number never accepted." and "the window
--- is one value with its bits inside it: 2,048 places above the lowest missing number, all clear at first".
+-- Document 01, "window.rs" and "Window insert": "`insert` takes index low + 2,048 too. Low is the smallest number never accepted." and "the
+-- window is one value with its bits inside it: 2,048 places above the lowest missing number, all clear at first".
 use Prim.Native.Nat.{ℕ, zero, suc}
 use mathlib.Core.Bool.{Bool, true, false}
 use mathlib.Core.List.{List}

@@ -1,4 +1,4 @@
-use Rattle.queue.specs.Split.{pieceAnswer}
+use Rattle.split.specs.Split.{pieceAnswer}
 use Rattle.exports.proofs.Told.{piece-case}
 use borrow.Author.Needs.{needs}
 use Rattle.exports.proofs.piece_numbers.Statement.{statement}

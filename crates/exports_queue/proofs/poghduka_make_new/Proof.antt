@@ -1,28 +1,37 @@
--- `exports_queue::poghduka_make_new` meets its contract: a walk of its MIR, by hand, a straight line of two calls. All that was lent is given up to the first.
+-- `exports_queue::poghduka_make_new` meets its contract: a walk of its MIR, by hand, a straight line of two calls. All that was lent is
+-- given up to the first.
 -- Assumes nothing.
 use denote.Enum.Laws as EL
-use Rattle.walks.proofs.Walk.{_≡_, refl, ℕ, _+_, List, [], _∷_, length, URA, named, w32, Val, vptr, SProp, ent, emp, id⊢, via, fst∗, Lft, GName, Share, ftrue, flft, fres, Memory, Routine, Heap, Calls, Loops, WpFn, Tables, Atoms, FmC, fmOf, WpFn-mono, Fun, fact, givenOf, tables, tablesOf, Given, Item, ‵, raw, _⊛_, some, later, ⋆, _$_, _∵_, !, qed, by, move, keep, drop, use1, split, join, pick}
-use Rattle.walks.proofs.Walk.{fsplit, fjoin, suffices, frame, await, done, agg, whole, sub, look-in, look, init, stop, hop, fld, from, load, addr, and-then, no-more, land, assigns, returns, enter, alloc1, alloc0, params1, pass1, pass0, free0, yes, owns, Is, shows, uint-lawful, u8, u32, RefT, MutRef, ptr-vals, mut-tells, sliceVal, MutSlice, ShrSlice, Room, finally, slice-vals, mut-slice-tells}
-use Rattle.walks.proofs.Walk.{shr-slice-tells, plain, shrSliceOf, peeks, heard, nothing, onEntry, Contract, Triple, calls-at, Meets, tripleOf, entered, cited, Lasts, lasts, says, Stays, stay-dropped, gave-ref, gave-slice, walkOf, Walks, ends-at, walked, goes-dropped, goes-gave-ref, goes-gave-slice, walk-meets}
-use Rattle.walks.proofs.Order.{entry, var, gone1}
+use Rattle.walks.proofs.Walk.{_≡_, refl, ℕ, _+_, List, [], _∷_, length, URA, named, w32, Val, vptr, SProp, ent, emp, id⊢, via, fst∗, Lft}
+use Rattle.walks.proofs.Walk.{GName, Share, ftrue, flft, fres, Memory, Routine, Heap, Calls, Loops, WpFn, Tables, Atoms, FmC, fmOf}
+use Rattle.walks.proofs.Walk.{WpFn-mono, Fun, fact, givenOf, tables, tablesOf, Given, Item, ‵, raw, _⊛_, some, later, ⋆, _$_, _∵_, !, qed}
+use Rattle.walks.proofs.Walk.{by, move, keep, drop, use1, split, join, pick}
+use Rattle.walks.proofs.Walk.{fsplit, fjoin, suffices, frame, await, done, agg, whole, sub, look-in, look, init, stop, hop, fld, from, load}
+use Rattle.walks.proofs.Walk.{addr, and-then, no-more, land, assigns, returns, enter, alloc1, alloc0, params1, pass1, pass0, yes}
+use Rattle.walks.proofs.Walk.{owns, Is, shows, uint-lawful, u8, u32, RefT, MutRef, ptr-vals, mut-tells, sliceVal, MutSlice, ShrSlice, Room}
+use Rattle.walks.proofs.Walk.{finally, slice-vals, mut-slice-tells}
+use Rattle.walks.proofs.Walk.{shr-slice-tells, plain, shrSliceOf, peeks, heard, nothing, onEntry, Contract, Triple, calls-at, Meets}
+use Rattle.walks.proofs.Walk.{tripleOf, entered, cited, Lasts, lasts, says, Stays, stay-dropped, gave-ref, gave-slice, walkOf, Walks}
+use Rattle.walks.proofs.Walk.{ends-at, walked, goes-dropped, goes-gave-ref, goes-gave-slice, walk-meets}
+use Rattle.walks.proofs.Order.{entry, var, gone}
 use Rattle.cells.specs.declared.CellRecord.{CellRecord}
 use Rattle.cells.proofs.CellRecord as C
-use Rattle.recv.specs.declared.RecvQueue.{RecvQueue}
-use Rattle.recv.proofs.RecvQueue as Q
+use Rattle.receiver.specs.declared.RecvQueue.{RecvQueue}
+use Rattle.receiver.proofs.RecvQueue as Q
 use Rattle.recv_new.specs.declared.MakeNew.{MakeNew}
 use Rattle.recv_new.specs.New.{newAnswer, madeNew, makeNewOf}
 use Rattle.exports.specs.Numbers.{numberOf}
 use Rattle.recv_new.proofs.MakeNew as R
 use Rattle.recv_new.proofs.MakeNew.Laws as R′
-use Rattle.held.proofs.Calls.{Make, calls-make}
+use Rattle.recv_array.proofs.Calls.{Make, calls-make}
 use Rattle.exports_queue.proofs.Told.{made-numbers}
 use Rattle.recv_new.proofs.make_new.Symbol as call-def
 use Rattle.recv_new.proofs.make_new.Symbol.{name as #call}
 use Rattle.recv_new.proofs.make_new.Met as call-thm
-use Rattle.exports_queue.proofs.new_number as told
-use Rattle.exports_queue.proofs.new_number.Symbol as told-def
-use Rattle.exports_queue.proofs.new_number.Symbol.{name as #told}
-use Rattle.exports_queue.proofs.new_number.Met as told-thm
+use Rattle.recv_answers.proofs.new_number as told
+use Rattle.recv_answers.proofs.new_number.Symbol as told-def
+use Rattle.recv_answers.proofs.new_number.Symbol.{name as #told}
+use Rattle.recv_answers.proofs.new_number.Met as told-thm
 use Rattle.exports_queue.proofs.poghduka_make_new.Key.{name as #here}
 use Rattle.exports_queue.proofs.poghduka_make_new as here
 use Rattle.exports_queue.proofs.poghduka_make_new.Statement as stated
@@ -30,13 +39,20 @@ use Rattle.exports_queue.proofs.poghduka_make_new.Code as code
 
 -- what the walk still has of each parameter at exit: of a `&mut` its last value
 abbrev stayed : Stays (here.ended .signature .params) (here.ended .kept)
-stayed = (gave-ref (0 ∷ []) tt (plain (λ _. Q.the-row)), (gave-slice (1 ∷ []) tt (plain (λ _. C.the-row)), (stay-dropped (shrSliceOf (2 ∷ []) tt (plain (λ _. u8))) yes, tt)))
+stayed = (
+  gave-ref (0 ∷ []) tt (plain (λ _. Q.the-row)),
+  (
+    gave-slice (1 ∷ []) tt (plain (λ _. C.the-row)),
+    (stay-dropped (shrSliceOf (2 ∷ []) tt (plain (λ _. u8))) yes, tt),
+  ),
+)
 
 module _ {M : Type 1} (𝓤 : URA M) (H : Heap 𝓤) (A : Atoms 𝓤) (mem : Memory → SProp 𝓤) (run : Routine → Fun 𝓤) where
   abbrev Told : Contract 𝓤
   Told = tripleOf 𝓤 H A told.signature (told.spec 𝓤 H A mem run)
 
-module _ {M : Type 1} (𝓤 : URA M) (H : Heap 𝓤) (A : Atoms 𝓤) (W : Given 𝓤 H A) (mem : Memory → SProp 𝓤) (run : Routine → Fun 𝓤) (κ₀ κ₁ κ₂ : Lft) (q₀ q₁ q₂ : Share)
+module _ {M : Type 1} (𝓤 : URA M) (H : Heap 𝓤) (A : Atoms 𝓤) (W : Given 𝓤 H A) (mem : Memory → SProp 𝓤) (run : Routine → Fun 𝓤)
+    (κ₀ κ₁ κ₂ : Lft) (q₀ q₁ q₂ : Share)
     (b₀ o₀ : ℕ) (γ₀ : GName) (h : RecvQueue) (b₁ o₁ : ℕ) (γ₁ : GName) (rs : List CellRecord) (b₂ o₂ : ℕ) (γ₂ : GName) (cs : List ℕ)
     (room₁ : Room C.the-row (length rs)) (room₂ : Room u8 (length cs)) where
   -- the parameters, and their machine values
@@ -66,12 +82,16 @@ module _ {M : Type 1} (𝓤 : URA M) (H : Heap 𝓤) (A : Atoms 𝓤) (W : Given
 
   -- at the end: the numbers z at their machine value, and the last values
   abbrev Left : Val → ℕ → RecvQueue → List CellRecord → List (Item 𝓤)
-  Left v z h′ l = ‵ (u32 .own z (v ∷ [])) ∷ ‵ (flft κ₀ q₀) ∷ ‵ (flft κ₁ q₁) ∷ ‵ (flft κ₂ q₂) ∷ ‵ (fres γ₀ (Q.the-row .coded .code h′)) ∷ ‵ (finally C.the-row γ₁ l) ∷ []
+  Left v z h′ l = ‵ (u32 .own z (v ∷ [])) ∷ ‵ (flft κ₀ q₀) ∷ ‵ (flft κ₁ q₁) ∷ ‵ (flft κ₂ q₂) ∷ ‵ (fres γ₀ (Q.the-row .coded .code h′))
+      ∷ ‵ (finally C.the-row γ₁ l) ∷ []
 
-  exits : (v : Val) (a : MakeNew) (z : ℕ) (h′ : RecvQueue) (l : List CellRecord) → madeNew a h′ l ≡ makeNewOf h rs cs → z ≡ numberOf (newAnswer a) → length l ≡ length rs → ent 𝓤 (⋆ 𝓤 H A (Left v z h′ l)) (Post v)
+  exits : (v : Val) (a : MakeNew) (z : ℕ) (h′ : RecvQueue) (l : List CellRecord) → madeNew a h′ l ≡ makeNewOf h rs cs → z
+      ≡ numberOf (newAnswer a) → length l ≡ length rs → ent 𝓤 (⋆ 𝓤 H A (Left v z h′ l)) (Post v)
   exits v a z h′ l said t e =
-      qed W (Left v z h′ l) ∵ suffices ! _ (ends-at 𝓤 H A here.ended stayed (here.clauses 𝓤 H A mem run) W Passed v z (h′, (l, (tt, tt))) (tt, (e, (tt, tt)))) $ says ! (made-numbers a z h′ l _ said t) $
-      nothing ! $ move ! (4 ∷ 0 ∷ []) $ join ! $ move ! (3 ∷ 0 ∷ []) $ join ! $ move ! (2 ∷ 0 ∷ []) $ join ! $ frame ! $ nothing ! $ nothing ! $ fjoin ! $ move ! (3 ∷ 0 ∷ []) $ fjoin ! $ move ! (2 ∷ 0 ∷ []) $ fjoin ! $ done !
+      qed W (Left v z h′ l) ∵ suffices ! _ (ends-at 𝓤 H A here.ended stayed (here.clauses 𝓤 H A mem run) W Passed v z (h′, (l, (tt, tt)))
+      (tt, (e, (tt, tt)))) $ says ! (made-numbers a z h′ l _ said t) $
+      nothing ! $ move ! (4 ∷ 0 ∷ []) $ join ! $ move ! (3 ∷ 0 ∷ []) $ join ! $ move ! (2 ∷ 0 ∷ []) $ join ! $ frame ! $ nothing ! $
+      nothing ! $ fjoin ! $ move ! (3 ∷ 0 ∷ []) $ fjoin ! $ move ! (2 ∷ 0 ∷ []) $ fjoin ! $ done !
 
   -- ---- the call that tells the answer a, at the machine value v, in numbers
   module _ (a : MakeNew) (v : Val) where
@@ -79,46 +99,77 @@ module _ {M : Type 1} (𝓤 : URA M) (H : Heap 𝓤) (A : Atoms 𝓤) (W : Given
     to-told = ((tt, tt, tt, (a, tt), (v ∷ [], tt)), tt)
 
     goes-told : ent 𝓤 (⋆ 𝓤 H A (‵ (R.the-row .own a (v ∷ [])) ∷ [])) (Told 𝓤 H A mem run .pre to-told)
-    goes-told = qed W (‵ (R.the-row .own a (v ∷ [])) ∷ []) ∵ nothing ! $ move ! (1 ∷ 0 ∷ []) $ fjoin ! $ nothing ! $ join ! $ nothing ! $ move ! (1 ∷ 0 ∷ []) $ done !
+    goes-told = qed W (‵ (R.the-row .own a (v ∷ [])) ∷ []) ∵ nothing ! $ move ! (1 ∷ 0 ∷ []) $ fjoin ! $ nothing ! $ join ! $ nothing ! $
+        move ! (1 ∷ 0 ∷ []) $ done !
 
-  module _ (C′ : Calls 𝓤 H) (Λ : Loops 𝓤 H) (fm : FmC 𝓤 H (W .laws) C′) (known : Triple 𝓤 (C′ #call) (Make 𝓤 H A mem run)) (known-told : Triple 𝓤 (C′ #told) (Told 𝓤 H A mem run)) where
-    walk : ent 𝓤 (onEntry 𝓤 H A here.signature (κ₀, (κ₁, (κ₂, tt))) (q₀, (q₁, (q₂, tt))) (x, (y, (s, tt))) (vx ∷ [], (vy ∷ [], (vs ∷ [], tt)))) (WpFn 𝓤 H C′ Λ code.function (vx ∷ vy ∷ vs ∷ []) Post)
+  module _ (C′ : Calls 𝓤 H) (Λ : Loops 𝓤 H) (fm : FmC 𝓤 H (W .laws) C′) (known : Triple 𝓤 (C′ #call) (Make 𝓤 H A mem run))
+      (known-told : Triple 𝓤 (C′ #told) (Told 𝓤 H A mem run)) where
+    walk : ent 𝓤 (onEntry 𝓤 H A here.signature (κ₀, (κ₁, (κ₂, tt))) (q₀, (q₁, (q₂, tt))) (x, (y, (s, tt)))
+        (vx ∷ [], (vy ∷ [], (vs ∷ [], tt)))) (WpFn 𝓤 H C′ Λ code.function (vx ∷ vy ∷ vs ∷ []) Post)
     walk =
-        qed W ((‵ (flft κ₀ q₀) ⊛ (‵ (flft κ₁ q₁) ⊛ (‵ (flft κ₂ q₂) ⊛ ‵ ftrue))) ∷ ‵ (owns (MutRef (named 0) κ₀ Q.the-row ∷ MutSlice (named 1) κ₁ C.the-row ∷ ShrSlice (named 2) κ₂ u8 ∷ []) (x, (y, (s, tt))) (vx ∷ [], (vy ∷ [], (vs ∷ [], tt)))) ∷ []) ∵
+        qed W ((‵ (flft κ₀ q₀) ⊛ (‵ (flft κ₁ q₁) ⊛ (‵ (flft κ₂ q₂) ⊛ ‵ ftrue)))
+        ∷ ‵ (owns (MutRef (named 0) κ₀ Q.the-row ∷ MutSlice (named 1) κ₁ C.the-row ∷ ShrSlice (named 2) κ₂ u8 ∷ []) (x, (y, (s, tt)))
+        (vx ∷ [], (vy ∷ [], (vs ∷ [], tt)))) ∷ []) ∵
         enter ! C′ Λ code.function (vx ∷ vy ∷ vs ∷ []) _ $
-        alloc1 ! (λ l₀. alloc1 ! (λ l₁. alloc1 ! (λ l₂. alloc1 ! (λ l₃. alloc1 ! (λ l₄. alloc1 ! (λ l₅. alloc1 ! (λ l₆. alloc1 ! (λ l₇. alloc0 ! $ params1 ! $
-        pass1 ! (init ! 12 refl (tt, tt)) $ pass1 ! (init ! 10 refl (tt, (tt, (record { fits = room₁ .0 }, tt)))) $ pass1 ! (init ! 8 refl (tt, (tt, (record { fits = room₂ .0 }, tt)))) $ pass0 ! $
-        move ! (17 ∷ []) $ fsplit ! $ move ! (1 ∷ []) $ fsplit ! $ move ! (1 ∷ []) $ fsplit ! $ move ! (20 ∷ []) $ split ! $ move ! (1 ∷ []) $ split ! $ move ! (1 ∷ []) $ split ! $
+        alloc1 ! (λ l₀. alloc1 !
+        (λ l₁. alloc1 ! (λ l₂. alloc1 ! (λ l₃. alloc1 ! (λ l₄. alloc1 ! (λ l₅. alloc1 ! (λ l₆. alloc1 ! (λ l₇. alloc0 ! $ params1 ! $
+        pass1 ! (init ! 12 refl (tt, tt)) $ pass1 ! (init ! 10 refl (tt, (tt, (record { fits = room₁ .0 }, tt)))) $
+        pass1 ! (init ! 8 refl (tt, (tt, (record { fits = room₂ .0 }, tt)))) $ pass0 ! $
+        move ! (17 ∷ []) $ fsplit ! $ move ! (1 ∷ []) $ fsplit ! $ move ! (1 ∷ []) $ fsplit ! $ move ! (20 ∷ []) $ split ! $ move ! (1 ∷ [])
+        $ split ! $ move ! (1 ∷ []) $ split ! $
         -- from here on what is owned stands first, then the locals _0, …, _7, then that each dies: with k things owned, local i is at k + i
         keep ! (3 ∷ 2 ∷ 0 ∷ 7 ∷ 6 ∷ 4 ∷ entry 8 8) $
         -- 6: [the tokens; the parameters]
         assigns ! (addr ! (from ! (hop ! (look ! (6 + 1) refl) (stop !)))) (from ! (stop !)) (init ! (6 + 5) refl (tt, tt)) $
-        assigns ! (addr ! (from ! (fld ! refl (hop ! (look-in ! (6 + 2) (sub ! 0 refl (whole !))) (stop !))))) (from ! (stop !)) (init ! (6 + 6) refl (tt, tt)) $
-        assigns ! (agg ! (and-then ! (var ! (6 + 6) refl) (and-then ! (load ! (from ! (fld ! refl (stop !))) (look-in ! (6 + 2) (sub ! 1 refl (whole !)))) (no-more !)))) (from ! (stop !)) (init ! (6 + 7) refl (tt, (tt, (record { fits = room₁ .0 }, tt)))) $
-        calls-make 𝓤 H A W mem run κ₀ κ₁ κ₂ q₀ q₁ q₂ x y s vx vy vs ! fm known (and-then ! (var ! (1 + 5) refl) (and-then ! (var ! (1 + 7) refl) (and-then ! (var ! (1 + 3) refl) (no-more !)))) (λ v a h′ l is.
+        assigns ! (addr ! (from ! (fld ! refl (hop ! (look-in ! (6 + 2) (sub ! 0 refl (whole !))) (stop !))))) (from ! (stop !))
+        (init ! (6 + 6) refl (tt, tt)) $
+        assigns ! (agg ! (and-then ! (var ! (6 + 6) refl) (and-then !
+        (load ! (from ! (fld ! refl (stop !))) (look-in ! (6 + 2) (sub ! 1 refl (whole !)))) (no-more !)))) (from ! (stop !))
+        (init ! (6 + 7) refl (tt, (tt, (record { fits = room₁ .0 }, tt)))) $
+        calls-make 𝓤 H A W mem run κ₀ κ₁ κ₂ q₀ q₁ q₂ x y s vx vy vs ! fm known
+        (and-then ! (var ! (1 + 5) refl) (and-then ! (var ! (1 + 7) refl) (and-then ! (var ! (1 + 3) refl) (no-more !))))
+        (λ v a h′ l is.
         -- 6: [the answer; the tokens; the last values]
         peeks ! R.the-row (Is R.the-row) (shows 𝓤 H A R.the-row) a (v ∷ []) (λ isa.
         land ! (from ! (stop !)) (init ! (6 + 4) refl (EL.lawful R.the-type R′.the-laws 𝓤 H A W tt .typed a _ isa .0)) $
-        use1 W (raw (Told 𝓤 H A mem run .pre (to-told a v))) (goes-told a v) $ calls-at ! fm (Told 𝓤 H A mem run) known-told (to-told a v) (and-then ! (var ! (6 + 4) refl) (no-more !)) (λ y′.
-        use1 W (later (some (λ (z : ℕ). (‵ ftrue ⊛ ‵ (u32 .own z (y′ ∷ []))) ⊛ some (λ (zs : Lasts told.ended tt (a, tt)). ‵ (lasts told.ended tt (a, tt) zs) ⊛ raw (fact 𝓤 (z ≡ numberOf (newAnswer a))))))) (id⊢ 𝓤 _) $
-        await ! tt $ pick ! (λ z. split ! $ move ! (1 ∷ []) $ pick ! (λ zs. split ! $ move ! (1 ∷ []) $ heard ! (z ≡ numberOf (newAnswer a)) (λ t. drop ! $ split ! $ drop ! $
+        use1 W (raw (Told 𝓤 H A mem run .pre (to-told a v))) (goes-told a v) $ calls-at ! fm (Told 𝓤 H A mem run) known-told (to-told a v)
+        (and-then ! (var ! (6 + 4) refl) (no-more !)) (λ y′.
+        use1 W (later (some (λ (z : ℕ). (‵ ftrue ⊛ ‵ (u32 .own z (y′ ∷ []))) ⊛ some
+        (λ (zs : Lasts told.ended tt (a, tt)). ‵ (lasts told.ended tt (a, tt) zs) ⊛ raw (fact 𝓤 (z ≡ numberOf (newAnswer a)))))))
+        (id⊢ 𝓤 _) $
+        await ! tt $ pick ! (λ z. split ! $ move ! (1 ∷ []) $
+        pick ! (λ zs. split ! $ move ! (1 ∷ []) $ heard ! (z ≡ numberOf (newAnswer a)) (λ t. drop ! $ split ! $ drop ! $
         peeks ! u32 (Is u32) (shows 𝓤 H A u32) z (y′ ∷ []) (λ isz.
         -- 6: [the numbers; the tokens; the last values]
         land ! (from ! (stop !)) (init ! 6 refl (uint-lawful 𝓤 H A W w32 .typed z _ isz .0)) $ returns ! (look ! 6 refl) $
-        move ! (6 ∷ 14 ∷ []) $ gone1 ! $ move ! (6 ∷ 13 ∷ []) $ gone1 ! $ move ! (6 ∷ 12 ∷ []) $ gone1 ! $ move ! (6 ∷ 11 ∷ []) $ gone1 ! $ move ! (6 ∷ 10 ∷ []) $ gone1 ! $ move ! (6 ∷ 9 ∷ []) $ gone1 ! $ move ! (6 ∷ 8 ∷ []) $ gone1 ! $ move ! (6 ∷ 7 ∷ []) $ gone1 ! $ free0 ! $
-        by ! (exits y′ a z h′ l (is .1) t (is .0)))))))))))))))))
+        gone ! 6 refl $ by ! (exits y′ a z h′ l (is .1) t (is .0)))))))))))))))))
 
-module _ {M : Type 1} (𝓤 : URA M) (H : Heap 𝓤) (A : Atoms 𝓤) (W : Given 𝓤 H A) (mem : Memory → SProp 𝓤) (run : Routine → Fun 𝓤) (𝓣 : Tables 𝓤 H) (known : Triple 𝓤 (𝓣 .C #call) (Make 𝓤 H A mem run)) (known-told : Triple 𝓤 (𝓣 .C #told) (Told 𝓤 H A mem run)) where
+module _ {M : Type 1} (𝓤 : URA M) (H : Heap 𝓤) (A : Atoms 𝓤) (W : Given 𝓤 H A) (mem : Memory → SProp 𝓤) (run : Routine → Fun 𝓤)
+    (𝓣 : Tables 𝓤 H) (known : Triple 𝓤 (𝓣 .C #call) (Make 𝓤 H A mem run)) (known-told : Triple 𝓤 (𝓣 .C #told) (Told 𝓤 H A mem run)) where
   here-walks : Walks 𝓤 H A here.ended stayed (WpFn 𝓤 H (𝓣 .C) (𝓣 .Λ) code.function) (here.clauses 𝓤 H A mem run)
-  here-walks = walked 𝓤 H A here.ended stayed (here.clauses 𝓤 H A mem run) (WpFn 𝓤 H (𝓣 .C) (𝓣 .Λ) code.function) (λ κs. (ptr-vals, (slice-vals, (slice-vals, tt))))
-      (λ κs. (mut-tells (named 0) (κs .0) Q.the-row, (mut-slice-tells (named 1) (κs .1 .0) C.the-row, (shr-slice-tells (named 2) (κs .1 .1 .0) u8, tt))))
+  here-walks = walked 𝓤 H A here.ended stayed (here.clauses 𝓤 H A mem run) (WpFn 𝓤 H (𝓣 .C) (𝓣 .Λ) code.function)
+      (λ κs. (ptr-vals, (slice-vals, (slice-vals, tt))))
+      (λ κs. (
+        mut-tells (named 0) (κs .0) Q.the-row,
+        (
+          mut-slice-tells (named 1) (κs .1 .0) C.the-row,
+          (shr-slice-tells (named 2) (κs .1 .1 .0) u8, tt),
+        ),
+      ))
       (λ κs qs bounds a g are. via 𝓤 _ (fst∗ 𝓤 _ (emp 𝓤))
-      (walk 𝓤 H A W mem run (κs .0) (κs .1 .0) (κs .1 .1 .0) (qs .0) (qs .1 .0) (qs .1 .1 .0) (a .0 .ptr .0) (a .0 .ptr .1) (a .0 .name) (a .0 .now) (a .1 .0 .ptr .0) (a .1 .0 .ptr .1) (a .1 .0 .name) (a .1 .0 .now) (a .1 .1 .0 .ptr .0) (a .1 .1 .0 .ptr .1) (a .1 .1 .0 .name) (a .1 .1 .0 .now)
+      (walk 𝓤 H A W mem run (κs .0) (κs .1 .0) (κs .1 .1 .0) (qs .0) (qs .1 .0) (qs .1 .1 .0) (a .0 .ptr .0) (a .0 .ptr .1) (a .0 .name)
+      (a .0 .now) (a .1 .0 .ptr .0) (a .1 .0 .ptr .1) (a .1 .0 .name) (a .1 .0 .now) (a .1 .1 .0 .ptr .0) (a .1 .1 .0 .ptr .1)
+      (a .1 .1 .0 .name) (a .1 .1 .0 .now)
       (are .1 .0 .0 .1) (are .1 .1 .0 .0 .1) (𝓣 .C) (𝓣 .Λ) (fmOf 𝓤 H (W .laws) 𝓣) known known-told))
 
   here-meets : Meets 𝓤 H A here.signature (WpFn 𝓤 H (𝓣 .C) (𝓣 .Λ) code.function) (here.spec 𝓤 H A mem run)
-  here-meets = walk-meets 𝓤 H A here.ended stayed W
-      (goes-gave-ref 𝓤 H A W 3 0 tt (plain (λ _. Q.the-row)), (goes-gave-slice 𝓤 H A W 3 1 tt (plain (λ _. C.the-row)), (goes-dropped 𝓤 H A W 3 (shrSliceOf (2 ∷ []) tt (plain (λ _. u8))) yes (λ κs x f. refl), tt)))
+  here-meets = walk-meets 𝓤 H A here.ended stayed W (
+    goes-gave-ref 𝓤 H A W 3 0 tt (plain (λ _. Q.the-row)),
+    (
+      goes-gave-slice 𝓤 H A W 3 1 tt (plain (λ _. C.the-row)),
+      (goes-dropped 𝓤 H A W 3 (shrSliceOf (2 ∷ []) tt (plain (λ _. u8))) yes (λ κs x f. refl), tt),
+    ),
+  )
       (here.clauses 𝓤 H A mem run) (WpFn 𝓤 H (𝓣 .C) (𝓣 .Λ) code.function) (WpFn-mono 𝓤 H (W .laws) 𝓣 code.function) here-walks
 
 pub poghduka-make-new-spec : {M : Type 1} → stated.statement M
@@ -127,5 +178,7 @@ poghduka-make-new-spec 𝓤 H 𝓜 𝓖 𝓡 =
     entered 𝓤 H (tripleOf 𝓤 H (𝓖 .A) here.signature (here.spec 𝓤 H (𝓖 .A) (𝓜 .mem) (𝓡 .run)))
     (tables 𝓤 H 𝓜 𝓡 code.env .C) (tables 𝓤 H 𝓜 𝓡 code.env .Λ) #here code.function (code.unfolded 𝓤 H 𝓜 𝓡)
     (here-meets 𝓤 H (𝓖 .A) (givenOf 𝓤 H 𝓜 𝓖) (𝓜 .mem) (𝓡 .run) (tablesOf 𝓤 H 𝓜 (tables 𝓤 H 𝓜 𝓡 code.env))
-    (cited 𝓤 H (Make 𝓤 H (𝓖 .A) (𝓜 .mem) (𝓡 .run)) 𝓜 𝓡 code.env #call call-def.routine code.calls-recv-new·make-new (call-thm.met 𝓤 H 𝓜 𝓖 𝓡))
-    (cited 𝓤 H (Told 𝓤 H (𝓖 .A) (𝓜 .mem) (𝓡 .run)) 𝓜 𝓡 code.env #told told-def.routine code.calls-exports-queue·new-number (told-thm.met 𝓤 H 𝓜 𝓖 𝓡)))
+    (cited 𝓤 H (Make 𝓤 H (𝓖 .A) (𝓜 .mem) (𝓡 .run)) 𝓜 𝓡 code.env #call call-def.routine code.calls-recv-new·make-new
+    (call-thm.met 𝓤 H 𝓜 𝓖 𝓡))
+    (cited 𝓤 H (Told 𝓤 H (𝓖 .A) (𝓜 .mem) (𝓡 .run)) 𝓜 𝓡 code.env #told told-def.routine code.calls-recv-answers·new-number
+    (told-thm.met 𝓤 H 𝓜 𝓖 𝓡)))

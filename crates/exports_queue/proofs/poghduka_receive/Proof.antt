@@ -1,34 +1,43 @@
--- `exports_queue::poghduka_receive` meets its contract: a walk of its MIR, by hand, a straight line of two calls. All that was lent is given up to the first.
+-- `exports_queue::poghduka_receive` meets its contract: a walk of its MIR, by hand, a straight line of two calls. All that was lent is
+-- given up to the first.
 -- Assumes nothing.
 use denote.Struct.Laws as LL
 use denote.Enum.Laws as EL
-use Rattle.walks.proofs.Walk.{_≡_, refl, ℕ, _+_, List, [], _∷_, length, URA, named, Val, vptr, SProp, ent, emp, id⊢, via, fst∗, Lft, GName, Share, ftrue, flft, fres, Memory, Routine, Heap, Calls, Loops, WpFn, Tables, Atoms, FmC, fmOf, WpFn-mono, Fun, fact, givenOf, tables, tablesOf, Given, Item, ‵, raw, _⊛_, some, later, ⋆, _$_, _∵_, !, qed, by, move, keep, drop, use1, split, join, pick, fsplit}
-use Rattle.walks.proofs.Walk.{fjoin, suffices, frame, await, done, agg, whole, sub, look-in, look, init, stop, hop, fld, from, load, addr, and-then, no-more, land, assigns, returns, enter, alloc1, alloc0, params1, pass1, pass0, free0, yes, owns, Is, shows, u8, RefT, MutRef, ptr-vals, mut-tells, sliceVal, MutSlice, ShrSlice, Room, finally, slice-vals, mut-slice-tells, shr-slice-tells, plain}
-use Rattle.walks.proofs.Walk.{shrSliceOf, peeks, heard, nothing, onEntry, Contract, Triple, calls-at, Meets, tripleOf, entered, cited, Lasts, lasts, says, Stays, stay-dropped, gave-ref, gave-slice, walkOf, Walks, ends-at, walked, goes-dropped, goes-gave-ref, goes-gave-slice, walk-meets}
-use Rattle.walks.proofs.Order.{entry, var, gone1}
+use Rattle.walks.proofs.Walk.{_≡_, refl, ℕ, _+_, List, [], _∷_, length, URA, named, Val, vptr, SProp, ent, emp, id⊢, via, fst∗, Lft, GName}
+use Rattle.walks.proofs.Walk.{Share, ftrue, flft, fres, Memory, Routine, Heap, Calls, Loops, WpFn, Tables, Atoms, FmC, fmOf, WpFn-mono, Fun}
+use Rattle.walks.proofs.Walk.{fact, givenOf, tables, tablesOf, Given, Item, ‵, raw, _⊛_, some, later, ⋆, _$_, _∵_, !, qed, by, move, keep}
+use Rattle.walks.proofs.Walk.{drop, use1, split, join, pick, fsplit}
+use Rattle.walks.proofs.Walk.{fjoin, suffices, frame, await, done, agg, whole, sub, look-in, look, init, stop, hop, fld, from, load, addr}
+use Rattle.walks.proofs.Walk.{and-then, no-more, land, assigns, returns, enter, alloc1, alloc0, params1, pass1, pass0, yes, owns, Is}
+use Rattle.walks.proofs.Walk.{shows, u8, RefT, MutRef, ptr-vals, mut-tells, sliceVal, MutSlice, ShrSlice, Room, finally, slice-vals}
+use Rattle.walks.proofs.Walk.{mut-slice-tells, shr-slice-tells, plain}
+use Rattle.walks.proofs.Walk.{shrSliceOf, peeks, heard, nothing, onEntry, Contract, Triple, calls-at, Meets, tripleOf, entered, cited}
+use Rattle.walks.proofs.Walk.{Lasts, lasts, says, Stays, stay-dropped, gave-ref, gave-slice, walkOf, Walks, ends-at, walked, goes-dropped}
+use Rattle.walks.proofs.Walk.{goes-gave-ref, goes-gave-slice, walk-meets}
+use Rattle.walks.proofs.Order.{entry, var, gone}
 use Rattle.cells.specs.declared.CellRecord.{CellRecord}
 use Rattle.cells.proofs.CellRecord as C
-use Rattle.recv.specs.declared.RecvQueue.{RecvQueue}
-use Rattle.recv.proofs.RecvQueue as Q
-use Rattle.pass.specs.declared.Receive.{Receive}
-use Rattle.pass.specs.Outcome.{receiveAnswer}
+use Rattle.receiver.specs.declared.RecvQueue.{RecvQueue}
+use Rattle.receiver.proofs.RecvQueue as Q
+use Rattle.recv_steps.specs.declared.Receive.{Receive}
+use Rattle.recv_steps.specs.Outcome.{receiveAnswer}
 use Rattle.recv_queue.specs.Answers.{received}
-use Rattle.recv.specs.Receive.{receiveOf}
-use Rattle.exports_queue.specs.declared.QueueReceived.{QueueReceived}
-use Rattle.exports_queue.specs.Receiver.{receiveTold}
-use Rattle.pass.proofs.Receive as R
-use Rattle.pass.proofs.Receive.Laws as R′
-use Rattle.held.proofs.Calls.{Receives, calls-receive}
+use Rattle.receiver.specs.Receive.{receiveOf}
+use Rattle.recv_answers.specs.declared.QueueReceived.{QueueReceived}
+use Rattle.recv_answers.specs.Told.{receiveTold}
+use Rattle.recv_steps.proofs.Receive as R
+use Rattle.recv_steps.proofs.Receive.Laws as R′
+use Rattle.recv_array.proofs.Calls.{Receives, calls-receive}
 use Rattle.exports_queue.proofs.Told.{received-numbers}
-use Rattle.exports_queue.proofs.QueueReceived as Z
-use Rattle.exports_queue.proofs.QueueReceived.Laws as Z′
+use Rattle.recv_answers.proofs.QueueReceived as Z
+use Rattle.recv_answers.proofs.QueueReceived.Laws as Z′
 use Rattle.recv_queue.proofs.receiving.receive.Symbol as call-def
 use Rattle.recv_queue.proofs.receiving.receive.Symbol.{name as #call}
 use Rattle.recv_queue.proofs.receiving.receive.Met as call-thm
-use Rattle.exports_queue.proofs.receive_told as told
-use Rattle.exports_queue.proofs.receive_told.Symbol as told-def
-use Rattle.exports_queue.proofs.receive_told.Symbol.{name as #told}
-use Rattle.exports_queue.proofs.receive_told.Met as told-thm
+use Rattle.recv_answers.proofs.receive_told as told
+use Rattle.recv_answers.proofs.receive_told.Symbol as told-def
+use Rattle.recv_answers.proofs.receive_told.Symbol.{name as #told}
+use Rattle.recv_answers.proofs.receive_told.Met as told-thm
 use Rattle.exports_queue.proofs.poghduka_receive.Key.{name as #here}
 use Rattle.exports_queue.proofs.poghduka_receive as here
 use Rattle.exports_queue.proofs.poghduka_receive.Statement as stated
@@ -36,14 +45,22 @@ use Rattle.exports_queue.proofs.poghduka_receive.Code as code
 
 -- what the walk still has of each parameter at exit: of a `&mut` its last value
 abbrev stayed : Stays (here.ended .signature .params) (here.ended .kept)
-stayed = (gave-ref (0 ∷ []) tt (plain (λ _. Q.the-row)), (gave-slice (1 ∷ []) tt (plain (λ _. C.the-row)), (gave-slice (2 ∷ []) tt (plain (λ _. u8)), (stay-dropped (shrSliceOf (3 ∷ []) tt (plain (λ _. u8))) yes, tt))))
+stayed = (
+  gave-ref (0 ∷ []) tt (plain (λ _. Q.the-row)),
+  (
+    gave-slice (1 ∷ []) tt (plain (λ _. C.the-row)),
+    (gave-slice (2 ∷ []) tt (plain (λ _. u8)), (stay-dropped (shrSliceOf (3 ∷ []) tt (plain (λ _. u8))) yes, tt)),
+  ),
+)
 
 module _ {M : Type 1} (𝓤 : URA M) (H : Heap 𝓤) (A : Atoms 𝓤) (mem : Memory → SProp 𝓤) (run : Routine → Fun 𝓤) where
   abbrev Told : Contract 𝓤
   Told = tripleOf 𝓤 H A told.signature (told.spec 𝓤 H A mem run)
 
-module _ {M : Type 1} (𝓤 : URA M) (H : Heap 𝓤) (A : Atoms 𝓤) (W : Given 𝓤 H A) (mem : Memory → SProp 𝓤) (run : Routine → Fun 𝓤) (κ₀ κ₁ κ₂ κ₃ : Lft) (q₀ q₁ q₂ q₃ : Share)
-    (b₀ o₀ : ℕ) (γ₀ : GName) (h : RecvQueue) (b₁ o₁ : ℕ) (γ₁ : GName) (rs : List CellRecord) (b₂ o₂ : ℕ) (γ₂ : GName) (bs : List ℕ) (b₃ o₃ : ℕ) (γ₃ : GName) (cs : List ℕ)
+module _ {M : Type 1} (𝓤 : URA M) (H : Heap 𝓤) (A : Atoms 𝓤) (W : Given 𝓤 H A) (mem : Memory → SProp 𝓤) (run : Routine → Fun 𝓤)
+    (κ₀ κ₁ κ₂ κ₃ : Lft) (q₀ q₁ q₂ q₃ : Share)
+    (b₀ o₀ : ℕ) (γ₀ : GName) (h : RecvQueue) (b₁ o₁ : ℕ) (γ₁ : GName) (rs : List CellRecord) (b₂ o₂ : ℕ) (γ₂ : GName) (bs : List ℕ)
+    (b₃ o₃ : ℕ) (γ₃ : GName) (cs : List ℕ)
     (room₁ : Room C.the-row (length rs)) (room₂ : Room u8 (length bs)) (room₃ : Room u8 (length cs)) where
   -- the parameters, and their machine values
   abbrev x : RefT RecvQueue
@@ -71,19 +88,34 @@ module _ {M : Type 1} (𝓤 : URA M) (H : Heap 𝓤) (A : Atoms 𝓤) (W : Given
   vd = sliceVal (b₃, o₃) (length cs)
 
   abbrev Passed : walkOf 𝓤 H A here.ended stayed (here.clauses 𝓤 H A mem run) .Ghost
-  Passed = (((κ₀, (κ₁, (κ₂, (κ₃, tt)))), (q₀, (q₁, (q₂, (q₃, tt)))), tt, (x, (y, (s, (d, tt)))), (vx ∷ [], (vy ∷ [], (vs ∷ [], (vd ∷ [], tt))))), tt)
+  Passed = (
+    (
+      (κ₀, (κ₁, (κ₂, (κ₃, tt)))),
+      (q₀, (q₁, (q₂, (q₃, tt)))),
+      tt,
+      (x, (y, (s, (d, tt)))),
+      (vx ∷ [], (vy ∷ [], (vs ∷ [], (vd ∷ [], tt)))),
+    ),
+    tt,
+  )
 
   abbrev Post : Val → SProp 𝓤
   Post = walkOf 𝓤 H A here.ended stayed (here.clauses 𝓤 H A mem run) .post Passed
 
   -- at the end: the numbers z at their machine value, and the last values
   abbrev Left : Val → QueueReceived → RecvQueue → List CellRecord → List ℕ → List (Item 𝓤)
-  Left v z h′ l w = ‵ (Z.the-row .own z (v ∷ [])) ∷ ‵ (flft κ₀ q₀) ∷ ‵ (flft κ₁ q₁) ∷ ‵ (flft κ₂ q₂) ∷ ‵ (flft κ₃ q₃) ∷ ‵ (fres γ₀ (Q.the-row .coded .code h′)) ∷ ‵ (finally C.the-row γ₁ l) ∷ ‵ (finally u8 γ₂ w) ∷ []
+  Left v z h′ l w = ‵ (Z.the-row .own z (v ∷ [])) ∷ ‵ (flft κ₀ q₀) ∷ ‵ (flft κ₁ q₁) ∷ ‵ (flft κ₂ q₂) ∷ ‵ (flft κ₃ q₃)
+      ∷ ‵ (fres γ₀ (Q.the-row .coded .code h′)) ∷ ‵ (finally C.the-row γ₁ l) ∷ ‵ (finally u8 γ₂ w) ∷ []
 
-  exits : (v : Val) (a : Receive) (z : QueueReceived) (h′ : RecvQueue) (l : List CellRecord) (w : List ℕ) → received a h′ l w ≡ receiveOf h rs bs cs → z ≡ receiveTold (receiveAnswer a) → length l ≡ length rs → length w ≡ length bs → ent 𝓤 (⋆ 𝓤 H A (Left v z h′ l w)) (Post v)
+  exits : (v : Val) (a : Receive) (z : QueueReceived) (h′ : RecvQueue) (l : List CellRecord) (w : List ℕ) → received a h′ l w
+      ≡ receiveOf h rs bs cs → z ≡ receiveTold (receiveAnswer a) → length l ≡ length rs → length w ≡ length bs
+      → ent 𝓤 (⋆ 𝓤 H A (Left v z h′ l w)) (Post v)
   exits v a z h′ l w said t e f =
-      qed W (Left v z h′ l w) ∵ suffices ! _ (ends-at 𝓤 H A here.ended stayed (here.clauses 𝓤 H A mem run) W Passed v z (h′, (l, (w, (tt, tt)))) (tt, (e, (f, (tt, tt))))) $ says ! (received-numbers a z h′ l w _ said t) $
-      nothing ! $ move ! (5 ∷ 0 ∷ []) $ join ! $ move ! (4 ∷ 0 ∷ []) $ join ! $ move ! (3 ∷ 0 ∷ []) $ join ! $ move ! (2 ∷ 0 ∷ []) $ join ! $ frame ! $ nothing ! $ nothing ! $ fjoin ! $ move ! (4 ∷ 0 ∷ []) $ fjoin ! $ move ! (3 ∷ 0 ∷ []) $ fjoin ! $ move ! (2 ∷ 0 ∷ []) $ fjoin ! $ done !
+      qed W (Left v z h′ l w) ∵ suffices ! _ (ends-at 𝓤 H A here.ended stayed (here.clauses 𝓤 H A mem run) W Passed v z
+      (h′, (l, (w, (tt, tt)))) (tt, (e, (f, (tt, tt))))) $ says ! (received-numbers a z h′ l w _ said t) $
+      nothing ! $ move ! (5 ∷ 0 ∷ []) $ join ! $ move ! (4 ∷ 0 ∷ []) $ join ! $ move ! (3 ∷ 0 ∷ []) $ join ! $ move ! (2 ∷ 0 ∷ []) $
+      join ! $ frame ! $ nothing ! $ nothing ! $ fjoin ! $ move ! (4 ∷ 0 ∷ []) $ fjoin ! $ move ! (3 ∷ 0 ∷ []) $ fjoin ! $
+      move ! (2 ∷ 0 ∷ []) $ fjoin ! $ done !
 
   -- ---- the call that tells the answer a, at the machine value v, in numbers
   module _ (a : Receive) (v : Val) where
@@ -91,49 +123,93 @@ module _ {M : Type 1} (𝓤 : URA M) (H : Heap 𝓤) (A : Atoms 𝓤) (W : Given
     to-told = ((tt, tt, tt, (a, tt), (v ∷ [], tt)), tt)
 
     goes-told : ent 𝓤 (⋆ 𝓤 H A (‵ (R.the-row .own a (v ∷ [])) ∷ [])) (Told 𝓤 H A mem run .pre to-told)
-    goes-told = qed W (‵ (R.the-row .own a (v ∷ [])) ∷ []) ∵ nothing ! $ move ! (1 ∷ 0 ∷ []) $ fjoin ! $ nothing ! $ join ! $ nothing ! $ move ! (1 ∷ 0 ∷ []) $ done !
+    goes-told = qed W (‵ (R.the-row .own a (v ∷ [])) ∷ []) ∵ nothing ! $ move ! (1 ∷ 0 ∷ []) $ fjoin ! $ nothing ! $ join ! $ nothing ! $
+        move ! (1 ∷ 0 ∷ []) $ done !
 
-  module _ (C′ : Calls 𝓤 H) (Λ : Loops 𝓤 H) (fm : FmC 𝓤 H (W .laws) C′) (known : Triple 𝓤 (C′ #call) (Receives 𝓤 H A mem run)) (known-told : Triple 𝓤 (C′ #told) (Told 𝓤 H A mem run)) where
-    walk : ent 𝓤 (onEntry 𝓤 H A here.signature (κ₀, (κ₁, (κ₂, (κ₃, tt)))) (q₀, (q₁, (q₂, (q₃, tt)))) (x, (y, (s, (d, tt)))) (vx ∷ [], (vy ∷ [], (vs ∷ [], (vd ∷ [], tt))))) (WpFn 𝓤 H C′ Λ code.function (vx ∷ vy ∷ vs ∷ vd ∷ []) Post)
+  module _ (C′ : Calls 𝓤 H) (Λ : Loops 𝓤 H) (fm : FmC 𝓤 H (W .laws) C′) (known : Triple 𝓤 (C′ #call) (Receives 𝓤 H A mem run))
+      (known-told : Triple 𝓤 (C′ #told) (Told 𝓤 H A mem run)) where
+    walk : ent 𝓤 (onEntry 𝓤 H A here.signature (κ₀, (κ₁, (κ₂, (κ₃, tt)))) (q₀, (q₁, (q₂, (q₃, tt)))) (x, (y, (s, (d, tt))))
+        (vx ∷ [], (vy ∷ [], (vs ∷ [], (vd ∷ [], tt))))) (WpFn 𝓤 H C′ Λ code.function (vx ∷ vy ∷ vs ∷ vd ∷ []) Post)
     walk =
-        qed W ((‵ (flft κ₀ q₀) ⊛ (‵ (flft κ₁ q₁) ⊛ (‵ (flft κ₂ q₂) ⊛ (‵ (flft κ₃ q₃) ⊛ ‵ ftrue)))) ∷ ‵ (owns (MutRef (named 0) κ₀ Q.the-row ∷ MutSlice (named 1) κ₁ C.the-row ∷ MutSlice (named 2) κ₂ u8 ∷ ShrSlice (named 3) κ₃ u8 ∷ []) (x, (y, (s, (d, tt)))) (vx ∷ [], (vy ∷ [], (vs ∷ [], (vd ∷ [], tt))))) ∷ []) ∵
+        qed W ((‵ (flft κ₀ q₀) ⊛ (‵ (flft κ₁ q₁) ⊛ (‵ (flft κ₂ q₂) ⊛ (‵ (flft κ₃ q₃) ⊛ ‵ ftrue))))
+        ∷ ‵ (owns (MutRef (named 0) κ₀ Q.the-row ∷ MutSlice (named 1) κ₁ C.the-row ∷ MutSlice (named 2) κ₂ u8 ∷ ShrSlice (named 3) κ₃ u8
+        ∷ []) (x, (y, (s, (d, tt)))) (vx ∷ [], (vy ∷ [], (vs ∷ [], (vd ∷ [], tt))))) ∷ []) ∵
         enter ! C′ Λ code.function (vx ∷ vy ∷ vs ∷ vd ∷ []) _ $
-        alloc1 ! (λ l₀. alloc1 ! (λ l₁. alloc1 ! (λ l₂. alloc1 ! (λ l₃. alloc1 ! (λ l₄. alloc1 ! (λ l₅. alloc1 ! (λ l₆. alloc1 ! (λ l₇. alloc1 ! (λ l₈. alloc1 ! (λ l₉. alloc1 ! (λ l₁₀. alloc0 ! $ params1 ! $
-        pass1 ! (init ! 18 refl (tt, tt)) $ pass1 ! (init ! 16 refl (tt, (tt, (record { fits = room₁ .0 }, tt)))) $ pass1 ! (init ! 14 refl (tt, (tt, (record { fits = room₂ .0 }, tt)))) $ pass1 ! (init ! 12 refl (tt, (tt, (record { fits = room₃ .0 }, tt)))) $ pass0 ! $
-        move ! (23 ∷ []) $ fsplit ! $ move ! (1 ∷ []) $ fsplit ! $ move ! (1 ∷ []) $ fsplit ! $ move ! (1 ∷ []) $ fsplit ! $ move ! (27 ∷ []) $ split ! $ move ! (1 ∷ []) $ split ! $ move ! (1 ∷ []) $ split ! $ move ! (1 ∷ []) $ split ! $
-        -- from here on what is owned stands first, then the locals _0, …, _10, then that each dies: with k things owned, local i is at k + i
+        alloc1 ! (λ l₀. alloc1 !
+        (λ l₁. alloc1 !
+        (λ l₂. alloc1 !
+        (λ l₃. alloc1 !
+        (λ l₄. alloc1 ! (λ l₅. alloc1 ! (λ l₆. alloc1 ! (λ l₇. alloc1 ! (λ l₈. alloc1 ! (λ l₉. alloc1 ! (λ l₁₀. alloc0 ! $ params1 ! $
+        pass1 ! (init ! 18 refl (tt, tt)) $ pass1 ! (init ! 16 refl (tt, (tt, (record { fits = room₁ .0 }, tt)))) $
+        pass1 ! (init ! 14 refl (tt, (tt, (record { fits = room₂ .0 }, tt)))) $
+        pass1 ! (init ! 12 refl (tt, (tt, (record { fits = room₃ .0 }, tt)))) $ pass0 ! $
+        move ! (23 ∷ []) $ fsplit ! $ move ! (1 ∷ []) $ fsplit ! $ move ! (1 ∷ []) $ fsplit ! $ move ! (1 ∷ []) $ fsplit ! $
+        move ! (27 ∷ []) $ split ! $ move ! (1 ∷ []) $ split ! $ move ! (1 ∷ []) $ split ! $ move ! (1 ∷ []) $ split ! $
+        -- from here on what is owned stands first, then the locals _0, …, _10, then that each dies: with k things owned, local i is at k +
+        -- i
         keep ! (4 ∷ 3 ∷ 2 ∷ 0 ∷ 9 ∷ 8 ∷ 7 ∷ 5 ∷ entry 10 11) $
         -- 8: [the tokens; the parameters]
         assigns ! (addr ! (from ! (hop ! (look ! (8 + 1) refl) (stop !)))) (from ! (stop !)) (init ! (8 + 6) refl (tt, tt)) $
-        assigns ! (addr ! (from ! (fld ! refl (hop ! (look-in ! (8 + 2) (sub ! 0 refl (whole !))) (stop !))))) (from ! (stop !)) (init ! (8 + 7) refl (tt, tt)) $
-        assigns ! (agg ! (and-then ! (var ! (8 + 7) refl) (and-then ! (load ! (from ! (fld ! refl (stop !))) (look-in ! (8 + 2) (sub ! 1 refl (whole !)))) (no-more !)))) (from ! (stop !)) (init ! (8 + 8) refl (tt, (tt, (record { fits = room₁ .0 }, tt)))) $
-        assigns ! (addr ! (from ! (fld ! refl (hop ! (look-in ! (8 + 3) (sub ! 0 refl (whole !))) (stop !))))) (from ! (stop !)) (init ! (8 + 9) refl (tt, tt)) $
-        assigns ! (agg ! (and-then ! (var ! (8 + 9) refl) (and-then ! (load ! (from ! (fld ! refl (stop !))) (look-in ! (8 + 3) (sub ! 1 refl (whole !)))) (no-more !)))) (from ! (stop !)) (init ! (8 + 10) refl (tt, (tt, (record { fits = room₂ .0 }, tt)))) $
-        calls-receive 𝓤 H A W mem run κ₀ κ₁ κ₂ κ₃ q₀ q₁ q₂ q₃ x y s d vx vy vs vd ! fm known (and-then ! (var ! (1 + 6) refl) (and-then ! (var ! (1 + 8) refl) (and-then ! (var ! (1 + 10) refl) (and-then ! (var ! (1 + 4) refl) (no-more !))))) (λ v a h′ l w is.
+        assigns ! (addr ! (from ! (fld ! refl (hop ! (look-in ! (8 + 2) (sub ! 0 refl (whole !))) (stop !))))) (from ! (stop !))
+        (init ! (8 + 7) refl (tt, tt)) $
+        assigns ! (agg ! (and-then ! (var ! (8 + 7) refl) (and-then !
+        (load ! (from ! (fld ! refl (stop !))) (look-in ! (8 + 2) (sub ! 1 refl (whole !)))) (no-more !)))) (from ! (stop !))
+        (init ! (8 + 8) refl (tt, (tt, (record { fits = room₁ .0 }, tt)))) $
+        assigns ! (addr ! (from ! (fld ! refl (hop ! (look-in ! (8 + 3) (sub ! 0 refl (whole !))) (stop !))))) (from ! (stop !))
+        (init ! (8 + 9) refl (tt, tt)) $
+        assigns ! (agg ! (and-then ! (var ! (8 + 9) refl) (and-then !
+        (load ! (from ! (fld ! refl (stop !))) (look-in ! (8 + 3) (sub ! 1 refl (whole !)))) (no-more !)))) (from ! (stop !))
+        (init ! (8 + 10) refl (tt, (tt, (record { fits = room₂ .0 }, tt)))) $
+        calls-receive 𝓤 H A W mem run κ₀ κ₁ κ₂ κ₃ q₀ q₁ q₂ q₃ x y s d vx vy vs vd ! fm known
+        (and-then ! (var ! (1 + 6) refl) (and-then ! (var ! (1 + 8) refl)
+        (and-then ! (var ! (1 + 10) refl) (and-then ! (var ! (1 + 4) refl) (no-more !))))) (λ v a h′ l w is.
         -- 8: [the answer; the tokens; the last values]
         peeks ! R.the-row (Is R.the-row) (shows 𝓤 H A R.the-row) a (v ∷ []) (λ isa.
         land ! (from ! (stop !)) (init ! (8 + 5) refl (EL.lawful R.the-type R′.the-laws 𝓤 H A W tt .typed a _ isa .0)) $
-        use1 W (raw (Told 𝓤 H A mem run .pre (to-told a v))) (goes-told a v) $ calls-at ! fm (Told 𝓤 H A mem run) known-told (to-told a v) (and-then ! (var ! (8 + 5) refl) (no-more !)) (λ y′.
-        use1 W (later (some (λ (z : QueueReceived). (‵ ftrue ⊛ ‵ (Z.the-row .own z (y′ ∷ []))) ⊛ some (λ (zs : Lasts told.ended tt (a, tt)). ‵ (lasts told.ended tt (a, tt) zs) ⊛ raw (fact 𝓤 (z ≡ receiveTold (receiveAnswer a))))))) (id⊢ 𝓤 _) $
-        await ! tt $ pick ! (λ z. split ! $ move ! (1 ∷ []) $ pick ! (λ zs. split ! $ move ! (1 ∷ []) $ heard ! (z ≡ receiveTold (receiveAnswer a)) (λ t. drop ! $ split ! $ drop ! $
+        use1 W (raw (Told 𝓤 H A mem run .pre (to-told a v))) (goes-told a v) $ calls-at ! fm (Told 𝓤 H A mem run) known-told (to-told a v)
+        (and-then ! (var ! (8 + 5) refl) (no-more !)) (λ y′.
+        use1 W (later (some (λ (z : QueueReceived). (‵ ftrue ⊛ ‵ (Z.the-row .own z (y′ ∷ []))) ⊛ some
+        (λ (zs : Lasts told.ended tt (a, tt)). ‵ (lasts told.ended tt (a, tt) zs) ⊛ raw (fact 𝓤 (z ≡ receiveTold (receiveAnswer a)))))))
+        (id⊢ 𝓤 _) $
+        await ! tt $ pick ! (λ z. split ! $ move ! (1 ∷ []) $
+        pick ! (λ zs. split ! $ move ! (1 ∷ []) $ heard ! (z ≡ receiveTold (receiveAnswer a)) (λ t. drop ! $ split ! $ drop ! $
         peeks ! Z.the-row (Is Z.the-row) (shows 𝓤 H A Z.the-row) z (y′ ∷ []) (λ isz.
         -- 8: [the numbers; the tokens; the last values]
         land ! (from ! (stop !)) (init ! 8 refl (LL.lawful Z.the-type Z′.the-laws 𝓤 H A W .typed z _ isz .0)) $ returns ! (look ! 8 refl) $
-        move ! (8 ∷ 19 ∷ []) $ gone1 ! $ move ! (8 ∷ 18 ∷ []) $ gone1 ! $ move ! (8 ∷ 17 ∷ []) $ gone1 ! $ move ! (8 ∷ 16 ∷ []) $ gone1 ! $ move ! (8 ∷ 15 ∷ []) $ gone1 ! $ move ! (8 ∷ 14 ∷ []) $ gone1 ! $ move ! (8 ∷ 13 ∷ []) $ gone1 ! $ move ! (8 ∷ 12 ∷ []) $ gone1 ! $ move ! (8 ∷ 11 ∷ []) $ gone1 ! $ move ! (8 ∷ 10 ∷ []) $ gone1 ! $ move ! (8 ∷ 9 ∷ []) $ gone1 ! $ free0 ! $
-        by ! (exits y′ a z h′ l w (is .2) t (is .0) (is .1))))))))))))))))))))
+        gone ! 8 refl $ by ! (exits y′ a z h′ l w (is .2) t (is .0) (is .1))))))))))))))))))))
 
-module _ {M : Type 1} (𝓤 : URA M) (H : Heap 𝓤) (A : Atoms 𝓤) (W : Given 𝓤 H A) (mem : Memory → SProp 𝓤) (run : Routine → Fun 𝓤) (𝓣 : Tables 𝓤 H) (known : Triple 𝓤 (𝓣 .C #call) (Receives 𝓤 H A mem run)) (known-told : Triple 𝓤 (𝓣 .C #told) (Told 𝓤 H A mem run)) where
-  here-walks : Walks 𝓤 H A here.ended stayed (WpFn 𝓤 H (𝓣 .C) (𝓣 .Λ) code.function) (here.clauses 𝓤 H A mem run)
-  here-walks = walked 𝓤 H A here.ended stayed (here.clauses 𝓤 H A mem run) (WpFn 𝓤 H (𝓣 .C) (𝓣 .Λ) code.function) (λ κs. (ptr-vals, (slice-vals, (slice-vals, (slice-vals, tt)))))
-      (λ κs. (mut-tells (named 0) (κs .0) Q.the-row, (mut-slice-tells (named 1) (κs .1 .0) C.the-row, (mut-slice-tells (named 2) (κs .1 .1 .0) u8, (shr-slice-tells (named 3) (κs .1 .1 .1 .0) u8, tt)))))
-      (λ κs qs bounds a g are. via 𝓤 _ (fst∗ 𝓤 _ (emp 𝓤))
-      (walk 𝓤 H A W mem run (κs .0) (κs .1 .0) (κs .1 .1 .0) (κs .1 .1 .1 .0) (qs .0) (qs .1 .0) (qs .1 .1 .0) (qs .1 .1 .1 .0) (a .0 .ptr .0) (a .0 .ptr .1) (a .0 .name) (a .0 .now) (a .1 .0 .ptr .0) (a .1 .0 .ptr .1) (a .1 .0 .name) (a .1 .0 .now) (a .1 .1 .0 .ptr .0) (a .1 .1 .0 .ptr .1) (a .1 .1 .0 .name) (a .1 .1 .0 .now) (a .1 .1 .1 .0 .ptr .0) (a .1 .1 .1 .0 .ptr .1) (a .1 .1 .1 .0 .name) (a .1 .1 .1 .0 .now)
-      (are .1 .0 .0 .1) (are .1 .1 .0 .0 .1) (are .1 .1 .1 .0 .0 .1) (𝓣 .C) (𝓣 .Λ) (fmOf 𝓤 H (W .laws) 𝓣) known known-told))
+module _ {M : Type 1} (𝓤 : URA M) (H : Heap 𝓤) (A : Atoms 𝓤) (W : Given 𝓤 H A) (mem : Memory → SProp 𝓤) (run : Routine → Fun 𝓤)
+    (𝓣 : Tables 𝓤 H) (known : Triple 𝓤 (𝓣 .C #call) (Receives 𝓤 H A mem run)) (known-told : Triple 𝓤 (𝓣 .C #told) (Told 𝓤 H A mem run))
+  where
+    here-walks : Walks 𝓤 H A here.ended stayed (WpFn 𝓤 H (𝓣 .C) (𝓣 .Λ) code.function) (here.clauses 𝓤 H A mem run)
+    here-walks = walked 𝓤 H A here.ended stayed (here.clauses 𝓤 H A mem run) (WpFn 𝓤 H (𝓣 .C) (𝓣 .Λ) code.function)
+        (λ κs. (ptr-vals, (slice-vals, (slice-vals, (slice-vals, tt)))))
+        (λ κs. (
+          mut-tells (named 0) (κs .0) Q.the-row,
+          (
+            mut-slice-tells (named 1) (κs .1 .0) C.the-row,
+            (mut-slice-tells (named 2) (κs .1 .1 .0) u8, (shr-slice-tells (named 3) (κs .1 .1 .1 .0) u8, tt)),
+          ),
+        ))
+        (λ κs qs bounds a g are. via 𝓤 _ (fst∗ 𝓤 _ (emp 𝓤))
+        (walk 𝓤 H A W mem run (κs .0) (κs .1 .0) (κs .1 .1 .0) (κs .1 .1 .1 .0) (qs .0) (qs .1 .0) (qs .1 .1 .0) (qs .1 .1 .1 .0)
+        (a .0 .ptr .0) (a .0 .ptr .1) (a .0 .name) (a .0 .now) (a .1 .0 .ptr .0) (a .1 .0 .ptr .1) (a .1 .0 .name) (a .1 .0 .now)
+        (a .1 .1 .0 .ptr .0) (a .1 .1 .0 .ptr .1) (a .1 .1 .0 .name) (a .1 .1 .0 .now) (a .1 .1 .1 .0 .ptr .0) (a .1 .1 .1 .0 .ptr .1)
+        (a .1 .1 .1 .0 .name) (a .1 .1 .1 .0 .now)
+        (are .1 .0 .0 .1) (are .1 .1 .0 .0 .1) (are .1 .1 .1 .0 .0 .1) (𝓣 .C) (𝓣 .Λ) (fmOf 𝓤 H (W .laws) 𝓣) known known-told))
 
-  here-meets : Meets 𝓤 H A here.signature (WpFn 𝓤 H (𝓣 .C) (𝓣 .Λ) code.function) (here.spec 𝓤 H A mem run)
-  here-meets = walk-meets 𝓤 H A here.ended stayed W
-      (goes-gave-ref 𝓤 H A W 4 0 tt (plain (λ _. Q.the-row)), (goes-gave-slice 𝓤 H A W 4 1 tt (plain (λ _. C.the-row)), (goes-gave-slice 𝓤 H A W 4 2 tt (plain (λ _. u8)), (goes-dropped 𝓤 H A W 4 (shrSliceOf (3 ∷ []) tt (plain (λ _. u8))) yes (λ κs x f. refl), tt))))
-      (here.clauses 𝓤 H A mem run) (WpFn 𝓤 H (𝓣 .C) (𝓣 .Λ) code.function) (WpFn-mono 𝓤 H (W .laws) 𝓣 code.function) here-walks
+    here-meets : Meets 𝓤 H A here.signature (WpFn 𝓤 H (𝓣 .C) (𝓣 .Λ) code.function) (here.spec 𝓤 H A mem run)
+    here-meets = walk-meets 𝓤 H A here.ended stayed W (
+      goes-gave-ref 𝓤 H A W 4 0 tt (plain (λ _. Q.the-row)),
+      (
+        goes-gave-slice 𝓤 H A W 4 1 tt (plain (λ _. C.the-row)),
+        (
+          goes-gave-slice 𝓤 H A W 4 2 tt (plain (λ _. u8)),
+          (goes-dropped 𝓤 H A W 4 (shrSliceOf (3 ∷ []) tt (plain (λ _. u8))) yes (λ κs x f. refl), tt),
+        ),
+      ),
+    )
+        (here.clauses 𝓤 H A mem run) (WpFn 𝓤 H (𝓣 .C) (𝓣 .Λ) code.function) (WpFn-mono 𝓤 H (W .laws) 𝓣 code.function) here-walks
 
 pub poghduka-receive-spec : {M : Type 1} → stated.statement M
 unfolding code.routine tablesOf
@@ -141,5 +217,7 @@ poghduka-receive-spec 𝓤 H 𝓜 𝓖 𝓡 =
     entered 𝓤 H (tripleOf 𝓤 H (𝓖 .A) here.signature (here.spec 𝓤 H (𝓖 .A) (𝓜 .mem) (𝓡 .run)))
     (tables 𝓤 H 𝓜 𝓡 code.env .C) (tables 𝓤 H 𝓜 𝓡 code.env .Λ) #here code.function (code.unfolded 𝓤 H 𝓜 𝓡)
     (here-meets 𝓤 H (𝓖 .A) (givenOf 𝓤 H 𝓜 𝓖) (𝓜 .mem) (𝓡 .run) (tablesOf 𝓤 H 𝓜 (tables 𝓤 H 𝓜 𝓡 code.env))
-    (cited 𝓤 H (Receives 𝓤 H (𝓖 .A) (𝓜 .mem) (𝓡 .run)) 𝓜 𝓡 code.env #call call-def.routine code.calls-recv-queue·receiving·receive (call-thm.met 𝓤 H 𝓜 𝓖 𝓡))
-    (cited 𝓤 H (Told 𝓤 H (𝓖 .A) (𝓜 .mem) (𝓡 .run)) 𝓜 𝓡 code.env #told told-def.routine code.calls-exports-queue·receive-told (told-thm.met 𝓤 H 𝓜 𝓖 𝓡)))
+    (cited 𝓤 H (Receives 𝓤 H (𝓖 .A) (𝓜 .mem) (𝓡 .run)) 𝓜 𝓡 code.env #call call-def.routine code.calls-recv-queue·receiving·receive
+    (call-thm.met 𝓤 H 𝓜 𝓖 𝓡))
+    (cited 𝓤 H (Told 𝓤 H (𝓖 .A) (𝓜 .mem) (𝓡 .run)) 𝓜 𝓡 code.env #told told-def.routine code.calls-recv-answers·receive-told
+    (told-thm.met 𝓤 H 𝓜 𝓖 𝓡)))

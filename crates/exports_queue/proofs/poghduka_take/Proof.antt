@@ -1,33 +1,42 @@
--- `exports_queue::poghduka_take` meets its contract: a walk of its MIR, by hand, a straight line of two calls. All that was lent is given up to the first.
+-- `exports_queue::poghduka_take` meets its contract: a walk of its MIR, by hand, a straight line of two calls. All that was lent is given
+-- up to the first.
 -- Assumes nothing.
 use denote.Struct.Laws as LL
 use denote.Enum.Laws as EL
-use Rattle.walks.proofs.Walk.{_≡_, refl, ℕ, _+_, List, [], _∷_, length, URA, named, Val, vptr, SProp, ent, emp, id⊢, via, fst∗, Lft, GName, Share, ftrue, flft, Memory, Routine, Heap, Calls, Loops, WpFn, Tables, Atoms, FmC, fmOf, WpFn-mono, Fun, fact, givenOf, tables, tablesOf, Given, Item, ‵, raw, _⊛_, some, later, ⋆, _$_, _∵_, !, qed, by, move, keep, drop, use1, split, join, pick, fsplit, fjoin}
-use Rattle.walks.proofs.Walk.{suffices, frame, await, done, agg, whole, sub, look-in, look, init, stop, hop, fld, from, load, addr, and-then, no-more, land, assigns, returns, enter, alloc1, alloc0, params1, pass1, pass0, free0, yes, owns, Is, shows, u8, RefT, ShrRef, ptr-vals, shr-tells, sliceVal, MutSlice, ShrSlice, Room, finally, slice-vals, mut-slice-tells, shr-slice-tells, plain, shrRefTo}
-use Rattle.walks.proofs.Walk.{shrSliceOf, peeks, heard, nothing, onEntry, Contract, Triple, calls-at, Meets, tripleOf, entered, cited, Lasts, lasts, says, Stays, stay-dropped, gave-slice, walkOf, Walks, ends-at, walked, goes-dropped, goes-gave-slice, walk-meets}
-use Rattle.walks.proofs.Order.{entry, var, gone1}
+use Rattle.walks.proofs.Walk.{_≡_, refl, ℕ, _+_, List, [], _∷_, length, URA, named, Val, vptr, SProp, ent, emp, id⊢, via, fst∗, Lft, GName}
+use Rattle.walks.proofs.Walk.{Share, ftrue, flft, Memory, Routine, Heap, Calls, Loops, WpFn, Tables, Atoms, FmC, fmOf, WpFn-mono, Fun, fact}
+use Rattle.walks.proofs.Walk.{givenOf, tables, tablesOf, Given, Item, ‵, raw, _⊛_, some, later, ⋆, _$_, _∵_, !, qed, by, move, keep, drop}
+use Rattle.walks.proofs.Walk.{use1, split, join, pick, fsplit, fjoin}
+use Rattle.walks.proofs.Walk.{suffices, frame, await, done, agg, whole, sub, look-in, look, init, stop, hop, fld, from, load, addr}
+use Rattle.walks.proofs.Walk.{and-then, no-more, land, assigns, returns, enter, alloc1, alloc0, params1, pass1, pass0, yes, owns, Is}
+use Rattle.walks.proofs.Walk.{shows, u8, RefT, ShrRef, ptr-vals, shr-tells, sliceVal, MutSlice, ShrSlice, Room, finally, slice-vals}
+use Rattle.walks.proofs.Walk.{mut-slice-tells, shr-slice-tells, plain, shrRefTo}
+use Rattle.walks.proofs.Walk.{shrSliceOf, peeks, heard, nothing, onEntry, Contract, Triple, calls-at, Meets, tripleOf, entered, cited}
+use Rattle.walks.proofs.Walk.{Lasts, lasts, says, Stays, stay-dropped, gave-slice, walkOf, Walks, ends-at, walked, goes-dropped}
+use Rattle.walks.proofs.Walk.{goes-gave-slice, walk-meets}
+use Rattle.walks.proofs.Order.{entry, var, gone}
 use Rattle.cells.specs.declared.CellRecord.{CellRecord}
 use Rattle.cells.proofs.CellRecord as C
-use Rattle.recv.specs.declared.RecvQueue.{RecvQueue}
-use Rattle.recv.proofs.RecvQueue as Q
-use Rattle.takes.specs.declared.Take.{Take}
-use Rattle.takes.specs.Outcome.{takeAnswer, takeResult}
-use Rattle.recv.specs.Take.{takeOf}
-use Rattle.exports_queue.specs.declared.QueueTaken.{QueueTaken}
-use Rattle.exports_queue.specs.Receiver.{takeTold}
-use Rattle.takes.proofs.Take as R
-use Rattle.takes.proofs.Take.Laws as R′
-use Rattle.held.proofs.Calls.{Takes, calls-take}
+use Rattle.receiver.specs.declared.RecvQueue.{RecvQueue}
+use Rattle.receiver.proofs.RecvQueue as Q
+use Rattle.recv_take.specs.declared.Take.{Take}
+use Rattle.recv_take.specs.Outcome.{takeAnswer, takeResult}
+use Rattle.receiver.specs.Take.{takeOf}
+use Rattle.recv_answers.specs.declared.QueueTaken.{QueueTaken}
+use Rattle.recv_answers.specs.Told.{takeTold}
+use Rattle.recv_take.proofs.Take as R
+use Rattle.recv_take.proofs.Take.Laws as R′
+use Rattle.recv_array.proofs.Calls.{Takes, calls-take}
 use Rattle.exports_queue.proofs.Told.{taken-numbers}
-use Rattle.exports_queue.proofs.QueueTaken as Z
-use Rattle.exports_queue.proofs.QueueTaken.Laws as Z′
+use Rattle.recv_answers.proofs.QueueTaken as Z
+use Rattle.recv_answers.proofs.QueueTaken.Laws as Z′
 use Rattle.recv_queue.proofs.taking.take.Symbol as call-def
 use Rattle.recv_queue.proofs.taking.take.Symbol.{name as #call}
 use Rattle.recv_queue.proofs.taking.take.Met as call-thm
-use Rattle.exports_queue.proofs.take_told as told
-use Rattle.exports_queue.proofs.take_told.Symbol as told-def
-use Rattle.exports_queue.proofs.take_told.Symbol.{name as #told}
-use Rattle.exports_queue.proofs.take_told.Met as told-thm
+use Rattle.recv_answers.proofs.take_told as told
+use Rattle.recv_answers.proofs.take_told.Symbol as told-def
+use Rattle.recv_answers.proofs.take_told.Symbol.{name as #told}
+use Rattle.recv_answers.proofs.take_told.Met as told-thm
 use Rattle.exports_queue.proofs.poghduka_take.Key.{name as #here}
 use Rattle.exports_queue.proofs.poghduka_take as here
 use Rattle.exports_queue.proofs.poghduka_take.Statement as stated
@@ -35,14 +44,25 @@ use Rattle.exports_queue.proofs.poghduka_take.Code as code
 
 -- what the walk still has of each parameter at exit: of a `&mut` its last value
 abbrev stayed : Stays (here.ended .signature .params) (here.ended .kept)
-stayed = (stay-dropped (shrRefTo (0 ∷ []) tt (plain (λ _. Q.the-row))) yes, (gave-slice (1 ∷ []) tt (plain (λ _. C.the-row)), (stay-dropped (shrSliceOf (2 ∷ []) tt (plain (λ _. u8))) yes, (gave-slice (3 ∷ []) tt (plain (λ _. u8)), tt))))
+stayed = (
+  stay-dropped (shrRefTo (0 ∷ []) tt (plain (λ _. Q.the-row))) yes,
+  (
+    gave-slice (1 ∷ []) tt (plain (λ _. C.the-row)),
+    (
+      stay-dropped (shrSliceOf (2 ∷ []) tt (plain (λ _. u8))) yes,
+      (gave-slice (3 ∷ []) tt (plain (λ _. u8)), tt),
+    ),
+  ),
+)
 
 module _ {M : Type 1} (𝓤 : URA M) (H : Heap 𝓤) (A : Atoms 𝓤) (mem : Memory → SProp 𝓤) (run : Routine → Fun 𝓤) where
   abbrev Told : Contract 𝓤
   Told = tripleOf 𝓤 H A told.signature (told.spec 𝓤 H A mem run)
 
-module _ {M : Type 1} (𝓤 : URA M) (H : Heap 𝓤) (A : Atoms 𝓤) (W : Given 𝓤 H A) (mem : Memory → SProp 𝓤) (run : Routine → Fun 𝓤) (κ₀ κ₁ κ₂ κ₃ : Lft) (q₀ q₁ q₂ q₃ : Share)
-    (b₀ o₀ : ℕ) (γ₀ : GName) (h : RecvQueue) (b₁ o₁ : ℕ) (γ₁ : GName) (rs : List CellRecord) (b₂ o₂ : ℕ) (γ₂ : GName) (cs : List ℕ) (b₃ o₃ : ℕ) (γ₃ : GName) (bs : List ℕ)
+module _ {M : Type 1} (𝓤 : URA M) (H : Heap 𝓤) (A : Atoms 𝓤) (W : Given 𝓤 H A) (mem : Memory → SProp 𝓤) (run : Routine → Fun 𝓤)
+    (κ₀ κ₁ κ₂ κ₃ : Lft) (q₀ q₁ q₂ q₃ : Share)
+    (b₀ o₀ : ℕ) (γ₀ : GName) (h : RecvQueue) (b₁ o₁ : ℕ) (γ₁ : GName) (rs : List CellRecord) (b₂ o₂ : ℕ) (γ₂ : GName) (cs : List ℕ)
+    (b₃ o₃ : ℕ) (γ₃ : GName) (bs : List ℕ)
     (room₁ : Room C.the-row (length rs)) (room₂ : Room u8 (length cs)) (room₃ : Room u8 (length bs)) where
   -- the parameters, and their machine values
   abbrev x : RefT RecvQueue
@@ -70,19 +90,33 @@ module _ {M : Type 1} (𝓤 : URA M) (H : Heap 𝓤) (A : Atoms 𝓤) (W : Given
   vd = sliceVal (b₃, o₃) (length bs)
 
   abbrev Passed : walkOf 𝓤 H A here.ended stayed (here.clauses 𝓤 H A mem run) .Ghost
-  Passed = (((κ₀, (κ₁, (κ₂, (κ₃, tt)))), (q₀, (q₁, (q₂, (q₃, tt)))), tt, (x, (y, (s, (d, tt)))), (vx ∷ [], (vy ∷ [], (vs ∷ [], (vd ∷ [], tt))))), tt)
+  Passed = (
+    (
+      (κ₀, (κ₁, (κ₂, (κ₃, tt)))),
+      (q₀, (q₁, (q₂, (q₃, tt)))),
+      tt,
+      (x, (y, (s, (d, tt)))),
+      (vx ∷ [], (vy ∷ [], (vs ∷ [], (vd ∷ [], tt)))),
+    ),
+    tt,
+  )
 
   abbrev Post : Val → SProp 𝓤
   Post = walkOf 𝓤 H A here.ended stayed (here.clauses 𝓤 H A mem run) .post Passed
 
   -- at the end: the numbers z at their machine value, and the last values
   abbrev Left : Val → QueueTaken → List CellRecord → List ℕ → List (Item 𝓤)
-  Left v z l w = ‵ (Z.the-row .own z (v ∷ [])) ∷ ‵ (flft κ₀ q₀) ∷ ‵ (flft κ₁ q₁) ∷ ‵ (flft κ₂ q₂) ∷ ‵ (flft κ₃ q₃) ∷ ‵ (finally C.the-row γ₁ l) ∷ ‵ (finally u8 γ₃ w) ∷ []
+  Left v z l w = ‵ (Z.the-row .own z (v ∷ [])) ∷ ‵ (flft κ₀ q₀) ∷ ‵ (flft κ₁ q₁) ∷ ‵ (flft κ₂ q₂) ∷ ‵ (flft κ₃ q₃)
+      ∷ ‵ (finally C.the-row γ₁ l) ∷ ‵ (finally u8 γ₃ w) ∷ []
 
-  exits : (v : Val) (a : Take) (z : QueueTaken) (l : List CellRecord) (w : List ℕ) → takeResult a l w ≡ takeOf h rs cs bs → z ≡ takeTold (takeAnswer a) → length l ≡ length rs → length w ≡ length bs → ent 𝓤 (⋆ 𝓤 H A (Left v z l w)) (Post v)
+  exits : (v : Val) (a : Take) (z : QueueTaken) (l : List CellRecord) (w : List ℕ) → takeResult a l w ≡ takeOf h rs cs bs → z
+      ≡ takeTold (takeAnswer a) → length l ≡ length rs → length w ≡ length bs → ent 𝓤 (⋆ 𝓤 H A (Left v z l w)) (Post v)
   exits v a z l w said t e f =
-      qed W (Left v z l w) ∵ suffices ! _ (ends-at 𝓤 H A here.ended stayed (here.clauses 𝓤 H A mem run) W Passed v z (tt, (l, (tt, (w, tt)))) (tt, (e, (tt, (f, tt))))) $ says ! (taken-numbers a z l w _ said t) $
-      nothing ! $ move ! (5 ∷ 0 ∷ []) $ join ! $ move ! (4 ∷ 0 ∷ []) $ join ! $ move ! (3 ∷ 0 ∷ []) $ join ! $ move ! (2 ∷ 0 ∷ []) $ join ! $ frame ! $ nothing ! $ move ! (3 ∷ 0 ∷ []) $ fjoin ! $ nothing ! $ fjoin ! $ move ! (2 ∷ 0 ∷ []) $ fjoin ! $ nothing ! $ fjoin ! $ done !
+      qed W (Left v z l w) ∵ suffices ! _ (ends-at 𝓤 H A here.ended stayed (here.clauses 𝓤 H A mem run) W Passed v z
+      (tt, (l, (tt, (w, tt)))) (tt, (e, (tt, (f, tt))))) $ says ! (taken-numbers a z l w _ said t) $
+      nothing ! $ move ! (5 ∷ 0 ∷ []) $ join ! $ move ! (4 ∷ 0 ∷ []) $ join ! $ move ! (3 ∷ 0 ∷ []) $ join ! $ move ! (2 ∷ 0 ∷ []) $
+      join ! $ frame ! $ nothing ! $ move ! (3 ∷ 0 ∷ []) $ fjoin ! $ nothing ! $ fjoin ! $ move ! (2 ∷ 0 ∷ []) $ fjoin ! $ nothing ! $
+      fjoin ! $ done !
 
   -- ---- the call that tells the answer a, at the machine value v, in numbers
   module _ (a : Take) (v : Val) where
@@ -90,47 +124,88 @@ module _ {M : Type 1} (𝓤 : URA M) (H : Heap 𝓤) (A : Atoms 𝓤) (W : Given
     to-told = ((tt, tt, tt, (a, tt), (v ∷ [], tt)), tt)
 
     goes-told : ent 𝓤 (⋆ 𝓤 H A (‵ (R.the-row .own a (v ∷ [])) ∷ [])) (Told 𝓤 H A mem run .pre to-told)
-    goes-told = qed W (‵ (R.the-row .own a (v ∷ [])) ∷ []) ∵ nothing ! $ move ! (1 ∷ 0 ∷ []) $ fjoin ! $ nothing ! $ join ! $ nothing ! $ move ! (1 ∷ 0 ∷ []) $ done !
+    goes-told = qed W (‵ (R.the-row .own a (v ∷ [])) ∷ []) ∵ nothing ! $ move ! (1 ∷ 0 ∷ []) $ fjoin ! $ nothing ! $ join ! $ nothing ! $
+        move ! (1 ∷ 0 ∷ []) $ done !
 
-  module _ (C′ : Calls 𝓤 H) (Λ : Loops 𝓤 H) (fm : FmC 𝓤 H (W .laws) C′) (known : Triple 𝓤 (C′ #call) (Takes 𝓤 H A mem run)) (known-told : Triple 𝓤 (C′ #told) (Told 𝓤 H A mem run)) where
-    walk : ent 𝓤 (onEntry 𝓤 H A here.signature (κ₀, (κ₁, (κ₂, (κ₃, tt)))) (q₀, (q₁, (q₂, (q₃, tt)))) (x, (y, (s, (d, tt)))) (vx ∷ [], (vy ∷ [], (vs ∷ [], (vd ∷ [], tt))))) (WpFn 𝓤 H C′ Λ code.function (vx ∷ vy ∷ vs ∷ vd ∷ []) Post)
+  module _ (C′ : Calls 𝓤 H) (Λ : Loops 𝓤 H) (fm : FmC 𝓤 H (W .laws) C′) (known : Triple 𝓤 (C′ #call) (Takes 𝓤 H A mem run))
+      (known-told : Triple 𝓤 (C′ #told) (Told 𝓤 H A mem run)) where
+    walk : ent 𝓤 (onEntry 𝓤 H A here.signature (κ₀, (κ₁, (κ₂, (κ₃, tt)))) (q₀, (q₁, (q₂, (q₃, tt)))) (x, (y, (s, (d, tt))))
+        (vx ∷ [], (vy ∷ [], (vs ∷ [], (vd ∷ [], tt))))) (WpFn 𝓤 H C′ Λ code.function (vx ∷ vy ∷ vs ∷ vd ∷ []) Post)
     walk =
-        qed W ((‵ (flft κ₀ q₀) ⊛ (‵ (flft κ₁ q₁) ⊛ (‵ (flft κ₂ q₂) ⊛ (‵ (flft κ₃ q₃) ⊛ ‵ ftrue)))) ∷ ‵ (owns (ShrRef (named 0) κ₀ Q.the-row ∷ MutSlice (named 1) κ₁ C.the-row ∷ ShrSlice (named 2) κ₂ u8 ∷ MutSlice (named 3) κ₃ u8 ∷ []) (x, (y, (s, (d, tt)))) (vx ∷ [], (vy ∷ [], (vs ∷ [], (vd ∷ [], tt))))) ∷ []) ∵
+        qed W ((‵ (flft κ₀ q₀) ⊛ (‵ (flft κ₁ q₁) ⊛ (‵ (flft κ₂ q₂) ⊛ (‵ (flft κ₃ q₃) ⊛ ‵ ftrue))))
+        ∷ ‵ (owns (ShrRef (named 0) κ₀ Q.the-row ∷ MutSlice (named 1) κ₁ C.the-row ∷ ShrSlice (named 2) κ₂ u8 ∷ MutSlice (named 3) κ₃ u8
+        ∷ []) (x, (y, (s, (d, tt)))) (vx ∷ [], (vy ∷ [], (vs ∷ [], (vd ∷ [], tt))))) ∷ []) ∵
         enter ! C′ Λ code.function (vx ∷ vy ∷ vs ∷ vd ∷ []) _ $
-        alloc1 ! (λ l₀. alloc1 ! (λ l₁. alloc1 ! (λ l₂. alloc1 ! (λ l₃. alloc1 ! (λ l₄. alloc1 ! (λ l₅. alloc1 ! (λ l₆. alloc1 ! (λ l₇. alloc1 ! (λ l₈. alloc1 ! (λ l₉. alloc0 ! $ params1 ! $
-        pass1 ! (init ! 16 refl (tt, tt)) $ pass1 ! (init ! 14 refl (tt, (tt, (record { fits = room₁ .0 }, tt)))) $ pass1 ! (init ! 12 refl (tt, (tt, (record { fits = room₂ .0 }, tt)))) $ pass1 ! (init ! 10 refl (tt, (tt, (record { fits = room₃ .0 }, tt)))) $ pass0 ! $
-        move ! (21 ∷ []) $ fsplit ! $ move ! (1 ∷ []) $ fsplit ! $ move ! (1 ∷ []) $ fsplit ! $ move ! (1 ∷ []) $ fsplit ! $ move ! (25 ∷ []) $ split ! $ move ! (1 ∷ []) $ split ! $ move ! (1 ∷ []) $ split ! $ move ! (1 ∷ []) $ split ! $
+        alloc1 ! (λ l₀. alloc1 !
+        (λ l₁. alloc1 !
+        (λ l₂. alloc1 !
+        (λ l₃. alloc1 ! (λ l₄. alloc1 ! (λ l₅. alloc1 ! (λ l₆. alloc1 ! (λ l₇. alloc1 ! (λ l₈. alloc1 ! (λ l₉. alloc0 ! $ params1 ! $
+        pass1 ! (init ! 16 refl (tt, tt)) $ pass1 ! (init ! 14 refl (tt, (tt, (record { fits = room₁ .0 }, tt)))) $
+        pass1 ! (init ! 12 refl (tt, (tt, (record { fits = room₂ .0 }, tt)))) $
+        pass1 ! (init ! 10 refl (tt, (tt, (record { fits = room₃ .0 }, tt)))) $ pass0 ! $
+        move ! (21 ∷ []) $ fsplit ! $ move ! (1 ∷ []) $ fsplit ! $ move ! (1 ∷ []) $ fsplit ! $ move ! (1 ∷ []) $ fsplit ! $
+        move ! (25 ∷ []) $ split ! $ move ! (1 ∷ []) $ split ! $ move ! (1 ∷ []) $ split ! $ move ! (1 ∷ []) $ split ! $
         -- from here on what is owned stands first, then the locals _0, …, _9, then that each dies: with k things owned, local i is at k + i
         keep ! (4 ∷ 3 ∷ 2 ∷ 0 ∷ 9 ∷ 8 ∷ 7 ∷ 5 ∷ entry 10 10) $
         -- 8: [the tokens; the parameters]
-        assigns ! (addr ! (from ! (fld ! refl (hop ! (look-in ! (8 + 2) (sub ! 0 refl (whole !))) (stop !))))) (from ! (stop !)) (init ! (8 + 6) refl (tt, tt)) $
-        assigns ! (agg ! (and-then ! (var ! (8 + 6) refl) (and-then ! (load ! (from ! (fld ! refl (stop !))) (look-in ! (8 + 2) (sub ! 1 refl (whole !)))) (no-more !)))) (from ! (stop !)) (init ! (8 + 7) refl (tt, (tt, (record { fits = room₁ .0 }, tt)))) $
-        assigns ! (addr ! (from ! (fld ! refl (hop ! (look-in ! (8 + 4) (sub ! 0 refl (whole !))) (stop !))))) (from ! (stop !)) (init ! (8 + 8) refl (tt, tt)) $
-        assigns ! (agg ! (and-then ! (var ! (8 + 8) refl) (and-then ! (load ! (from ! (fld ! refl (stop !))) (look-in ! (8 + 4) (sub ! 1 refl (whole !)))) (no-more !)))) (from ! (stop !)) (init ! (8 + 9) refl (tt, (tt, (record { fits = room₃ .0 }, tt)))) $
-        calls-take 𝓤 H A W mem run κ₀ κ₁ κ₂ κ₃ q₀ q₁ q₂ q₃ x y s d vx vy vs vd ! fm known (and-then ! (var ! (1 + 1) refl) (and-then ! (var ! (1 + 7) refl) (and-then ! (var ! (1 + 3) refl) (and-then ! (var ! (1 + 9) refl) (no-more !))))) (λ v a l w is.
+        assigns ! (addr ! (from ! (fld ! refl (hop ! (look-in ! (8 + 2) (sub ! 0 refl (whole !))) (stop !))))) (from ! (stop !))
+        (init ! (8 + 6) refl (tt, tt)) $
+        assigns ! (agg ! (and-then ! (var ! (8 + 6) refl) (and-then !
+        (load ! (from ! (fld ! refl (stop !))) (look-in ! (8 + 2) (sub ! 1 refl (whole !)))) (no-more !)))) (from ! (stop !))
+        (init ! (8 + 7) refl (tt, (tt, (record { fits = room₁ .0 }, tt)))) $
+        assigns ! (addr ! (from ! (fld ! refl (hop ! (look-in ! (8 + 4) (sub ! 0 refl (whole !))) (stop !))))) (from ! (stop !))
+        (init ! (8 + 8) refl (tt, tt)) $
+        assigns ! (agg ! (and-then ! (var ! (8 + 8) refl) (and-then !
+        (load ! (from ! (fld ! refl (stop !))) (look-in ! (8 + 4) (sub ! 1 refl (whole !)))) (no-more !)))) (from ! (stop !))
+        (init ! (8 + 9) refl (tt, (tt, (record { fits = room₃ .0 }, tt)))) $
+        calls-take 𝓤 H A W mem run κ₀ κ₁ κ₂ κ₃ q₀ q₁ q₂ q₃ x y s d vx vy vs vd ! fm known
+        (and-then ! (var ! (1 + 1) refl) (and-then ! (var ! (1 + 7) refl)
+        (and-then ! (var ! (1 + 3) refl) (and-then ! (var ! (1 + 9) refl) (no-more !))))) (λ v a l w is.
         -- 7: [the answer; the tokens; the last values]
         peeks ! R.the-row (Is R.the-row) (shows 𝓤 H A R.the-row) a (v ∷ []) (λ isa.
         land ! (from ! (stop !)) (init ! (7 + 5) refl (EL.lawful R.the-type R′.the-laws 𝓤 H A W tt .typed a _ isa .0)) $
-        use1 W (raw (Told 𝓤 H A mem run .pre (to-told a v))) (goes-told a v) $ calls-at ! fm (Told 𝓤 H A mem run) known-told (to-told a v) (and-then ! (var ! (7 + 5) refl) (no-more !)) (λ y′.
-        use1 W (later (some (λ (z : QueueTaken). (‵ ftrue ⊛ ‵ (Z.the-row .own z (y′ ∷ []))) ⊛ some (λ (zs : Lasts told.ended tt (a, tt)). ‵ (lasts told.ended tt (a, tt) zs) ⊛ raw (fact 𝓤 (z ≡ takeTold (takeAnswer a))))))) (id⊢ 𝓤 _) $
-        await ! tt $ pick ! (λ z. split ! $ move ! (1 ∷ []) $ pick ! (λ zs. split ! $ move ! (1 ∷ []) $ heard ! (z ≡ takeTold (takeAnswer a)) (λ t. drop ! $ split ! $ drop ! $
+        use1 W (raw (Told 𝓤 H A mem run .pre (to-told a v))) (goes-told a v) $ calls-at ! fm (Told 𝓤 H A mem run) known-told (to-told a v)
+        (and-then ! (var ! (7 + 5) refl) (no-more !)) (λ y′.
+        use1 W (later (some (λ (z : QueueTaken). (‵ ftrue ⊛ ‵ (Z.the-row .own z (y′ ∷ []))) ⊛ some
+        (λ (zs : Lasts told.ended tt (a, tt)). ‵ (lasts told.ended tt (a, tt) zs) ⊛ raw (fact 𝓤 (z ≡ takeTold (takeAnswer a)))))))
+        (id⊢ 𝓤 _) $
+        await ! tt $ pick ! (λ z. split ! $ move ! (1 ∷ []) $
+        pick ! (λ zs. split ! $ move ! (1 ∷ []) $ heard ! (z ≡ takeTold (takeAnswer a)) (λ t. drop ! $ split ! $ drop ! $
         peeks ! Z.the-row (Is Z.the-row) (shows 𝓤 H A Z.the-row) z (y′ ∷ []) (λ isz.
         -- 7: [the numbers; the tokens; the last values]
         land ! (from ! (stop !)) (init ! 7 refl (LL.lawful Z.the-type Z′.the-laws 𝓤 H A W .typed z _ isz .0)) $ returns ! (look ! 7 refl) $
-        move ! (7 ∷ 17 ∷ []) $ gone1 ! $ move ! (7 ∷ 16 ∷ []) $ gone1 ! $ move ! (7 ∷ 15 ∷ []) $ gone1 ! $ move ! (7 ∷ 14 ∷ []) $ gone1 ! $ move ! (7 ∷ 13 ∷ []) $ gone1 ! $ move ! (7 ∷ 12 ∷ []) $ gone1 ! $ move ! (7 ∷ 11 ∷ []) $ gone1 ! $ move ! (7 ∷ 10 ∷ []) $ gone1 ! $ move ! (7 ∷ 9 ∷ []) $ gone1 ! $ move ! (7 ∷ 8 ∷ []) $ gone1 ! $ free0 ! $
-        by ! (exits y′ a z l w (is .2) t (is .0) (is .1)))))))))))))))))))
+        gone ! 7 refl $ by ! (exits y′ a z l w (is .2) t (is .0) (is .1)))))))))))))))))))
 
-module _ {M : Type 1} (𝓤 : URA M) (H : Heap 𝓤) (A : Atoms 𝓤) (W : Given 𝓤 H A) (mem : Memory → SProp 𝓤) (run : Routine → Fun 𝓤) (𝓣 : Tables 𝓤 H) (known : Triple 𝓤 (𝓣 .C #call) (Takes 𝓤 H A mem run)) (known-told : Triple 𝓤 (𝓣 .C #told) (Told 𝓤 H A mem run)) where
+module _ {M : Type 1} (𝓤 : URA M) (H : Heap 𝓤) (A : Atoms 𝓤) (W : Given 𝓤 H A) (mem : Memory → SProp 𝓤) (run : Routine → Fun 𝓤)
+    (𝓣 : Tables 𝓤 H) (known : Triple 𝓤 (𝓣 .C #call) (Takes 𝓤 H A mem run)) (known-told : Triple 𝓤 (𝓣 .C #told) (Told 𝓤 H A mem run)) where
   here-walks : Walks 𝓤 H A here.ended stayed (WpFn 𝓤 H (𝓣 .C) (𝓣 .Λ) code.function) (here.clauses 𝓤 H A mem run)
-  here-walks = walked 𝓤 H A here.ended stayed (here.clauses 𝓤 H A mem run) (WpFn 𝓤 H (𝓣 .C) (𝓣 .Λ) code.function) (λ κs. (ptr-vals, (slice-vals, (slice-vals, (slice-vals, tt)))))
-      (λ κs. (shr-tells (named 0) (κs .0) Q.the-row, (mut-slice-tells (named 1) (κs .1 .0) C.the-row, (shr-slice-tells (named 2) (κs .1 .1 .0) u8, (mut-slice-tells (named 3) (κs .1 .1 .1 .0) u8, tt)))))
+  here-walks = walked 𝓤 H A here.ended stayed (here.clauses 𝓤 H A mem run) (WpFn 𝓤 H (𝓣 .C) (𝓣 .Λ) code.function)
+      (λ κs. (ptr-vals, (slice-vals, (slice-vals, (slice-vals, tt)))))
+      (λ κs. (
+        shr-tells (named 0) (κs .0) Q.the-row,
+        (
+          mut-slice-tells (named 1) (κs .1 .0) C.the-row,
+          (shr-slice-tells (named 2) (κs .1 .1 .0) u8, (mut-slice-tells (named 3) (κs .1 .1 .1 .0) u8, tt)),
+        ),
+      ))
       (λ κs qs bounds a g are. via 𝓤 _ (fst∗ 𝓤 _ (emp 𝓤))
-      (walk 𝓤 H A W mem run (κs .0) (κs .1 .0) (κs .1 .1 .0) (κs .1 .1 .1 .0) (qs .0) (qs .1 .0) (qs .1 .1 .0) (qs .1 .1 .1 .0) (a .0 .ptr .0) (a .0 .ptr .1) (a .0 .name) (a .0 .now) (a .1 .0 .ptr .0) (a .1 .0 .ptr .1) (a .1 .0 .name) (a .1 .0 .now) (a .1 .1 .0 .ptr .0) (a .1 .1 .0 .ptr .1) (a .1 .1 .0 .name) (a .1 .1 .0 .now) (a .1 .1 .1 .0 .ptr .0) (a .1 .1 .1 .0 .ptr .1) (a .1 .1 .1 .0 .name) (a .1 .1 .1 .0 .now)
+      (walk 𝓤 H A W mem run (κs .0) (κs .1 .0) (κs .1 .1 .0) (κs .1 .1 .1 .0) (qs .0) (qs .1 .0) (qs .1 .1 .0) (qs .1 .1 .1 .0)
+      (a .0 .ptr .0) (a .0 .ptr .1) (a .0 .name) (a .0 .now) (a .1 .0 .ptr .0) (a .1 .0 .ptr .1) (a .1 .0 .name) (a .1 .0 .now)
+      (a .1 .1 .0 .ptr .0) (a .1 .1 .0 .ptr .1) (a .1 .1 .0 .name) (a .1 .1 .0 .now) (a .1 .1 .1 .0 .ptr .0) (a .1 .1 .1 .0 .ptr .1)
+      (a .1 .1 .1 .0 .name) (a .1 .1 .1 .0 .now)
       (are .1 .0 .0 .1) (are .1 .1 .0 .0 .1) (are .1 .1 .1 .0 .0 .1) (𝓣 .C) (𝓣 .Λ) (fmOf 𝓤 H (W .laws) 𝓣) known known-told))
 
   here-meets : Meets 𝓤 H A here.signature (WpFn 𝓤 H (𝓣 .C) (𝓣 .Λ) code.function) (here.spec 𝓤 H A mem run)
-  here-meets = walk-meets 𝓤 H A here.ended stayed W
-      (goes-dropped 𝓤 H A W 4 (shrRefTo (0 ∷ []) tt (plain (λ _. Q.the-row))) yes (λ κs x f. refl), (goes-gave-slice 𝓤 H A W 4 1 tt (plain (λ _. C.the-row)), (goes-dropped 𝓤 H A W 4 (shrSliceOf (2 ∷ []) tt (plain (λ _. u8))) yes (λ κs x f. refl), (goes-gave-slice 𝓤 H A W 4 3 tt (plain (λ _. u8)), tt))))
+  here-meets = walk-meets 𝓤 H A here.ended stayed W (
+    goes-dropped 𝓤 H A W 4 (shrRefTo (0 ∷ []) tt (plain (λ _. Q.the-row))) yes (λ κs x f. refl),
+    (
+      goes-gave-slice 𝓤 H A W 4 1 tt (plain (λ _. C.the-row)),
+      (
+        goes-dropped 𝓤 H A W 4 (shrSliceOf (2 ∷ []) tt (plain (λ _. u8))) yes (λ κs x f. refl),
+        (goes-gave-slice 𝓤 H A W 4 3 tt (plain (λ _. u8)), tt),
+      ),
+    ),
+  )
       (here.clauses 𝓤 H A mem run) (WpFn 𝓤 H (𝓣 .C) (𝓣 .Λ) code.function) (WpFn-mono 𝓤 H (W .laws) 𝓣 code.function) here-walks
 
 pub poghduka-take-spec : {M : Type 1} → stated.statement M
@@ -139,5 +214,7 @@ poghduka-take-spec 𝓤 H 𝓜 𝓖 𝓡 =
     entered 𝓤 H (tripleOf 𝓤 H (𝓖 .A) here.signature (here.spec 𝓤 H (𝓖 .A) (𝓜 .mem) (𝓡 .run)))
     (tables 𝓤 H 𝓜 𝓡 code.env .C) (tables 𝓤 H 𝓜 𝓡 code.env .Λ) #here code.function (code.unfolded 𝓤 H 𝓜 𝓡)
     (here-meets 𝓤 H (𝓖 .A) (givenOf 𝓤 H 𝓜 𝓖) (𝓜 .mem) (𝓡 .run) (tablesOf 𝓤 H 𝓜 (tables 𝓤 H 𝓜 𝓡 code.env))
-    (cited 𝓤 H (Takes 𝓤 H (𝓖 .A) (𝓜 .mem) (𝓡 .run)) 𝓜 𝓡 code.env #call call-def.routine code.calls-recv-queue·taking·take (call-thm.met 𝓤 H 𝓜 𝓖 𝓡))
-    (cited 𝓤 H (Told 𝓤 H (𝓖 .A) (𝓜 .mem) (𝓡 .run)) 𝓜 𝓡 code.env #told told-def.routine code.calls-exports-queue·take-told (told-thm.met 𝓤 H 𝓜 𝓖 𝓡)))
+    (cited 𝓤 H (Takes 𝓤 H (𝓖 .A) (𝓜 .mem) (𝓡 .run)) 𝓜 𝓡 code.env #call call-def.routine code.calls-recv-queue·taking·take
+    (call-thm.met 𝓤 H 𝓜 𝓖 𝓡))
+    (cited 𝓤 H (Told 𝓤 H (𝓖 .A) (𝓜 .mem) (𝓡 .run)) 𝓜 𝓡 code.env #told told-def.routine code.calls-recv-answers·take-told
+    (told-thm.met 𝓤 H 𝓜 𝓖 𝓡)))

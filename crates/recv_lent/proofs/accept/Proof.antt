@@ -1,8 +1,19 @@
--- `recv_lent::accept` meets its contract: a walk of its MIR, by hand. The borrow is opened and the receiver's own numbers are copied out; then each array is cut out, lent where it lies, and comes back; at last the numbers are written, and the borrow is closed at the new receiver.
+-- `recv_lent::accept` meets its contract: a walk of its MIR, by hand. The borrow is opened and the receiver's own numbers are copied out;
+-- then each array is cut out, lent where it lies, and comes back; at last the numbers are written, and the borrow is closed at the new
+-- receiver.
 -- Assumes nothing.
-use Rattle.walks.proofs.Walk.{_≡_, refl, ℕ, _+_, _<_, _^_, lit<, Bool, [], _∷_, List, length, URA, fullShare, named, w32, tyInt, Val, vint, vbool, vunit, vptr, SProp, ent, emp, via, fst∗, wand, GName, Lft, Share, ftrue, fat, flft, fobs, fbor, Memory, Routine, Heap, Calls, Loops, WpFn, Tables, Atoms, sem, Fun, givenOf, tables, tablesOf, Given, ‵, raw, _⊛_, some, ⋆, _$_, _∵_, !, qed, by, move, keep, drop, use1, use2, split, join, pick, rewrite, fsplit, fsplit3, fjoin}
-use Rattle.walks.proofs.Walk.{fjoin3, feqI, suffices, frame, done, look, init, stop, hop, fld, from, load, lit, unit-lit, of-opd, addr, and-then, no-more, land, assigns, returns, enter, alloc1, alloc0, params1, pass1, pass0, free0, agg, whole, sub, look-in, FmC, fmOf, WpFn-mono, yes, owns, Is, shows, mem, partAt, uint-vals, uint-tells, Array, u8, u32, bool, RefT, MutRef, ptr-vals, mut-tells, sliceVal, ShrSlice, Room, slice-vals, shr-slice-tells, plain, shrSliceOf}
-use Rattle.walks.proofs.Walk.{opens, closes, owned, peeks, nothing, spelt, onEntry, Triple, Meets, tripleOf, entered, cited, says, Stays, stay-ref, stay-dropped, walkOf, goes-ref, goes-dropped, Walks, ends-at, walked, walk-meets}
+use Rattle.walks.proofs.Walk.{_≡_, refl, ℕ, _+_, _<_, _^_, lit<, Bool, [], _∷_, List, length, URA, fullShare, named, w32, tyInt, Val, vint}
+use Rattle.walks.proofs.Walk.{vbool, vunit, vptr, SProp, ent, emp, via, fst∗, wand, GName, Lft, Share, ftrue, fat, flft, fobs, fbor, Memory}
+use Rattle.walks.proofs.Walk.{Routine, Heap, Calls, Loops, WpFn, Tables, Atoms, sem, Fun, givenOf, tables, tablesOf, Given, ‵, raw, _⊛_}
+use Rattle.walks.proofs.Walk.{some, ⋆, _$_, _∵_, !, qed, by, move, keep, drop, use1, use2, split, join, pick, rewrite, fsplit, fsplit3}
+use Rattle.walks.proofs.Walk.{fjoin}
+use Rattle.walks.proofs.Walk.{fjoin3, feqI, suffices, frame, done, look, init, stop, hop, fld, from, load, lit, unit-lit, of-opd, addr}
+use Rattle.walks.proofs.Walk.{and-then, no-more, land, assigns, returns, enter, alloc1, alloc0, params1, pass1, pass0, agg, whole}
+use Rattle.walks.proofs.Walk.{sub, look-in, FmC, fmOf, WpFn-mono, yes, owns, Is, shows, mem, partAt, uint-vals, uint-tells, Array, u8, u32}
+use Rattle.walks.proofs.Walk.{bool, RefT, MutRef, ptr-vals, mut-tells, sliceVal, ShrSlice, Room, slice-vals, shr-slice-tells, plain}
+use Rattle.walks.proofs.Walk.{shrSliceOf}
+use Rattle.walks.proofs.Walk.{opens, closes, owned, peeks, nothing, spelt, onEntry, Triple, Meets, tripleOf, entered, cited, says, Stays}
+use Rattle.walks.proofs.Walk.{stay-ref, stay-dropped, walkOf, goes-ref, goes-dropped, Walks, ends-at, walked, walk-meets}
 use base.Logic.{apply∗}
 use types.Part.{store-in}
 use types.SemTy.{Body}
@@ -11,21 +22,22 @@ use denote.Plain.{bool-vals, bool-tells}
 use denote.Struct.Laws as LL
 use Rattle.base.specs.Put.{put}
 use Rattle.window.specs.Window.{windowOf, insertOf}
-use Rattle.recv.specs.declared.RecvQueue.{RecvQueue}
-use Rattle.recv.proofs.RecvQueue as T
-use Rattle.recv.proofs.RecvQueue.Laws as T′
-use Rattle.walks.proofs.Order.{entry, var, gone1, big-lit}
+use Rattle.receiver.specs.declared.RecvQueue.{RecvQueue}
+use Rattle.receiver.proofs.RecvQueue as T
+use Rattle.receiver.proofs.RecvQueue.Laws as T′
+use Rattle.walks.proofs.Order.{entry, var, big-lit, gone}
 use Rattle.walks.proofs.Parts.{lending-part, returned-part}
 use Rattle.walks.proofs.Behind.{in-memory, from-memory}
 use Rattle.walks.proofs.Receiver.{withDatagramBits, withReliableBits, withUnsent, cut-datagrams, cut-reliables, cut-unsent}
-use Rattle.unsent.specs.Unsent.{joinedBy}
-use Rattle.unsent.proofs.join_number.Symbol as join-def
-use Rattle.unsent.proofs.join_number.Symbol.{name as #unsent·join-number}
-use Rattle.unsent.proofs.join_number.Met as join-thm
+use Rattle.recv_unsent.specs.Unsent.{joinedBy}
+use Rattle.recv_unsent.proofs.join_number.Symbol as join-def
+use Rattle.recv_unsent.proofs.join_number.Symbol.{name as #recv-unsent·join-number}
+use Rattle.recv_unsent.proofs.join_number.Met as join-thm
 use Rattle.recv_lent.specs.Settled.{nextPending, withNumber}
-use Rattle.channel.proofs.Receiver.{valsOf, datagrams-fit, pending-fits}
+use Rattle.recv_channel.proofs.Receiver.{valsOf, datagrams-fit, pending-fits}
 use Rattle.recv_lent.proofs.Known.{unit-typed, number-typed, size-typed, withNumbers, numbers-changed}
-use Rattle.recv_lent.proofs.Accepting.{PutBytes, AcceptIn, JoinNumber, NextPending, calls-put-bytes, calls-accept-in, calls-join-number, calls-next-pending}
+use Rattle.recv_lent.proofs.Accepting.{PutBytes, AcceptIn, JoinNumber, NextPending, calls-put-bytes, calls-accept-in}
+use Rattle.recv_lent.proofs.Accepting.{calls-join-number, calls-next-pending}
 use Rattle.base.proofs.put_bytes.Symbol as put-def
 use Rattle.base.proofs.put_bytes.Symbol.{name as #base·put-bytes}
 use Rattle.base.proofs.put_bytes.Met as put-thm
@@ -41,9 +53,20 @@ use Rattle.recv_lent.proofs.accept.Statement as stated
 use Rattle.recv_lent.proofs.accept.Code as code
 
 abbrev stayed : Stays (f.ended .signature .params) (f.ended .kept)
-stayed = (stay-ref (0 ∷ []) tt (plain (λ _. T.the-row)), (stay-dropped (plain (λ _. u32)) yes, (stay-dropped (shrSliceOf (1 ∷ []) tt (plain (λ _. u8))) yes, (stay-dropped (plain (λ _. u32)) yes, (stay-dropped (plain (λ _. bool)) yes, tt)))))
+stayed = (
+  stay-ref (0 ∷ []) tt (plain (λ _. T.the-row)),
+  (
+    stay-dropped (plain (λ _. u32)) yes,
+    (
+      stay-dropped (shrSliceOf (1 ∷ []) tt (plain (λ _. u8))) yes,
+      (stay-dropped (plain (λ _. u32)) yes, (stay-dropped (plain (λ _. bool)) yes, tt)),
+    ),
+  ),
+)
 
-module _ {M : Type 1} (𝓤 : URA M) (H : Heap 𝓤) (A : Atoms 𝓤) (W : Given 𝓤 H A) (at-mem : Memory → SProp 𝓤) (run : Routine → Fun 𝓤) (κ₀ κ₁ : Lft) (q₀ q₁ : Share) (b o : ℕ) (γ : GName) (h : RecvQueue) (low : ℕ) (b₁ o₁ : ℕ) (γ₁ : GName) (bits : List ℕ) (n : ℕ) (asc : Bool)
+module _ {M : Type 1} (𝓤 : URA M) (H : Heap 𝓤) (A : Atoms 𝓤) (W : Given 𝓤 H A) (at-mem : Memory → SProp 𝓤) (run : Routine → Fun 𝓤)
+    (κ₀ κ₁ : Lft) (q₀ q₁ : Share) (b o : ℕ) (γ : GName) (h : RecvQueue) (low : ℕ) (b₁ o₁ : ℕ) (γ₁ : GName) (bits : List ℕ) (n : ℕ)
+    (asc : Bool)
     (low-small : low < 2 ^ 32) (room : Room u8 (length bits)) (n-small : n < 2 ^ 32) where
   abbrev x : RefT RecvQueue
   x = record { ptr = (b, o); name = γ; now = h }
@@ -98,95 +121,180 @@ module _ {M : Type 1} (𝓤 : URA M) (H : Heap 𝓤) (A : Atoms 𝓤) (W : Given
   queueAt z = sem 𝓤 H A (partAt T.the-row fullShare z b o)
 
   abbrev Bound : walkOf 𝓤 H A f.ended stayed (f.clauses 𝓤 H A at-mem run) .Ghost
-  Bound = (((κ₀, (κ₁, tt)), (q₀, (q₁, tt)), tt, (x, (low, (y, (n, (asc, tt))))), (vptr b o ∷ [], (vint w32 low ∷ [], (vy ∷ [], (vint w32 n ∷ [], (vbool asc ∷ [], tt)))))), tt)
+  Bound = (
+    (
+      (κ₀, (κ₁, tt)),
+      (q₀, (q₁, tt)),
+      tt,
+      (x, (low, (y, (n, (asc, tt))))),
+      (vptr b o ∷ [], (vint w32 low ∷ [], (vy ∷ [], (vint w32 n ∷ [], (vbool asc ∷ [], tt))))),
+    ),
+    tt,
+  )
 
   abbrev Post : Val → SProp 𝓤
   Post = walkOf 𝓤 H A f.ended stayed (f.clauses 𝓤 H A at-mem run) .post Bound
 
-  exits : ent 𝓤 (⋆ 𝓤 H A (‵ (fobs γ (T.the-row .coded .code h₄)) ∷ ‵ (fbor κ₀ (Body (mem T.the-row) b o γ)) ∷ ‵ (flft κ₀ q₀) ∷ ‵ (flft κ₁ q₁) ∷ [])) (Post vunit)
+  exits : ent 𝓤 (⋆ 𝓤 H A (‵ (fobs γ (T.the-row .coded .code h₄)) ∷ ‵ (fbor κ₀ (Body (mem T.the-row) b o γ)) ∷ ‵ (flft κ₀ q₀)
+      ∷ ‵ (flft κ₁ q₁) ∷ [])) (Post vunit)
   exits =
       qed W (‵ (fobs γ (T.the-row .coded .code h₄)) ∷ ‵ (fbor κ₀ (Body (mem T.the-row) b o γ)) ∷ ‵ (flft κ₀ q₀) ∷ ‵ (flft κ₁ q₁) ∷ []) ∵
-      suffices ! _ (ends-at 𝓤 H A f.ended stayed (f.clauses 𝓤 H A at-mem run) W Bound vunit tt (h₄, (tt, (tt, (tt, (tt, tt))))) (tt, (tt, (tt, (tt, (tt, tt)))))) $ says ! is-accepted $
+      suffices ! _ (ends-at 𝓤 H A f.ended stayed (f.clauses 𝓤 H A at-mem run) W Bound vunit tt (h₄, (tt, (tt, (tt, (tt, tt)))))
+      (tt, (tt, (tt, (tt, (tt, tt)))))) $ says ! is-accepted $
       nothing ! $ move ! (4 ∷ 0 ∷ []) $ join ! $ move ! (3 ∷ 0 ∷ []) $ join ! $ frame ! $
-      feqI ! (List Val) (vptr b o ∷ []) (vptr b o ∷ []) refl $ fjoin3 ! $ nothing ! $ nothing ! $ fjoin ! $ nothing ! $ fjoin ! $ nothing ! $ fjoin ! $ nothing ! $ fjoin ! $ move ! (1 ∷ 0 ∷ []) $ fjoin ! $
+      feqI ! (List Val) (vptr b o ∷ []) (vptr b o ∷ []) refl $ fjoin3 ! $ nothing ! $ nothing ! $ fjoin ! $ nothing ! $ fjoin ! $
+      nothing ! $ fjoin ! $ nothing ! $ fjoin ! $ move ! (1 ∷ 0 ∷ []) $ fjoin ! $
       feqI ! (List Val) (vunit ∷ []) (vunit ∷ []) refl $ move ! (1 ∷ 0 ∷ []) $ done !
 
-  module _ (C₀ : Calls 𝓤 H) (Λ : Loops 𝓤 H) (fm : FmC 𝓤 H (W .laws) C₀) (known-put : Triple 𝓤 (C₀ #base·put-bytes) (PutBytes 𝓤 H A at-mem run)) (known-accept : Triple 𝓤 (C₀ #recv-lent·accept-in) (AcceptIn 𝓤 H A at-mem run))
-      (known-join : Triple 𝓤 (C₀ #unsent·join-number) (JoinNumber 𝓤 H A at-mem run)) (known-next : Triple 𝓤 (C₀ #recv-lent·next-pending) (NextPending 𝓤 H A at-mem run)) where
-    walk : ent 𝓤 (onEntry 𝓤 H A f.signature (κ₀, (κ₁, tt)) (q₀, (q₁, tt)) (x, (low, (y, (n, (asc, tt))))) (vptr b o ∷ [], (vint w32 low ∷ [], (vy ∷ [], (vint w32 n ∷ [], (vbool asc ∷ [], tt)))))) (WpFn 𝓤 H C₀ Λ code.function (vptr b o ∷ vint w32 low ∷ vy ∷ vint w32 n ∷ vbool asc ∷ []) Post)
+  module _ (C₀ : Calls 𝓤 H) (Λ : Loops 𝓤 H) (fm : FmC 𝓤 H (W .laws) C₀)
+      (known-put : Triple 𝓤 (C₀ #base·put-bytes) (PutBytes 𝓤 H A at-mem run))
+      (known-accept : Triple 𝓤 (C₀ #recv-lent·accept-in) (AcceptIn 𝓤 H A at-mem run))
+      (known-join : Triple 𝓤 (C₀ #recv-unsent·join-number) (JoinNumber 𝓤 H A at-mem run))
+      (known-next : Triple 𝓤 (C₀ #recv-lent·next-pending) (NextPending 𝓤 H A at-mem run)) where
+    walk : ent 𝓤 (onEntry 𝓤 H A f.signature (κ₀, (κ₁, tt)) (q₀, (q₁, tt)) (x, (low, (y, (n, (asc, tt)))))
+        (vptr b o ∷ [], (vint w32 low ∷ [], (vy ∷ [], (vint w32 n ∷ [], (vbool asc ∷ [], tt))))))
+        (WpFn 𝓤 H C₀ Λ code.function (vptr b o ∷ vint w32 low ∷ vy ∷ vint w32 n ∷ vbool asc ∷ []) Post)
     walk =
-        qed W ((‵ (flft κ₀ q₀) ⊛ (‵ (flft κ₁ q₁) ⊛ ‵ ftrue)) ∷ ‵ (owns (MutRef (named 0) κ₀ T.the-row ∷ u32 ∷ ShrSlice (named 1) κ₁ u8 ∷ u32 ∷ bool ∷ []) (x, (low, (y, (n, (asc, tt))))) (vptr b o ∷ [], (vint w32 low ∷ [], (vy ∷ [], (vint w32 n ∷ [], (vbool asc ∷ [], tt)))))) ∷ []) ∵
+        qed W ((‵ (flft κ₀ q₀) ⊛ (‵ (flft κ₁ q₁) ⊛ ‵ ftrue))
+        ∷ ‵ (owns (MutRef (named 0) κ₀ T.the-row ∷ u32 ∷ ShrSlice (named 1) κ₁ u8 ∷ u32 ∷ bool ∷ []) (x, (low, (y, (n, (asc, tt)))))
+        (vptr b o ∷ [], (vint w32 low ∷ [], (vy ∷ [], (vint w32 n ∷ [], (vbool asc ∷ [], tt)))))) ∷ []) ∵
         enter ! C₀ Λ code.function (vptr b o ∷ vint w32 low ∷ vy ∷ vint w32 n ∷ vbool asc ∷ []) _ $
-        alloc1 ! (λ l₀. alloc1 ! (λ l₁. alloc1 ! (λ l₂. alloc1 ! (λ l₃. alloc1 ! (λ l₄. alloc1 ! (λ l₅. alloc1 ! (λ l₆. alloc1 ! (λ l₇. alloc1 ! (λ l₈. alloc1 ! (λ l₉. alloc1 ! (λ l₁₀. alloc1 ! (λ l₁₁. alloc1 ! (λ l₁₂. alloc1 ! (λ l₁₃. alloc1 ! (λ l₁₄. alloc1 ! (λ l₁₅. alloc1 ! (λ l₁₆. alloc1 ! (λ l₁₇. alloc0 ! $ params1 ! $
-        pass1 ! (init ! 32 refl (tt, tt)) $ pass1 ! (init ! 30 refl (tt, record { fits = low-small })) $ pass1 ! (init ! 28 refl (tt, (tt, (record { fits = room .0 }, tt)))) $ pass1 ! (init ! 26 refl (tt, record { fits = n-small })) $ pass1 ! (init ! 24 refl (tt, tt)) $ pass0 ! $
+        alloc1 ! (λ l₀. alloc1 !
+        (λ l₁. alloc1 !
+        (λ l₂. alloc1 !
+        (λ l₃. alloc1 !
+        (λ l₄. alloc1 !
+        (λ l₅. alloc1 !
+        (λ l₆. alloc1 !
+        (λ l₇. alloc1 !
+        (λ l₈. alloc1 ! (λ l₉. alloc1 ! (λ l₁₀. alloc1 !
+        (λ l₁₁. alloc1 ! (λ l₁₂. alloc1 ! (λ l₁₃. alloc1 !
+        (λ l₁₄. alloc1 ! (λ l₁₅. alloc1 ! (λ l₁₆. alloc1 ! (λ l₁₇. alloc0 ! $ params1 ! $
+        pass1 ! (init ! 32 refl (tt, tt)) $ pass1 ! (init ! 30 refl (tt, record { fits = low-small })) $
+        pass1 ! (init ! 28 refl (tt, (tt, (record { fits = room .0 }, tt)))) $ pass1 ! (init ! 26 refl (tt, record { fits = n-small }))
+        $ pass1 ! (init ! 24 refl (tt, tt)) $ pass0 ! $
         -- [_17; …; …; _0; …; the tokens; what the parameters own], then 5: [obs; the borrow; [κ₀]; bits; [κ₁]]
-        move ! (37 ∷ []) $ fsplit ! $ move ! (1 ∷ []) $ fsplit ! $ drop ! $ fsplit ! $ move ! (1 ∷ []) $ fsplit ! $ drop ! $ drop ! $ move ! (38 ∷ []) $ split ! $ move ! (1 ∷ []) $ split ! $ move ! (4 ∷ []) $ fsplit3 ! $ drop ! $ keep ! (0 ∷ 1 ∷ 4 ∷ 5 ∷ 2 ∷ entry 6 18) $
-        opens ! tt T.the-row {h = h} b o (λ vs. spelt ! T.the-row (Is T.the-row) (shows 𝓤 H A T.the-row) valsOf (LL.tells T.the-type T′.the-laws) fullShare h vs b o $
+        move ! (37 ∷ []) $ fsplit ! $ move ! (1 ∷ []) $ fsplit ! $ drop ! $ fsplit ! $ move ! (1 ∷ []) $ fsplit ! $ drop ! $ drop ! $
+        move ! (38 ∷ []) $ split ! $ move ! (1 ∷ []) $ split ! $ move ! (4 ∷ []) $ fsplit3 ! $ drop ! $
+        keep ! (0 ∷ 1 ∷ 4 ∷ 5 ∷ 2 ∷ entry 6 18) $
+        opens ! tt T.the-row {h = h} b o (λ vs. spelt ! T.the-row (Is T.the-row) (shows 𝓤 H A T.the-row) valsOf
+        (LL.tells T.the-type T′.the-laws) fullShare h vs b o $
         move ! (1 ∷ []) $ peeks ! T.the-row (Is T.the-row) (shows 𝓤 H A T.the-row) h (valsOf h) (λ was. move ! (1 ∷ 0 ∷ []) $
         -- 7: [the struct's cell; what it owns; the open borrow; obs; auth; bits; [κ₁]]
-        assigns ! (of-opd ! (load ! (from ! (hop ! (look ! (7 + 1) refl) (fld ! refl (fld ! refl (stop !))))) (look-in ! 0 (sub ! 0 refl (sub ! 0 refl (whole !)))))) (from ! (stop !)) (init ! (7 + 6) refl (tt, record { fits = datagrams-fit h was })) $
-        assigns ! (of-opd ! (load ! (from ! (hop ! (look ! (7 + 1) refl) (fld ! refl (stop !)))) (look-in ! 0 (sub ! 4 refl (whole !))))) (from ! (stop !)) (init ! (7 + 7) refl (tt, record { fits = pending-fits h was })) $
-        assigns ! (addr ! (from ! (hop ! (look ! (7 + 1) refl) (fld ! refl (fld ! refl (stop !)))))) (from ! (stop !)) (init ! (7 + 11) refl (tt, tt)) $
-        assigns ! (agg ! (and-then ! (var ! (7 + 11) refl) (and-then ! (lit ! tt) (no-more !)))) (from ! (stop !)) (init ! (7 + 12) refl (tt, (tt, (record { fits = lit< tt }, tt)))) $
+        assigns ! (of-opd ! (load ! (from ! (hop ! (look ! (7 + 1) refl) (fld ! refl (fld ! refl (stop !)))))
+        (look-in ! 0 (sub ! 0 refl (sub ! 0 refl (whole !)))))) (from ! (stop !))
+        (init ! (7 + 6) refl (tt, record { fits = datagrams-fit h was })) $
+        assigns ! (of-opd ! (load ! (from ! (hop ! (look ! (7 + 1) refl) (fld ! refl (stop !)))) (look-in ! 0 (sub ! 4 refl (whole !)))))
+        (from ! (stop !)) (init ! (7 + 7) refl (tt, record { fits = pending-fits h was })) $
+        assigns ! (addr ! (from ! (hop ! (look ! (7 + 1) refl) (fld ! refl (fld ! refl (stop !)))))) (from ! (stop !))
+        (init ! (7 + 11) refl (tt, tt)) $
+        assigns ! (agg ! (and-then ! (var ! (7 + 11) refl) (and-then ! (lit ! tt) (no-more !)))) (from ! (stop !))
+        (init ! (7 + 12) refl (tt, (tt, (record { fits = lit< tt }, tt)))) $
         -- the reliable numbers' bits
         use2 W (‵ (partAt T.the-row fullShare h b o)) (in-memory 𝓤 H A W T.the-row fullShare h (valsOf h) b o) $
-        use1 W (‵ (partAt (Array u8 256) fullShare (h .reliables .bits) b (o + 260 + 4)) ⊛ raw (wand 𝓤 (bytesAt (o + 260 + 4) rs) (queueAt h₁))) (cut-reliables 𝓤 H A W b fullShare o h rs) $ split ! $
+        use1 W (‵ (partAt (Array u8 256) fullShare (h .reliables .bits) b (o + 260 + 4)) ⊛ raw
+        (wand 𝓤 (bytesAt (o + 260 + 4) rs) (queueAt h₁))) (cut-reliables 𝓤 H A W b fullShare o h rs) $ split ! $
         lending-part u8 tt 256 b (o + 260 + 4) (lit< tt, lit< tt) ! tt (h .reliables .bits) (λ α δ. move ! (2 ∷ 8 ∷ 0 ∷ 7 ∷ []) $
         -- 9: [[α]; [κ₁]; the lent bits; bits; the lender's part; the way back; the open borrow; obs; auth]
-        calls-put-bytes 𝓤 H A W at-mem run (α ∷ []) κ₁ fullShare q₁ (record { ptr = (b, o + 260 + 4); name = δ; now = h .reliables .bits }) y (sliceVal (b, o + 260 + 4) 256) vy ! fm known-put (lit< tt) (and-then ! (var ! (6 + 12) refl) (and-then ! (lit ! tt) (and-then ! (var ! (6 + 3) refl) (no-more !)))) (λ v m e _.
+        calls-put-bytes 𝓤 H A W at-mem run (α ∷ []) κ₁ fullShare q₁ (record { ptr = (b, o + 260 + 4); name = δ; now = h .reliables .bits })
+        y (sliceVal (b, o + 260 + 4) 256) vy ! fm known-put (lit< tt)
+        (and-then ! (var ! (6 + 12) refl) (and-then ! (lit ! tt) (and-then ! (var ! (6 + 3) refl) (no-more !)))) (λ v m e _.
         -- 8: [[α]; [κ₁]; the last value; the lender's part; the way back; the open borrow; obs; auth]
         land ! (from ! (stop !)) (init ! (8 + 10) refl (size-typed m e)) $
-        move ! (0 ∷ 3 ∷ 2 ∷ []) $ returned-part u8 tt 256 b (o + 260 + 4) (lit< tt, lit< tt) ! tt α δ rs $ move ! (0 ∷ 2 ∷ []) $ use2 W (‵ (partAt T.the-row fullShare h₁ b o)) (apply∗ 𝓤 (bytesAt (o + 260 + 4) rs) (queueAt h₁)) $
+        move ! (0 ∷ 3 ∷ 2 ∷ []) $ returned-part u8 tt 256 b (o + 260 + 4) (lit< tt, lit< tt) ! tt α δ rs $ move ! (0 ∷ 2 ∷ []) $
+        use2 W (‵ (partAt T.the-row fullShare h₁ b o)) (apply∗ 𝓤 (bytesAt (o + 260 + 4) rs) (queueAt h₁)) $
         -- 5: [the receiver; [κ₁]; the open borrow; obs; auth]: the datagrams' bits
-        assigns ! (addr ! (from ! (hop ! (look ! (5 + 1) refl) (fld ! refl (fld ! refl (stop !)))))) (from ! (stop !)) (init ! (5 + 13) refl (tt, tt)) $
-        assigns ! (agg ! (and-then ! (var ! (5 + 13) refl) (and-then ! (lit ! tt) (no-more !)))) (from ! (stop !)) (init ! (5 + 14) refl (tt, (tt, (record { fits = lit< tt }, tt)))) $
-        use1 W (‵ (partAt (Array u8 256) fullShare (h .datagrams .bits) b (o + 0 + 4)) ⊛ raw (wand 𝓤 (bytesAt (o + 0 + 4) ds) (queueAt h₂))) (cut-datagrams 𝓤 H A W b fullShare o h₁ ds) $ split ! $
+        assigns ! (addr ! (from ! (hop ! (look ! (5 + 1) refl) (fld ! refl (fld ! refl (stop !)))))) (from ! (stop !))
+        (init ! (5 + 13) refl (tt, tt)) $
+        assigns ! (agg ! (and-then ! (var ! (5 + 13) refl) (and-then ! (lit ! tt) (no-more !)))) (from ! (stop !))
+        (init ! (5 + 14) refl (tt, (tt, (record { fits = lit< tt }, tt)))) $
+        use1 W (‵ (partAt (Array u8 256) fullShare (h .datagrams .bits) b (o + 0 + 4)) ⊛ raw (wand 𝓤 (bytesAt (o + 0 + 4) ds) (queueAt h₂)))
+        (cut-datagrams 𝓤 H A W b fullShare o h₁ ds) $ split ! $
         lending-part u8 tt 256 b (o + 0 + 4) (lit< tt, lit< tt) ! tt (h .datagrams .bits) (λ β δ₂. move ! (2 ∷ 0 ∷ []) $
         -- 8: [[β]; the lent bits; the lender's part; the way back; [κ₁]; the open borrow; obs; auth]
-        calls-accept-in 𝓤 H A W at-mem run (β ∷ []) fullShare (h .datagrams .low) (record { ptr = (b, o + 0 + 4); name = δ₂; now = h .datagrams .bits }) n (sliceVal (b, o + 0 + 4) 256) ! fm known-accept (datagrams-fit h was) n-small
+        calls-accept-in 𝓤 H A W at-mem run (β ∷ []) fullShare (h .datagrams .low)
+        (record { ptr = (b, o + 0 + 4); name = δ₂; now = h .datagrams .bits }) n (sliceVal (b, o + 0 + 4) 256) ! fm known-accept
+        (datagrams-fit h was) n-small
         (and-then ! (var ! (7 + 6) refl) (and-then ! (var ! (7 + 14) refl) (and-then ! (var ! (7 + 4) refl) (no-more !)))) (λ v₂ e₂ _.
         -- 8: [[β]; the last value; the lender's part; the way back; [κ₁]; the open borrow; obs; auth]
-        land ! (from ! (stop !)) (init ! (8 + 8) refl (number-typed after e₂)) $ rewrite ! (8 + 8) (λ (z : Val). ‵ (fat fullShare (tyInt w32) l₈ 0 z)) (e₂ .0) refl $
-        move ! (0 ∷ 2 ∷ 1 ∷ []) $ returned-part u8 tt 256 b (o + 0 + 4) (lit< tt, lit< tt) ! tt β δ₂ ds $ use2 W (‵ (partAt T.the-row fullShare h₂ b o)) (apply∗ 𝓤 (bytesAt (o + 0 + 4) ds) (queueAt h₂)) $
+        land ! (from ! (stop !)) (init ! (8 + 8) refl (number-typed after e₂)) $
+        rewrite ! (8 + 8) (λ (z : Val). ‵ (fat fullShare (tyInt w32) l₈ 0 z)) (e₂ .0) refl $
+        move ! (0 ∷ 2 ∷ 1 ∷ []) $ returned-part u8 tt 256 b (o + 0 + 4) (lit< tt, lit< tt) ! tt β δ₂ ds $
+        use2 W (‵ (partAt T.the-row fullShare h₂ b o)) (apply∗ 𝓤 (bytesAt (o + 0 + 4) ds) (queueAt h₂)) $
         -- 5: [the receiver; [κ₁]; the open borrow; obs; auth]: the unsent numbers
         assigns ! (addr ! (from ! (hop ! (look ! (5 + 1) refl) (fld ! refl (stop !))))) (from ! (stop !)) (init ! (5 + 16) refl (tt, tt)) $
-        assigns ! (agg ! (and-then ! (var ! (5 + 16) refl) (and-then ! (big-lit ! (record { fits = lit< tt })) (no-more !)))) (from ! (stop !)) (init ! (5 + 17) refl (tt, (tt, (record { fits = lit< tt }, tt)))) $
-        use1 W (‵ (partAt (Array u32 1024) fullShare (h .unsent) b (o + 648)) ⊛ raw (wand 𝓤 (numbersAt us) (queueAt h₃))) (cut-unsent 𝓤 H A W b fullShare o h₂ us) $ split ! $
+        assigns ! (agg ! (and-then ! (var ! (5 + 16) refl) (and-then ! (big-lit ! (record { fits = lit< tt })) (no-more !))))
+        (from ! (stop !)) (init ! (5 + 17) refl (tt, (tt, (record { fits = lit< tt }, tt)))) $
+        use1 W (‵ (partAt (Array u32 1024) fullShare (h .unsent) b (o + 648)) ⊛ raw (wand 𝓤 (numbersAt us) (queueAt h₃)))
+        (cut-unsent 𝓤 H A W b fullShare o h₂ us) $ split ! $
         lending-part u32 tt 1024 b (o + 648) (lit< tt, lit< tt) ! tt (h .unsent) (λ ε δ₃. move ! (2 ∷ 0 ∷ []) $
         -- 8: [[ε]; the lent numbers; the lender's part; the way back; [κ₁]; the open borrow; obs; auth]
-        calls-join-number 𝓤 H A W at-mem run (ε ∷ []) fullShare (record { ptr = (b, o + 648); name = δ₃; now = h .unsent }) (h .pending) n asc (sliceVal (b, o + 648) 1024) ! fm known-join (pending-fits h was) n-small
-        (and-then ! (var ! (7 + 17) refl) (and-then ! (var ! (7 + 7) refl) (and-then ! (var ! (7 + 4) refl) (and-then ! (var ! (7 + 5) refl) (no-more !))))) (λ v₃ e₃ _.
+        calls-join-number 𝓤 H A W at-mem run (ε ∷ []) fullShare (record { ptr = (b, o + 648); name = δ₃; now = h .unsent }) (h .pending) n
+        asc (sliceVal (b, o + 648) 1024) ! fm known-join (pending-fits h was) n-small
+        (and-then ! (var ! (7 + 17) refl) (and-then ! (var ! (7 + 7) refl)
+        (and-then ! (var ! (7 + 4) refl) (and-then ! (var ! (7 + 5) refl) (no-more !))))) (λ v₃ e₃ _.
         land ! (from ! (stop !)) (init ! (8 + 15) refl (unit-typed e₃)) $
-        move ! (0 ∷ 2 ∷ 1 ∷ []) $ returned-part u32 tt 1024 b (o + 648) (lit< tt, lit< tt) ! tt ε δ₃ us $ use2 W (‵ (partAt T.the-row fullShare h₃ b o)) (apply∗ 𝓤 (numbersAt us) (queueAt h₃)) $
+        move ! (0 ∷ 2 ∷ 1 ∷ []) $ returned-part u32 tt 1024 b (o + 648) (lit< tt, lit< tt) ! tt ε δ₃ us $
+        use2 W (‵ (partAt T.the-row fullShare h₃ b o)) (apply∗ 𝓤 (numbersAt us) (queueAt h₃)) $
         -- 5: [the receiver; [κ₁]; the open borrow; obs; auth]: its own numbers
-        calls-next-pending 𝓤 H A W at-mem run (h .pending) ! fm known-next (pending-fits h was) (and-then ! (var ! (6 + 7) refl) (no-more !)) (λ v₄ e₄.
-        land ! (from ! (stop !)) (init ! (5 + 9) refl (number-typed pending e₄)) $ rewrite ! (5 + 9) (λ (z : Val). ‵ (fat fullShare (tyInt w32) l₉ 0 z)) (e₄ .0) refl $
-        use1 W (some (λ (ws : List Val). ‵ (cellAt fullShare (T.the-row .mir) ws b o) ⊛ ‵ (T.the-row .own h₃ ws))) (from-memory 𝓤 H A W T.the-row fullShare h₃ b o) $ pick ! (λ ws. split ! $
-        spelt ! T.the-row (Is T.the-row) (shows 𝓤 H A T.the-row) valsOf (LL.tells T.the-type T′.the-laws) fullShare h₃ ws b o $ move ! (1 ∷ []) $ peeks ! T.the-row (Is T.the-row) (shows 𝓤 H A T.the-row) h₃ (valsOf h₃) (λ is. move ! (1 ∷ 0 ∷ []) $
+        calls-next-pending 𝓤 H A W at-mem run (h .pending) ! fm known-next (pending-fits h was)
+        (and-then ! (var ! (6 + 7) refl) (no-more !)) (λ v₄ e₄.
+        land ! (from ! (stop !)) (init ! (5 + 9) refl (number-typed pending e₄)) $
+        rewrite ! (5 + 9) (λ (z : Val). ‵ (fat fullShare (tyInt w32) l₉ 0 z)) (e₄ .0) refl $
+        use1 W (some (λ (ws : List Val). ‵ (cellAt fullShare (T.the-row .mir) ws b o) ⊛ ‵ (T.the-row .own h₃ ws)))
+        (from-memory 𝓤 H A W T.the-row fullShare h₃ b o) $ pick ! (λ ws. split ! $
+        spelt ! T.the-row (Is T.the-row) (shows 𝓤 H A T.the-row) valsOf (LL.tells T.the-type T′.the-laws) fullShare h₃ ws b o $
+        move ! (1 ∷ []) $ peeks ! T.the-row (Is T.the-row) (shows 𝓤 H A T.the-row) h₃ (valsOf h₃) (λ is. move ! (1 ∷ 0 ∷ []) $
         -- 6: [the struct's cell; what it owns; [κ₁]; the open borrow; obs; auth]
-        assigns ! (of-opd ! (var ! (6 + 8) refl)) (from ! (hop ! (look ! (6 + 1) refl) (fld ! refl (fld ! refl (stop !))))) (store-in ! 0 (sub ! 0 refl (sub ! 0 refl (whole !))) (tt, record { fits = e₂ .1 })) $
-        assigns ! (of-opd ! (var ! (6 + 2) refl)) (from ! (hop ! (look ! (6 + 1) refl) (fld ! refl (fld ! refl (stop !))))) (store-in ! 0 (sub ! 0 refl (sub ! 1 refl (whole !))) (tt, record { fits = low-small })) $
-        assigns ! (of-opd ! (var ! (6 + 9) refl)) (from ! (hop ! (look ! (6 + 1) refl) (fld ! refl (stop !)))) (store-in ! 0 (sub ! 4 refl (whole !)) (tt, record { fits = e₄ .1 })) $
+        assigns ! (of-opd ! (var ! (6 + 8) refl)) (from ! (hop ! (look ! (6 + 1) refl) (fld ! refl (fld ! refl (stop !)))))
+        (store-in ! 0 (sub ! 0 refl (sub ! 0 refl (whole !))) (tt, record { fits = e₂ .1 })) $
+        assigns ! (of-opd ! (var ! (6 + 2) refl)) (from ! (hop ! (look ! (6 + 1) refl) (fld ! refl (fld ! refl (stop !)))))
+        (store-in ! 0 (sub ! 0 refl (sub ! 1 refl (whole !))) (tt, record { fits = low-small })) $
+        assigns ! (of-opd ! (var ! (6 + 9) refl)) (from ! (hop ! (look ! (6 + 1) refl) (fld ! refl (stop !))))
+        (store-in ! 0 (sub ! 4 refl (whole !)) (tt, record { fits = e₄ .1 })) $
         assigns ! (of-opd ! (unit-lit !)) (from ! (stop !)) (init ! (6 + 0) refl (tt, tt)) $
-        move ! (1 ∷ []) $ drop ! $ owned ! T.the-row (Is T.the-row) (LL.makes T.the-type T′.the-plain 𝓤 H A) h₄ (valsOf h₄) (numbers-changed h₃ after low pending (e₂ .1) low-small (e₄ .1) is) $ move ! (1 ∷ 0 ∷ 3 ∷ 4 ∷ 5 ∷ []) $ closes ! tt T.the-row h₄ (valsOf h₄) b o $
+        move ! (1 ∷ []) $ drop ! $ owned ! T.the-row (Is T.the-row) (LL.makes T.the-type T′.the-plain 𝓤 H A) h₄ (valsOf h₄)
+        (numbers-changed h₃ after low pending (e₂ .1) low-small (e₄ .1) is) $ move ! (1 ∷ 0 ∷ 3 ∷ 4 ∷ 5 ∷ []) $
+        closes ! tt T.the-row h₄ (valsOf h₄) b o $
         -- 4: [obs; the borrow; [κ₀]; [κ₁]]
-        returns ! (look ! 4 refl) $ move ! (4 ∷ 22 ∷ []) $ gone1 ! $ move ! (4 ∷ 21 ∷ []) $ gone1 ! $ move ! (4 ∷ 20 ∷ []) $ gone1 ! $ move ! (4 ∷ 19 ∷ []) $ gone1 ! $ move ! (4 ∷ 18 ∷ []) $ gone1 ! $ move ! (4 ∷ 17 ∷ []) $ gone1 ! $ move ! (4 ∷ 16 ∷ []) $ gone1 ! $ move ! (4 ∷ 15 ∷ []) $ gone1 ! $ move ! (4 ∷ 14 ∷ []) $ gone1 ! $ move ! (4 ∷ 13 ∷ []) $ gone1 ! $ move ! (4 ∷ 12 ∷ []) $ gone1 ! $ move ! (4 ∷ 11 ∷ []) $ gone1 ! $ move ! (4 ∷ 10 ∷ []) $ gone1 ! $ move ! (4 ∷ 9 ∷ []) $ gone1 ! $ move ! (4 ∷ 8 ∷ []) $ gone1 ! $ move ! (4 ∷ 7 ∷ []) $ gone1 ! $ move ! (4 ∷ 6 ∷ []) $ gone1 ! $ move ! (4 ∷ 5 ∷ []) $ gone1 ! $ free0 ! $ by ! exits)))))))))))))))))))))))))))))
+        returns ! (look ! 4 refl) $ gone ! 4 refl $ by ! exits)))))))))))))))))))))))))))))
 
-module _ {M : Type 1} (𝓤 : URA M) (H : Heap 𝓤) (A : Atoms 𝓤) (W : Given 𝓤 H A) (at-mem : Memory → SProp 𝓤) (run : Routine → Fun 𝓤) (𝓣 : Tables 𝓤 H) (known-put : Triple 𝓤 (𝓣 .C #base·put-bytes) (PutBytes 𝓤 H A at-mem run)) (known-accept : Triple 𝓤 (𝓣 .C #recv-lent·accept-in) (AcceptIn 𝓤 H A at-mem run))
-    (known-join : Triple 𝓤 (𝓣 .C #unsent·join-number) (JoinNumber 𝓤 H A at-mem run)) (known-next : Triple 𝓤 (𝓣 .C #recv-lent·next-pending) (NextPending 𝓤 H A at-mem run)) where
+module _ {M : Type 1} (𝓤 : URA M) (H : Heap 𝓤) (A : Atoms 𝓤) (W : Given 𝓤 H A) (at-mem : Memory → SProp 𝓤) (run : Routine → Fun 𝓤)
+    (𝓣 : Tables 𝓤 H) (known-put : Triple 𝓤 (𝓣 .C #base·put-bytes) (PutBytes 𝓤 H A at-mem run))
+    (known-accept : Triple 𝓤 (𝓣 .C #recv-lent·accept-in) (AcceptIn 𝓤 H A at-mem run))
+    (known-join : Triple 𝓤 (𝓣 .C #recv-unsent·join-number) (JoinNumber 𝓤 H A at-mem run))
+    (known-next : Triple 𝓤 (𝓣 .C #recv-lent·next-pending) (NextPending 𝓤 H A at-mem run)) where
   here-walks : Walks 𝓤 H A f.ended stayed (WpFn 𝓤 H (𝓣 .C) (𝓣 .Λ) code.function) (f.clauses 𝓤 H A at-mem run)
-  here-walks = walked 𝓤 H A f.ended stayed (f.clauses 𝓤 H A at-mem run) (WpFn 𝓤 H (𝓣 .C) (𝓣 .Λ) code.function) (λ κs. (ptr-vals, (uint-vals w32, (slice-vals, (uint-vals w32, (bool-vals, tt))))))
-      (λ κs. (mut-tells (named 0) (κs .0) T.the-row, (uint-tells w32, (shr-slice-tells (named 1) (κs .1 .0) u8, (uint-tells w32, (bool-tells, tt))))))
+  here-walks = walked 𝓤 H A f.ended stayed (f.clauses 𝓤 H A at-mem run) (WpFn 𝓤 H (𝓣 .C) (𝓣 .Λ) code.function)
+      (λ κs. (ptr-vals, (uint-vals w32, (slice-vals, (uint-vals w32, (bool-vals, tt))))))
+      (λ κs. (
+        mut-tells (named 0) (κs .0) T.the-row,
+        (
+          uint-tells w32,
+          (shr-slice-tells (named 1) (κs .1 .0) u8, (uint-tells w32, (bool-tells, tt))),
+        ),
+      ))
       (λ κs qs bounds a _ are. via 𝓤 _ (fst∗ 𝓤 _ (emp 𝓤))
-      (walk 𝓤 H A W at-mem run (κs .0) (κs .1 .0) (qs .0) (qs .1 .0) (a .0 .ptr .0) (a .0 .ptr .1) (a .0 .name) (a .0 .now) (a .1 .0) (a .1 .1 .0 .ptr .0) (a .1 .1 .0 .ptr .1) (a .1 .1 .0 .name) (a .1 .1 .0 .now) (a .1 .1 .1 .0) (a .1 .1 .1 .1 .0)
-      (are .1 .0 .1) (are .1 .1 .0 .0 .1) (are .1 .1 .1 .0 .1) (𝓣 .C) (𝓣 .Λ) (fmOf 𝓤 H (W .laws) 𝓣) known-put known-accept known-join known-next))
+      (walk 𝓤 H A W at-mem run (κs .0) (κs .1 .0) (qs .0) (qs .1 .0) (a .0 .ptr .0) (a .0 .ptr .1) (a .0 .name) (a .0 .now) (a .1 .0)
+      (a .1 .1 .0 .ptr .0) (a .1 .1 .0 .ptr .1) (a .1 .1 .0 .name) (a .1 .1 .0 .now) (a .1 .1 .1 .0) (a .1 .1 .1 .1 .0)
+      (are .1 .0 .1) (are .1 .1 .0 .0 .1) (are .1 .1 .1 .0 .1) (𝓣 .C) (𝓣 .Λ) (fmOf 𝓤 H (W .laws) 𝓣) known-put known-accept known-join
+      known-next))
 
   here-meets : Meets 𝓤 H A f.signature (WpFn 𝓤 H (𝓣 .C) (𝓣 .Λ) code.function) (f.spec 𝓤 H A at-mem run)
   here-meets = walk-meets 𝓤 H A f.ended stayed W (
     goes-ref 𝓤 H A W 2 0 tt (plain (λ _. T.the-row)),
     (
       goes-dropped 𝓤 H A W 2 (plain (λ _. u32)) yes (λ κs x g. refl),
-      (goes-dropped 𝓤 H A W 2 (shrSliceOf (1 ∷ []) tt (plain (λ _. u8))) yes (λ κs x g. refl), (goes-dropped 𝓤 H A W 2 (plain (λ _. u32)) yes (λ κs x g. refl), (goes-dropped 𝓤 H A W 2 (plain (λ _. bool)) yes (λ κs x g. refl), tt))),
+      (
+        goes-dropped 𝓤 H A W 2 (shrSliceOf (1 ∷ []) tt (plain (λ _. u8))) yes (λ κs x g. refl),
+        (
+          goes-dropped 𝓤 H A W 2 (plain (λ _. u32)) yes (λ κs x g. refl),
+          (
+            goes-dropped 𝓤 H A W 2 (plain (λ _. bool)) yes (λ κs x g. refl),
+            tt,
+          ),
+        ),
+      ),
     ),
   )
       (f.clauses 𝓤 H A at-mem run) (WpFn 𝓤 H (𝓣 .C) (𝓣 .Λ) code.function) (WpFn-mono 𝓤 H (W .laws) 𝓣 code.function) here-walks
@@ -197,7 +305,11 @@ accept-spec 𝓤 H 𝓜 𝓖 𝓡 =
     entered 𝓤 H (tripleOf 𝓤 H (𝓖 .A) f.signature (f.spec 𝓤 H (𝓖 .A) (𝓜 .mem) (𝓡 .run)))
     (tables 𝓤 H 𝓜 𝓡 code.env .C) (tables 𝓤 H 𝓜 𝓡 code.env .Λ) #recv-lent·accept code.function (code.unfolded 𝓤 H 𝓜 𝓡)
     (here-meets 𝓤 H (𝓖 .A) (givenOf 𝓤 H 𝓜 𝓖) (𝓜 .mem) (𝓡 .run) (tablesOf 𝓤 H 𝓜 (tables 𝓤 H 𝓜 𝓡 code.env))
-    (cited 𝓤 H (PutBytes 𝓤 H (𝓖 .A) (𝓜 .mem) (𝓡 .run)) 𝓜 𝓡 code.env #base·put-bytes put-def.routine code.calls-base·put-bytes (put-thm.met 𝓤 H 𝓜 𝓖 𝓡))
-    (cited 𝓤 H (AcceptIn 𝓤 H (𝓖 .A) (𝓜 .mem) (𝓡 .run)) 𝓜 𝓡 code.env #recv-lent·accept-in accept-in-def.routine code.calls-recv-lent·accept-in (accept-in-thm.met 𝓤 H 𝓜 𝓖 𝓡))
-    (cited 𝓤 H (JoinNumber 𝓤 H (𝓖 .A) (𝓜 .mem) (𝓡 .run)) 𝓜 𝓡 code.env #unsent·join-number join-def.routine code.calls-unsent·join-number (join-thm.met 𝓤 H 𝓜 𝓖 𝓡))
-    (cited 𝓤 H (NextPending 𝓤 H (𝓖 .A) (𝓜 .mem) (𝓡 .run)) 𝓜 𝓡 code.env #recv-lent·next-pending next-def.routine code.calls-recv-lent·next-pending (next-thm.met 𝓤 H 𝓜 𝓖 𝓡)))
+    (cited 𝓤 H (PutBytes 𝓤 H (𝓖 .A) (𝓜 .mem) (𝓡 .run)) 𝓜 𝓡 code.env #base·put-bytes put-def.routine code.calls-base·put-bytes
+    (put-thm.met 𝓤 H 𝓜 𝓖 𝓡))
+    (cited 𝓤 H (AcceptIn 𝓤 H (𝓖 .A) (𝓜 .mem) (𝓡 .run)) 𝓜 𝓡 code.env #recv-lent·accept-in accept-in-def.routine
+    code.calls-recv-lent·accept-in (accept-in-thm.met 𝓤 H 𝓜 𝓖 𝓡))
+    (cited 𝓤 H (JoinNumber 𝓤 H (𝓖 .A) (𝓜 .mem) (𝓡 .run)) 𝓜 𝓡 code.env #recv-unsent·join-number join-def.routine
+    code.calls-recv-unsent·join-number (join-thm.met 𝓤 H 𝓜 𝓖 𝓡))
+    (cited 𝓤 H (NextPending 𝓤 H (𝓖 .A) (𝓜 .mem) (𝓡 .run)) 𝓜 𝓡 code.env #recv-lent·next-pending next-def.routine
+    code.calls-recv-lent·next-pending (next-thm.met 𝓤 H 𝓜 𝓖 𝓡)))

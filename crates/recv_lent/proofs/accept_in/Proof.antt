@@ -1,5 +1,5 @@
 use borrow.Author.Needs.{needs}
-use Rattle.recv_lent.proofs.Ways.{low-of}
+use Rattle.recv_lent.proofs.CoveredCases.{low-of}
 use Rattle.recv_lent.proofs.accept_in.Statement.{statement}
 use Rattle.recv_lent.proofs.accept_in.Tie as tie
 

@@ -1,5 +1,5 @@
 use borrow.Author.Needs.{needs}
-use Rattle.recv_lent.proofs.Ways.{given-told, refused-told}
+use Rattle.recv_lent.proofs.CoveredCases.{given-told, refused-told}
 use Rattle.recv_lent.proofs.is_refused.Statement.{statement}
 use Rattle.recv_lent.proofs.is_refused.Tie as tie
 

@@ -1,5 +1,5 @@
 use borrow.Author.Needs.{needs}
-use Rattle.recv_lent.proofs.Ways.{pending-more, pending-full}
+use Rattle.recv_lent.proofs.CoveredCases.{pending-more, pending-full}
 use Rattle.recv_lent.proofs.next_pending.Statement.{statement}
 use Rattle.recv_lent.proofs.next_pending.Tie as tie
 

@@ -1,5 +1,5 @@
 use borrow.Author.Needs.{needs}
-use Rattle.recv_lent.proofs.Ways.{number-small}
+use Rattle.recv_lent.proofs.CoveredCases.{number-small}
 use Rattle.recv_lent.proofs.number_of.Statement.{statement}
 use Rattle.recv_lent.proofs.number_of.Tie as tie
 

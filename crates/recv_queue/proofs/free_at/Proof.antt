@@ -1,7 +1,16 @@
--- `recv_queue::free_at` meets its contract: a walk of its MIR, by hand. The records are shared for `record_at`, and where the record is of the message taken they are lent to `put_record`.
+-- `recv_queue::free_at` meets its contract: a walk of its MIR, by hand. The records are shared for `record_at`, and where the record is of
+-- the message taken they are lent to `put_record`.
 -- Assumes nothing.
-use Rattle.walks.proofs.Walk.{_≡_, refl, sym, ap, subst, ℕ, _+_, _<_, _^_, Bool, List, [], _∷_, length, getD, set, T, URA, fullShare, named, w32, w64, tyBool, tyUnit, Val, vunit, vint, hasTy, WT, SProp, ent, Lft, GName, Share, ftrue, fat, flft, Memory, Routine, Heap, Calls, Loops, WpFn, Tables, Atoms, FmC, fmOf, WpFn-mono, Fun, givenOf, tables, tablesOf, Given, Item, ‵, _⊛_, ⋆, _$_, _∵_, !, qed, by, move, keep, split, join, rewrite, fsplit, fjoin, feqI, suffices}
-use Rattle.walks.proofs.Walk.{frame, done, agg, whole, sub, look-in, look, init, stop, hop, fld, from, load, unit-lit, of-opd, addr, and-then, no-more, land, assigns, returns, returns-within, enter, alloc1, alloc0, params1, pass1, pass0, free1, free0, yes, owns, Is, shows, uint-vals, uint-tells, u32, usize, RefT, now, sliceVal, MutSlice, Room, slice-vals, mut-slice-tells, plain, peeks, nothing, onEntry, Triple, Meets, tripleOf, entered, cited, says, Stays}
+use Rattle.walks.proofs.Walk.{_≡_, refl, sym, ap, subst, ℕ, _+_, _<_, _^_, Bool, List, [], _∷_, length, getD, set, T, URA, fullShare, named}
+use Rattle.walks.proofs.Walk.{w32, w64, tyBool, tyUnit, Val, vunit, vint, hasTy, WT, SProp, ent, Lft, GName, Share, ftrue, fat, flft}
+use Rattle.walks.proofs.Walk.{Memory, Routine, Heap, Calls, Loops, WpFn, Tables, Atoms, FmC, fmOf, WpFn-mono, Fun, givenOf, tables}
+use Rattle.walks.proofs.Walk.{tablesOf, Given, Item, ‵, _⊛_, ⋆, _$_, _∵_, !, qed, by, move, keep, split, join, rewrite, fsplit, fjoin, feqI}
+use Rattle.walks.proofs.Walk.{suffices}
+use Rattle.walks.proofs.Walk.{frame, done, agg, whole, sub, look-in, look, init, stop, hop, fld, from, load, unit-lit, of-opd, addr}
+use Rattle.walks.proofs.Walk.{and-then, no-more, land, assigns, returns, returns-within, enter, alloc1, alloc0, params1, pass1, pass0}
+use Rattle.walks.proofs.Walk.{yes, owns, Is, shows, uint-vals, uint-tells, u32, usize, RefT, now, sliceVal, MutSlice, Room}
+use Rattle.walks.proofs.Walk.{slice-vals, mut-slice-tells, plain, peeks, nothing, onEntry, Triple, Meets, tripleOf, entered, cited, says}
+use Rattle.walks.proofs.Walk.{Stays}
 use Rattle.walks.proofs.Walk.{stay-dropped, stay-slice, walkOf, Walks, ends-at, walked, goes-dropped, goes-slice, walk-meets}
 use denote.Struct.Laws as LL
 use denote.Triple.Walked.{needs}
@@ -9,10 +18,10 @@ use Rattle.cells.specs.Cell.{bears, readyAs}
 use Rattle.cells.specs.declared.CellRecord.{CellRecord}
 use Rattle.cells.proofs.CellRecord as C
 use Rattle.cells.proofs.CellRecord.Laws as C′
-use Rattle.slots.specs.First.{blank}
-use Rattle.recv_queue.specs.Records.{leftBy}
+use Rattle.row_slots.specs.First.{blank}
+use Rattle.recv_queue.specs.Records.{recordLeftBy}
 use Rattle.recv_queue.proofs.Freed.{left-unused, left-same}
-use Rattle.walks.proofs.Order.{entry, var, gone1, if-returns}
+use Rattle.walks.proofs.Order.{entry, var, if-returns, gone}
 use Rattle.walks.proofs.Slices.{lending, returned, sharing, unshared}
 use Rattle.recv_new.proofs.Elements.{PutRecord, Unused, calls-put-record, calls-unused}
 use Rattle.recv_queue.proofs.Elements.{RecordAt, IsTaken, calls-record-at, calls-taken}
@@ -34,9 +43,16 @@ use Rattle.recv_queue.proofs.free_at.Statement as stated
 use Rattle.recv_queue.proofs.free_at.Code as code
 
 abbrev stayed : Stays (here.ended .signature .params) (here.ended .kept)
-stayed = (stay-slice (0 ∷ []) tt (plain (λ _. C.the-row)), (stay-dropped (plain (λ _. usize)) yes, (stay-dropped (plain (λ _. u32)) yes, tt)))
+stayed = (
+  stay-slice (0 ∷ []) tt (plain (λ _. C.the-row)),
+  (
+    stay-dropped (plain (λ _. usize)) yes,
+    (stay-dropped (plain (λ _. u32)) yes, tt),
+  ),
+)
 
-module _ {M : Type 1} (𝓤 : URA M) (H : Heap 𝓤) (A : Atoms 𝓤) (W : Given 𝓤 H A) (mem : Memory → SProp 𝓤) (run : Routine → Fun 𝓤) (κ : Lft) (q : Share) (b o : ℕ) (γ : GName) (rs : List CellRecord) (i turn : ℕ)
+module _ {M : Type 1} (𝓤 : URA M) (H : Heap 𝓤) (A : Atoms 𝓤) (W : Given 𝓤 H A) (mem : Memory → SProp 𝓤) (run : Routine → Fun 𝓤) (κ : Lft)
+    (q : Share) (b o : ℕ) (γ : GName) (rs : List CellRecord) (i turn : ℕ)
     (room : Room C.the-row (length rs)) (i-fits : i < 2 ^ 64) (turn-fits : turn < 2 ^ 32) (within : i < length rs) where
   abbrev x : GName → List CellRecord → RefT (List CellRecord)
   x δ l = record { ptr = (b, o); name = δ; now = l }
@@ -61,65 +77,104 @@ module _ {M : Type 1} (𝓤 : URA M) (H : Heap 𝓤) (A : Atoms 𝓤) (W : Given
   abbrev Left : List CellRecord → List (Item 𝓤)
   Left l = ‵ (MutSlice (named 0) κ C.the-row .own (x γ l) (vx ∷ [])) ∷ ‵ (flft κ q) ∷ []
 
-  exits : (l : List CellRecord) → l ≡ set rs i (leftBy turn c) → length l ≡ length rs → ent 𝓤 (⋆ 𝓤 H A (Left l)) (Post vunit)
+  exits : (l : List CellRecord) → l ≡ set rs i (recordLeftBy turn c) → length l ≡ length rs → ent 𝓤 (⋆ 𝓤 H A (Left l)) (Post vunit)
   exits l said e =
-      qed W (Left l) ∵ suffices ! _ (ends-at 𝓤 H A here.ended stayed (here.clauses 𝓤 H A mem run) W Bound vunit tt (l, (tt, (tt, tt))) (e, (tt, (tt, tt)))) $ says ! said $
-      nothing ! $ move ! (2 ∷ 0 ∷ []) $ join ! $ frame ! $ nothing ! $ nothing ! $ fjoin ! $ nothing ! $ fjoin ! $ move ! (1 ∷ 0 ∷ []) $ fjoin ! $ feqI ! (List Val) (vunit ∷ []) (vunit ∷ []) refl $ move ! (1 ∷ 0 ∷ []) $ done !
+      qed W (Left l) ∵ suffices ! _ (ends-at 𝓤 H A here.ended stayed (here.clauses 𝓤 H A mem run) W Bound vunit tt (l, (tt, (tt, tt)))
+      (e, (tt, (tt, tt)))) $ says ! said $
+      nothing ! $ move ! (2 ∷ 0 ∷ []) $ join ! $ frame ! $ nothing ! $ nothing ! $ fjoin ! $ nothing ! $ fjoin ! $ move ! (1 ∷ 0 ∷ []) $
+      fjoin ! $ feqI ! (List Val) (vunit ∷ []) (vunit ∷ []) refl $ move ! (1 ∷ 0 ∷ []) $ done !
 
-  module _ (C′′ : Calls 𝓤 H) (Λ : Loops 𝓤 H) (fm : FmC 𝓤 H (W .laws) C′′) (known-at : Triple 𝓤 (C′′ #recv-queue·record-at) (RecordAt 𝓤 H A mem run)) (known-taken : Triple 𝓤 (C′′ #recv-queue·is-taken) (IsTaken 𝓤 H A mem run))
-      (known-unused : Triple 𝓤 (C′′ #recv-new·unused) (Unused 𝓤 H A mem run)) (known-put : Triple 𝓤 (C′′ #recv-queue·put-record) (PutRecord 𝓤 H A mem run)) where
-    walk : ent 𝓤 (onEntry 𝓤 H A here.signature (κ, tt) (q, tt) (x γ rs, (i, (turn, tt))) (vx ∷ [], (vint w64 i ∷ [], (vint w32 turn ∷ [], tt)))) (WpFn 𝓤 H C′′ Λ code.function (vx ∷ vint w64 i ∷ vint w32 turn ∷ []) Post)
+  module _ (C′′ : Calls 𝓤 H) (Λ : Loops 𝓤 H) (fm : FmC 𝓤 H (W .laws) C′′)
+      (known-at : Triple 𝓤 (C′′ #recv-queue·record-at) (RecordAt 𝓤 H A mem run))
+      (known-taken : Triple 𝓤 (C′′ #recv-queue·is-taken) (IsTaken 𝓤 H A mem run))
+      (known-unused : Triple 𝓤 (C′′ #recv-new·unused) (Unused 𝓤 H A mem run))
+      (known-put : Triple 𝓤 (C′′ #recv-queue·put-record) (PutRecord 𝓤 H A mem run)) where
+    walk : ent 𝓤 (onEntry 𝓤 H A here.signature (κ, tt) (q, tt) (x γ rs, (i, (turn, tt)))
+        (vx ∷ [], (vint w64 i ∷ [], (vint w32 turn ∷ [], tt)))) (WpFn 𝓤 H C′′ Λ code.function (vx ∷ vint w64 i ∷ vint w32 turn ∷ []) Post)
     walk =
-        qed W ((‵ (flft κ q) ⊛ ‵ ftrue) ∷ ‵ (owns (MutSlice (named 0) κ C.the-row ∷ usize ∷ u32 ∷ []) (x γ rs, (i, (turn, tt))) (vx ∷ [], (vint w64 i ∷ [], (vint w32 turn ∷ [], tt)))) ∷ []) ∵ enter ! C′′ Λ code.function (vx ∷ vint w64 i ∷ vint w32 turn ∷ []) _ $
-        alloc1 ! (λ l₀. alloc1 ! (λ l₁. alloc1 ! (λ l₂. alloc1 ! (λ l₃. alloc1 ! (λ l₄. alloc1 ! (λ l₅. alloc1 ! (λ l₆. alloc1 ! (λ l₇. alloc1 ! (λ l₈. alloc1 ! (λ l₉. alloc1 ! (λ l₁₀. alloc0 ! $ params1 ! $
-        pass1 ! (init ! 18 refl (tt, (tt, (record { fits = room .0 }, tt)))) $ pass1 ! (init ! 16 refl (tt, record { fits = i-fits })) $ pass1 ! (init ! 14 refl (tt, record { fits = turn-fits })) $ pass0 ! $
+        qed W ((‵ (flft κ q) ⊛ ‵ ftrue) ∷ ‵ (owns (MutSlice (named 0) κ C.the-row ∷ usize ∷ u32 ∷ []) (x γ rs, (i, (turn, tt)))
+        (vx ∷ [], (vint w64 i ∷ [], (vint w32 turn ∷ [], tt)))) ∷ []) ∵
+        enter ! C′′ Λ code.function (vx ∷ vint w64 i ∷ vint w32 turn ∷ []) _ $
+        alloc1 ! (λ l₀. alloc1 !
+        (λ l₁. alloc1 !
+        (λ l₂. alloc1 !
+        (λ l₃. alloc1 !
+        (λ l₄. alloc1 ! (λ l₅. alloc1 ! (λ l₆. alloc1 ! (λ l₇. alloc1 ! (λ l₈. alloc1 ! (λ l₉. alloc1 ! (λ l₁₀. alloc0 ! $ params1 ! $
+        pass1 ! (init ! 18 refl (tt, (tt, (record { fits = room .0 }, tt)))) $ pass1 ! (init ! 16 refl (tt, record { fits = i-fits })) $
+        pass1 ! (init ! 14 refl (tt, record { fits = turn-fits })) $ pass0 ! $
         move ! (23 ∷ []) $ fsplit ! $ move ! (24 ∷ []) $ split ! $
         -- [[κ]; true; records; what i and turn own; _10; …; _0; …]
         keep ! (2 ∷ 0 ∷ entry 4 11) $
         -- 2: [records; [κ]]: the records are shared for `record_at`
         sharing C.the-row κ q (x γ rs) (length rs) ! tt (λ α δ.
         -- 3: [the shared records; what is kept; [α]]
-        assigns ! (addr ! (from ! (fld ! refl (hop ! (look-in ! (3 + 1) (sub ! 0 refl (whole !))) (stop !))))) (from ! (stop !)) (init ! (3 + 5) refl (tt, tt)) $
-        assigns ! (agg ! (and-then ! (var ! (3 + 5) refl) (and-then ! (load ! (from ! (fld ! refl (stop !))) (look-in ! (3 + 1) (sub ! 1 refl (whole !)))) (no-more !)))) (from ! (stop !)) (init ! (3 + 6) refl (tt, (tt, (record { fits = room .0 }, tt)))) $
-        move ! (2 ∷ 0 ∷ []) $ calls-record-at 𝓤 H A W mem run (α ∷ []) fullShare (x δ rs) i vx ! fm known-at within i-fits (and-then ! (var ! (2 + 6) refl) (and-then ! (var ! (2 + 2) refl) (no-more !))) (λ v.
+        assigns ! (addr ! (from ! (fld ! refl (hop ! (look-in ! (3 + 1) (sub ! 0 refl (whole !))) (stop !))))) (from ! (stop !))
+        (init ! (3 + 5) refl (tt, tt)) $
+        assigns ! (agg ! (and-then ! (var ! (3 + 5) refl) (and-then !
+        (load ! (from ! (fld ! refl (stop !))) (look-in ! (3 + 1) (sub ! 1 refl (whole !)))) (no-more !)))) (from ! (stop !))
+        (init ! (3 + 6) refl (tt, (tt, (record { fits = room .0 }, tt)))) $
+        move ! (2 ∷ 0 ∷ []) $ calls-record-at 𝓤 H A W mem run (α ∷ []) fullShare (x δ rs) i vx ! fm known-at within i-fits
+        (and-then ! (var ! (2 + 6) refl) (and-then ! (var ! (2 + 2) refl) (no-more !))) (λ v.
         peeks ! C.the-row (Is C.the-row) (shows 𝓤 H A C.the-row) c (v ∷ []) (λ is.
         -- 3: [the record; [α]; what is kept]
         land ! (from ! (stop !)) (init ! (3 + 4) refl (LL.lawful C.the-type C′.the-laws 𝓤 H A W .typed c _ is .0)) $
-        calls-taken 𝓤 H A W mem run c turn v ! fm known-taken turn-fits (and-then ! (var ! (3 + 4) refl) (and-then ! (var ! (3 + 3) refl) (no-more !))) (λ v₁ e₁.
+        calls-taken 𝓤 H A W mem run c turn v ! fm known-taken turn-fits
+        (and-then ! (var ! (3 + 4) refl) (and-then ! (var ! (3 + 3) refl) (no-more !))) (λ v₁ e₁.
         -- 2: [[α]; what is kept]
-        land ! (from ! (stop !)) (init ! (2 + 7) refl (subst (λ (z : Val). T (hasTy tyBool z) × WT z) (sym e₁) (tt, tt))) $ rewrite ! (2 + 7) (λ (z : Val). ‵ (fat fullShare tyBool l₇ 0 z)) e₁ refl $
+        land ! (from ! (stop !)) (init ! (2 + 7) refl (subst (λ (z : Val). T (hasTy tyBool z) × WT z) (sym e₁) (tt, tt))) $
+        rewrite ! (2 + 7) (λ (z : Val). ‵ (fat fullShare tyBool l₇ 0 z)) e₁ refl $
         unshared C.the-row κ q (x γ rs) (length rs) ! tt α room refl $
         -- 2: [records; [κ]]
         if-returns ! (var ! (2 + 7) refl)
         (λ yes′.
         lending C.the-row κ q (x γ rs) (length rs) ! tt (λ β ε.
         -- 3: [the lent records; what is kept; [β]]
-        assigns ! (addr ! (from ! (fld ! refl (hop ! (look-in ! (3 + 1) (sub ! 0 refl (whole !))) (stop !))))) (from ! (stop !)) (init ! (3 + 8) refl (tt, tt)) $
-        assigns ! (agg ! (and-then ! (var ! (3 + 8) refl) (and-then ! (load ! (from ! (fld ! refl (stop !))) (look-in ! (3 + 1) (sub ! 1 refl (whole !)))) (no-more !)))) (from ! (stop !)) (init ! (3 + 9) refl (tt, (tt, (record { fits = room .0 }, tt)))) $
-        calls-unused 𝓤 H A W mem run ! fm known-unused (no-more !) (λ v₂. peeks ! C.the-row (Is C.the-row) (shows 𝓤 H A C.the-row) blank (v₂ ∷ []) (λ is₂.
+        assigns ! (addr ! (from ! (fld ! refl (hop ! (look-in ! (3 + 1) (sub ! 0 refl (whole !))) (stop !))))) (from ! (stop !))
+        (init ! (3 + 8) refl (tt, tt)) $
+        assigns ! (agg ! (and-then ! (var ! (3 + 8) refl) (and-then !
+        (load ! (from ! (fld ! refl (stop !))) (look-in ! (3 + 1) (sub ! 1 refl (whole !)))) (no-more !)))) (from ! (stop !))
+        (init ! (3 + 9) refl (tt, (tt, (record { fits = room .0 }, tt)))) $
+        calls-unused 𝓤 H A W mem run ! fm known-unused (no-more !) (λ v₂. peeks ! C.the-row (Is C.the-row) (shows 𝓤 H A C.the-row) blank
+        (v₂ ∷ []) (λ is₂.
         -- 4: [the unused record; the lent records; what is kept; [β]]
         land ! (from ! (stop !)) (init ! (4 + 10) refl (LL.lawful C.the-type C′.the-laws 𝓤 H A W .typed blank _ is₂ .0)) $
-        move ! (3 ∷ 1 ∷ 0 ∷ []) $ calls-put-record 𝓤 H A W mem run (β ∷ []) fullShare (x ε rs) i blank vx v₂ ! fm known-put within i-fits (and-then ! (var ! (2 + 9) refl) (and-then ! (var ! (2 + 2) refl) (and-then ! (var ! (2 + 10) refl) (no-more !)))) (λ u e.
+        move ! (3 ∷ 1 ∷ 0 ∷ []) $ calls-put-record 𝓤 H A W mem run (β ∷ []) fullShare (x ε rs) i blank vx v₂ ! fm known-put within i-fits
+        (and-then ! (var ! (2 + 9) refl) (and-then ! (var ! (2 + 2) refl) (and-then ! (var ! (2 + 10) refl) (no-more !)))) (λ u e.
         -- 3: [[β]; the records' last value; what is kept]
-        land ! (from ! (stop !)) (init ! (3 + 0) refl (subst (λ (z : Val). T (hasTy tyUnit z) × WT z) (sym (e .0)) (tt, tt))) $ rewrite ! (3 + 0) (λ (z : Val). ‵ (fat fullShare tyUnit l₀ 0 z)) (e .0) refl $
+        land ! (from ! (stop !)) (init ! (3 + 0) refl (subst (λ (z : Val). T (hasTy tyUnit z) × WT z) (sym (e .0)) (tt, tt))) $
+        rewrite ! (3 + 0) (λ (z : Val). ‵ (fat fullShare tyUnit l₀ 0 z)) (e .0) refl $
         move ! (0 ∷ 2 ∷ 1 ∷ []) $ returned C.the-row κ q (x γ rs) (length rs) ! tt β ε (set rs i blank) room refl (e .1) $
         -- 2: [records; [κ]]
-        returns-within ! Post refl (look ! 2 refl) $ move ! (2 ∷ 13 ∷ []) $ gone1 ! $ move ! (2 ∷ 12 ∷ []) $ gone1 ! $ move ! (2 ∷ 11 ∷ []) $ gone1 ! $ move ! (2 ∷ 10 ∷ []) $ gone1 ! $ move ! (2 ∷ 9 ∷ []) $ gone1 ! $ move ! (2 ∷ 8 ∷ []) $ gone1 ! $ move ! (2 ∷ 7 ∷ []) $ gone1 ! $ move ! (2 ∷ 6 ∷ []) $ gone1 ! $ move ! (2 ∷ 5 ∷ []) $ gone1 ! $ move ! (2 ∷ 4 ∷ []) $ gone1 ! $ move ! (2 ∷ 3 ∷ []) $ gone1 ! $ free0 ! $
+        returns-within ! Post refl (look ! 2 refl) $ gone ! 2 refl $
         by ! (exits (set rs i blank) (ap (set rs i) (left-unused turn c yes′)) (e .1)))))))
         (λ no.
         assigns ! (of-opd ! (unit-lit !)) (from ! (stop !)) (init ! (2 + 0) refl (tt, tt)) $
-        returns ! (look ! 2 refl) $ move ! (2 ∷ 13 ∷ []) $ gone1 ! $ move ! (2 ∷ 12 ∷ []) $ gone1 ! $ move ! (2 ∷ 11 ∷ []) $ gone1 ! $ move ! (2 ∷ 10 ∷ []) $ gone1 ! $ move ! (2 ∷ 9 ∷ []) $ gone1 ! $ move ! (2 ∷ 8 ∷ []) $ gone1 ! $ move ! (2 ∷ 7 ∷ []) $ gone1 ! $ move ! (2 ∷ 6 ∷ []) $ gone1 ! $ move ! (2 ∷ 5 ∷ []) $ free1 ! $ move ! (2 ∷ 4 ∷ []) $ free1 ! $ move ! (2 ∷ 3 ∷ []) $ free1 ! $ free0 ! $
-        by ! (exits rs (left-same turn rs i within no) refl)))))))))))))))))
+        returns ! (look ! 2 refl) $ gone ! 2 refl $ by ! (exits rs (left-same turn rs i within no) refl)))))))))))))))))
 
-module _ {M : Type 1} (𝓤 : URA M) (H : Heap 𝓤) (A : Atoms 𝓤) (W : Given 𝓤 H A) (mem : Memory → SProp 𝓤) (run : Routine → Fun 𝓤) (𝓣 : Tables 𝓤 H) (known-at : Triple 𝓤 (𝓣 .C #recv-queue·record-at) (RecordAt 𝓤 H A mem run)) (known-taken : Triple 𝓤 (𝓣 .C #recv-queue·is-taken) (IsTaken 𝓤 H A mem run))
-    (known-unused : Triple 𝓤 (𝓣 .C #recv-new·unused) (Unused 𝓤 H A mem run)) (known-put : Triple 𝓤 (𝓣 .C #recv-queue·put-record) (PutRecord 𝓤 H A mem run)) where
+module _ {M : Type 1} (𝓤 : URA M) (H : Heap 𝓤) (A : Atoms 𝓤) (W : Given 𝓤 H A) (mem : Memory → SProp 𝓤) (run : Routine → Fun 𝓤)
+    (𝓣 : Tables 𝓤 H) (known-at : Triple 𝓤 (𝓣 .C #recv-queue·record-at) (RecordAt 𝓤 H A mem run))
+    (known-taken : Triple 𝓤 (𝓣 .C #recv-queue·is-taken) (IsTaken 𝓤 H A mem run))
+    (known-unused : Triple 𝓤 (𝓣 .C #recv-new·unused) (Unused 𝓤 H A mem run))
+    (known-put : Triple 𝓤 (𝓣 .C #recv-queue·put-record) (PutRecord 𝓤 H A mem run)) where
   here-walks : Walks 𝓤 H A here.ended stayed (WpFn 𝓤 H (𝓣 .C) (𝓣 .Λ) code.function) (here.clauses 𝓤 H A mem run)
-  here-walks = walked 𝓤 H A here.ended stayed (here.clauses 𝓤 H A mem run) (WpFn 𝓤 H (𝓣 .C) (𝓣 .Λ) code.function) (λ κs. (slice-vals, (uint-vals w64, (uint-vals w32, tt)))) (λ κs. (mut-slice-tells (named 0) (κs .0) C.the-row, (uint-tells w64, (uint-tells w32, tt))))
+  here-walks = walked 𝓤 H A here.ended stayed (here.clauses 𝓤 H A mem run) (WpFn 𝓤 H (𝓣 .C) (𝓣 .Λ) code.function)
+      (λ κs. (slice-vals, (uint-vals w64, (uint-vals w32, tt))))
+      (λ κs. (mut-slice-tells (named 0) (κs .0) C.the-row, (uint-tells w64, (uint-tells w32, tt))))
       (λ κs qs bounds a g are. needs 𝓤 (a .1 .0 < length (now (a .0))) _ (λ within.
-      walk 𝓤 H A W mem run (κs .0) (qs .0) (a .0 .ptr .0) (a .0 .ptr .1) (a .0 .name) (a .0 .now) (a .1 .0) (a .1 .1 .0) (are .0 .0 .1) (are .1 .0 .1) (are .1 .1 .0 .1) within (𝓣 .C) (𝓣 .Λ) (fmOf 𝓤 H (W .laws) 𝓣) known-at known-taken known-unused known-put))
+      walk 𝓤 H A W mem run (κs .0) (qs .0) (a .0 .ptr .0) (a .0 .ptr .1) (a .0 .name) (a .0 .now) (a .1 .0) (a .1 .1 .0) (are .0 .0 .1)
+      (are .1 .0 .1) (are .1 .1 .0 .1) within (𝓣 .C) (𝓣 .Λ) (fmOf 𝓤 H (W .laws) 𝓣) known-at known-taken known-unused known-put))
 
   here-meets : Meets 𝓤 H A here.signature (WpFn 𝓤 H (𝓣 .C) (𝓣 .Λ) code.function) (here.spec 𝓤 H A mem run)
-  here-meets = walk-meets 𝓤 H A here.ended stayed W (goes-slice 𝓤 H A W 1 0 tt (plain (λ _. C.the-row)), (goes-dropped 𝓤 H A W 1 (plain (λ _. usize)) yes (λ κs x f. refl), (goes-dropped 𝓤 H A W 1 (plain (λ _. u32)) yes (λ κs x f. refl), tt)))
+  here-meets = walk-meets 𝓤 H A here.ended stayed W (
+    goes-slice 𝓤 H A W 1 0 tt (plain (λ _. C.the-row)),
+    (
+      goes-dropped 𝓤 H A W 1 (plain (λ _. usize)) yes (λ κs x f. refl),
+      (
+        goes-dropped 𝓤 H A W 1 (plain (λ _. u32)) yes (λ κs x f. refl),
+        tt,
+      ),
+    ),
+  )
       (here.clauses 𝓤 H A mem run) (WpFn 𝓤 H (𝓣 .C) (𝓣 .Λ) code.function) (WpFn-mono 𝓤 H (W .laws) 𝓣 code.function) here-walks
 
 pub free-at-spec : {M : Type 1} → stated.statement M
@@ -128,7 +183,11 @@ free-at-spec 𝓤 H 𝓜 𝓖 𝓡 =
     entered 𝓤 H (tripleOf 𝓤 H (𝓖 .A) here.signature (here.spec 𝓤 H (𝓖 .A) (𝓜 .mem) (𝓡 .run)))
     (tables 𝓤 H 𝓜 𝓡 code.env .C) (tables 𝓤 H 𝓜 𝓡 code.env .Λ) #recv-queue·free-at code.function (code.unfolded 𝓤 H 𝓜 𝓡)
     (here-meets 𝓤 H (𝓖 .A) (givenOf 𝓤 H 𝓜 𝓖) (𝓜 .mem) (𝓡 .run) (tablesOf 𝓤 H 𝓜 (tables 𝓤 H 𝓜 𝓡 code.env))
-    (cited 𝓤 H (RecordAt 𝓤 H (𝓖 .A) (𝓜 .mem) (𝓡 .run)) 𝓜 𝓡 code.env #recv-queue·record-at record-at-def.routine code.calls-recv-queue·record-at (record-at-thm.met 𝓤 H 𝓜 𝓖 𝓡))
-    (cited 𝓤 H (IsTaken 𝓤 H (𝓖 .A) (𝓜 .mem) (𝓡 .run)) 𝓜 𝓡 code.env #recv-queue·is-taken is-taken-def.routine code.calls-recv-queue·is-taken (is-taken-thm.met 𝓤 H 𝓜 𝓖 𝓡))
-    (cited 𝓤 H (Unused 𝓤 H (𝓖 .A) (𝓜 .mem) (𝓡 .run)) 𝓜 𝓡 code.env #recv-new·unused unused-def.routine code.calls-recv-new·unused (unused-thm.met 𝓤 H 𝓜 𝓖 𝓡))
-    (cited 𝓤 H (PutRecord 𝓤 H (𝓖 .A) (𝓜 .mem) (𝓡 .run)) 𝓜 𝓡 code.env #recv-queue·put-record put-record-def.routine code.calls-recv-queue·put-record (put-record-thm.met 𝓤 H 𝓜 𝓖 𝓡)))
+    (cited 𝓤 H (RecordAt 𝓤 H (𝓖 .A) (𝓜 .mem) (𝓡 .run)) 𝓜 𝓡 code.env #recv-queue·record-at record-at-def.routine
+    code.calls-recv-queue·record-at (record-at-thm.met 𝓤 H 𝓜 𝓖 𝓡))
+    (cited 𝓤 H (IsTaken 𝓤 H (𝓖 .A) (𝓜 .mem) (𝓡 .run)) 𝓜 𝓡 code.env #recv-queue·is-taken is-taken-def.routine code.calls-recv-queue·is-taken
+    (is-taken-thm.met 𝓤 H 𝓜 𝓖 𝓡))
+    (cited 𝓤 H (Unused 𝓤 H (𝓖 .A) (𝓜 .mem) (𝓡 .run)) 𝓜 𝓡 code.env #recv-new·unused unused-def.routine code.calls-recv-new·unused
+    (unused-thm.met 𝓤 H 𝓜 𝓖 𝓡))
+    (cited 𝓤 H (PutRecord 𝓤 H (𝓖 .A) (𝓜 .mem) (𝓡 .run)) 𝓜 𝓡 code.env #recv-queue·put-record put-record-def.routine
+    code.calls-recv-queue·put-record (put-record-thm.met 𝓤 H 𝓜 𝓖 𝓡)))

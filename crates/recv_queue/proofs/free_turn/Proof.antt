@@ -1,15 +1,26 @@
--- `recv_queue::free_turn` meets its contract: a walk of its MIR, by hand, a loop of one call. The slice of records is lent again in each turn, for a lifetime that the turn makes and ends.
+-- `recv_queue::free_turn` meets its contract: a walk of its MIR, by hand, a loop of one call. The slice of records is lent again in each
+-- turn, for a lifetime that the turn makes and ends.
 -- Assumes nothing.
-use Rattle.walks.proofs.Walk.{_≡_, refl, sym, _∙_, subst, ℕ, suc, _+_, _<_, _≤_, _^_, add-one, arith, Bool, List, [], _∷_, length, getD, set, T, lit<, URA, fullShare, Ty, named, erased, mut, w32, w64, tyInt, tyBool, tyUnit, tyRef, Val, vunit, vbool, vint, hasTy, WT, SProp, ent, Lft, GName, Share, Fml, ftrue, fat, froom, fdies, flft, Memory, Routine, Heap, Out, Env, afterSeq, afterBlock, afterTurn, Wp, atReturn, WpFn, Tables, Atoms, FmC, fmOf, WpFn-mono, Fun, givenOf}
-use Rattle.walks.proofs.Walk.{tables, tablesOf, Given, Item, ‵, _⊛_, ⋆, anyQ, atRet, _$_, _∵_, !, qed, by, move, keep, split, join, rewrite, fsplit, fjoin, feqI, suffices, frame, done, agg, whole, sub, look-in, look, store, init, forget, stop, hop, fld, from, load, lit, unit-lit, of-opd, bin, addr, and-then, no-more, land, assigns, assigns-last, stays, leaves-loop, returns, enter, alloc1, alloc0, params1, pass1, pass0, free1, free0, exec, owns, pointee, u32, usize}
-use Rattle.walks.proofs.Walk.{yes, uint-vals, uint-tells, RefT, now, sliceTy, sliceVal, MutSlice, Room, slice-vals, mut-slice-tells, plain, nothing, onEntry, Triple, Meets, tripleOf, entered, cited, says, Stays, stay-dropped, stay-slice, walkOf, Walks, ends-at, walked, goes-dropped, goes-slice, walk-meets}
+use Rattle.walks.proofs.Walk.{_≡_, refl, sym, _∙_, subst, ℕ, suc, _+_, _<_, _≤_, _^_, add-one, arith, Bool, List, [], _∷_, length, getD}
+use Rattle.walks.proofs.Walk.{set, T, lit<, URA, fullShare, Ty, named, erased, mut, w32, w64, tyInt, tyBool, tyUnit, tyRef, Val, vunit}
+use Rattle.walks.proofs.Walk.{vbool, vint, hasTy, WT, SProp, ent, Lft, GName, Share, Fml, ftrue, fat, froom, fdies, flft, Memory, Routine}
+use Rattle.walks.proofs.Walk.{Heap, Out, Env, afterSeq, afterBlock, afterTurn, Wp, atReturn, WpFn, Tables, Atoms, FmC, fmOf, WpFn-mono, Fun}
+use Rattle.walks.proofs.Walk.{givenOf}
+use Rattle.walks.proofs.Walk.{tables, tablesOf, Given, Item, ‵, _⊛_, ⋆, anyQ, atRet, _$_, _∵_, !, qed, by, move, keep, split, join, rewrite}
+use Rattle.walks.proofs.Walk.{fsplit, fjoin, feqI, suffices, frame, done, agg, whole, sub, look-in, look, store, init, forget, stop, hop}
+use Rattle.walks.proofs.Walk.{fld, from, load, lit, unit-lit, of-opd, bin, addr, and-then, no-more, land, assigns, assigns-last, stays}
+use Rattle.walks.proofs.Walk.{leaves-loop, returns, enter, alloc1, alloc0, params1, pass1, pass0, exec, owns, pointee, u32}
+use Rattle.walks.proofs.Walk.{usize}
+use Rattle.walks.proofs.Walk.{yes, uint-vals, uint-tells, RefT, now, sliceTy, sliceVal, MutSlice, Room, slice-vals, mut-slice-tells, plain}
+use Rattle.walks.proofs.Walk.{nothing, onEntry, Triple, Meets, tripleOf, entered, cited, says, Stays, stay-dropped, stay-slice, walkOf}
+use Rattle.walks.proofs.Walk.{Walks, ends-at, walked, goes-dropped, goes-slice, walk-meets}
 use denote.Triple.Walked.{needs}
 use Rattle.cells.specs.declared.CellRecord.{CellRecord}
 use Rattle.cells.proofs.CellRecord as C
-use Rattle.slots.specs.First.{blank}
-use Rattle.recv_queue.specs.Records.{leftBy, freedTo}
+use Rattle.row_slots.specs.First.{blank}
+use Rattle.recv_queue.specs.Records.{recordLeftBy, freedTo}
 use Rattle.recv_queue.proofs.Freed.{freed-none, freed-length, freed-more}
-use Rattle.walks.proofs.Order.{entry, var, gone1}
+use Rattle.walks.proofs.Order.{entry, var, gone}
 use Rattle.walks.proofs.Slices.{lending, returned}
 use Rattle.walks.proofs.Counting.{Turn, counts, holds, fails}
 use Rattle.recv_queue.proofs.Elements.{FreeAt, calls-free-at}
@@ -33,9 +44,16 @@ abbrev refE : Ty
 refE = tyRef erased mut (pointee (C.the-row .written))
 
 abbrev stayed : Stays (here.ended .signature .params) (here.ended .kept)
-stayed = (stay-slice (0 ∷ []) tt (plain (λ _. C.the-row)), (stay-dropped (plain (λ _. usize)) yes, (stay-dropped (plain (λ _. u32)) yes, tt)))
+stayed = (
+  stay-slice (0 ∷ []) tt (plain (λ _. C.the-row)),
+  (
+    stay-dropped (plain (λ _. usize)) yes,
+    (stay-dropped (plain (λ _. u32)) yes, tt),
+  ),
+)
 
-module _ {M : Type 1} (𝓤 : URA M) (H : Heap 𝓤) (A : Atoms 𝓤) (W : Given 𝓤 H A) (mem : Memory → SProp 𝓤) (run : Routine → Fun 𝓤) (κ : Lft) (q : Share) (b o : ℕ) (γ : GName) (rs : List CellRecord) (n turn : ℕ)
+module _ {M : Type 1} (𝓤 : URA M) (H : Heap 𝓤) (A : Atoms 𝓤) (W : Given 𝓤 H A) (mem : Memory → SProp 𝓤) (run : Routine → Fun 𝓤) (κ : Lft)
+    (q : Share) (b o : ℕ) (γ : GName) (rs : List CellRecord) (n turn : ℕ)
     (room : Room C.the-row (length rs)) (n-fits : n < 2 ^ 64) (turn-fits : turn < 2 ^ 32) (few : n ≤ length rs) where
   abbrev x : GName → List CellRecord → RefT (List CellRecord)
   x δ l = record { ptr = (b, o); name = δ; now = l }
@@ -55,25 +73,33 @@ module _ {M : Type 1} (𝓤 : URA M) (H : Heap 𝓤) (A : Atoms 𝓤) (W : Given
   exits : ent 𝓤 (⋆ 𝓤 H A (‵ (Rec (freedTo rs n turn)) ∷ ‵ (flft κ q) ∷ [])) (Post vunit)
   exits =
       qed W (‵ (Rec (freedTo rs n turn)) ∷ ‵ (flft κ q) ∷ []) ∵
-      suffices ! _ (ends-at 𝓤 H A here.ended stayed (here.clauses 𝓤 H A mem run) W Bound vunit tt (freedTo rs n turn, (tt, (tt, tt))) (freed-length rs turn n few, (tt, (tt, tt)))) $ says ! refl $
-      nothing ! $ move ! (2 ∷ 0 ∷ []) $ join ! $ frame ! $ nothing ! $ nothing ! $ fjoin ! $ nothing ! $ fjoin ! $ move ! (1 ∷ 0 ∷ []) $ fjoin ! $ feqI ! (List Val) (vunit ∷ []) (vunit ∷ []) refl $ move ! (1 ∷ 0 ∷ []) $ done !
+      suffices ! _ (ends-at 𝓤 H A here.ended stayed (here.clauses 𝓤 H A mem run) W Bound vunit tt (freedTo rs n turn, (tt, (tt, tt)))
+      (freed-length rs turn n few, (tt, (tt, tt)))) $ says ! refl $
+      nothing ! $ move ! (2 ∷ 0 ∷ []) $ join ! $ frame ! $ nothing ! $ nothing ! $ fjoin ! $ nothing ! $ fjoin ! $ move ! (1 ∷ 0 ∷ []) $
+      fjoin ! $ feqI ! (List Val) (vunit ∷ []) (vunit ∷ []) refl $ move ! (1 ∷ 0 ∷ []) $ done !
 
-  module _ (𝓣 : Tables 𝓤 H) (fm : FmC 𝓤 H (W .laws) (𝓣 .C)) (known-free : Triple 𝓤 (𝓣 .C #recv-queue·free-at) (FreeAt 𝓤 H A mem run)) (l₀ l₁ l₂ l₃ l₄ l₅ l₆ l₇ l₈ : ℕ) where
+  module _ (𝓣 : Tables 𝓤 H) (fm : FmC 𝓤 H (W .laws) (𝓣 .C)) (known-free : Triple 𝓤 (𝓣 .C #recv-queue·free-at) (FreeAt 𝓤 H A mem run))
+      (l₀ l₁ l₂ l₃ l₄ l₅ l₆ l₇ l₈ : ℕ) where
     abbrev E : Env 𝓤 H
-    E = (tyUnit, l₀) ∷ (slice, l₁) ∷ (word, l₂) ∷ (tyInt w32, l₃) ∷ (word, l₄) ∷ (tyBool, l₅) ∷ (tyUnit, l₆) ∷ (refE, l₇) ∷ (sliceTy refE, l₈) ∷ []
+    E = (tyUnit, l₀) ∷ (slice, l₁) ∷ (word, l₂) ∷ (tyInt w32, l₃) ∷ (word, l₄) ∷ (tyBool, l₅) ∷ (tyUnit, l₆) ∷ (refE, l₇)
+        ∷ (sliceTy refE, l₈) ∷ []
 
-    -- at the head of the loop, with i records looked at: two things owned, then the locals _0, …, _8 (local i is at 2 + i), then that each dies
+    -- at the head of the loop, with i records looked at: two things owned, then the locals _0, …, _8 (local i is at 2 + i), then that each
+    -- dies
     abbrev At : ℕ → List (Item 𝓤)
     At i = ‵ (Rec (freedTo rs i turn)) ∷ ‵ (flft κ q)
-        ∷ ‵ (froom tyUnit l₀ 0) ∷ ‵ (fat fullShare slice l₁ 0 vx) ∷ ‵ (fat fullShare word l₂ 0 (vint w64 n)) ∷ ‵ (fat fullShare (tyInt w32) l₃ 0 (vint w32 turn)) ∷ ‵ (fat fullShare word l₄ 0 (vint w64 i))
+        ∷ ‵ (froom tyUnit l₀ 0) ∷ ‵ (fat fullShare slice l₁ 0 vx) ∷ ‵ (fat fullShare word l₂ 0 (vint w64 n))
+        ∷ ‵ (fat fullShare (tyInt w32) l₃ 0 (vint w32 turn)) ∷ ‵ (fat fullShare word l₄ 0 (vint w64 i))
         ∷ ‵ (froom tyBool l₅ 0) ∷ ‵ (froom tyUnit l₆ 0) ∷ ‵ (froom refE l₇ 0) ∷ ‵ (froom (sliceTy refE) l₈ 0)
-        ∷ ‵ (fdies tyUnit l₀) ∷ ‵ (fdies slice l₁) ∷ ‵ (fdies word l₂) ∷ ‵ (fdies (tyInt w32) l₃) ∷ ‵ (fdies word l₄) ∷ ‵ (fdies tyBool l₅) ∷ ‵ (fdies tyUnit l₆) ∷ ‵ (fdies refE l₇) ∷ ‵ (fdies (sliceTy refE) l₈) ∷ []
+        ∷ ‵ (fdies tyUnit l₀) ∷ ‵ (fdies slice l₁) ∷ ‵ (fdies word l₂) ∷ ‵ (fdies (tyInt w32) l₃) ∷ ‵ (fdies word l₄) ∷ ‵ (fdies tyBool l₅)
+        ∷ ‵ (fdies tyUnit l₆) ∷ ‵ (fdies refE l₇) ∷ ‵ (fdies (sliceTy refE) l₈) ∷ []
 
     abbrev Left : Out → SProp 𝓤
     Left = afterBlock 𝓤 H (afterSeq 𝓤 H (Wp 𝓤 H (𝓣 .C) (𝓣 .Λ) E mir′.t-3 (atReturn 𝓤 H E Post)) (atReturn 𝓤 H E Post))
 
     -- a turn that looks at one record
-    more : (i : ℕ) (X : SProp 𝓤) → i < n → Unit {0} → (Unit {0} → ent 𝓤 (⋆ 𝓤 H A (At (suc i))) X) → ent 𝓤 (⋆ 𝓤 H A (At i)) (Turn 𝓤 H A W 𝓣 E mir′.turn-1 Left X)
+    more : (i : ℕ) (X : SProp 𝓤) → i < n → Unit {0} → (Unit {0} → ent 𝓤 (⋆ 𝓤 H A (At (suc i))) X) → ent 𝓤 (⋆ 𝓤 H A (At i))
+        (Turn 𝓤 H A W 𝓣 E mir′.turn-1 Left X)
     unfolding afterTurn
     more i X small _ k =
         qed W (At i) ∵ exec ! (𝓣 .C) (𝓣 .Λ) E mir′.turn-1 (anyQ (afterTurn 𝓤 H X Left)) $
@@ -82,15 +108,23 @@ module _ {M : Type 1} (𝓤 : URA M) (H : Heap 𝓤) (A : Atoms 𝓤) (W : Given
         -- the records are lent
         lending C.the-row κ q (x γ (freedTo rs i turn)) (length rs) ! tt (λ α δ.
         -- 3: [the lent records; what is kept; [α]]
-        assigns ! (addr ! (from ! (fld ! refl (hop ! (look-in ! (3 + 1) (sub ! 0 refl (whole !))) (stop !))))) (from ! (stop !)) (init ! (3 + 7) refl (tt, tt)) $
-        assigns ! (agg ! (and-then ! (var ! (3 + 7) refl) (and-then ! (load ! (from ! (fld ! refl (stop !))) (look-in ! (3 + 1) (sub ! 1 refl (whole !)))) (no-more !)))) (from ! (stop !)) (init ! (3 + 8) refl (tt, (tt, (record { fits = room .0 }, tt)))) $
-        move ! (2 ∷ 0 ∷ []) $ calls-free-at 𝓤 H A W mem run (α ∷ []) fullShare (x δ (freedTo rs i turn)) i turn vx ! fm known-free (omega (arith, len, few)) fits turn-fits (and-then ! (var ! (2 + 8) refl) (and-then ! (var ! (2 + 4) refl) (and-then ! (var ! (2 + 3) refl) (no-more !)))) (λ u e.
+        assigns ! (addr ! (from ! (fld ! refl (hop ! (look-in ! (3 + 1) (sub ! 0 refl (whole !))) (stop !))))) (from ! (stop !))
+        (init ! (3 + 7) refl (tt, tt)) $
+        assigns ! (agg ! (and-then ! (var ! (3 + 7) refl) (and-then !
+        (load ! (from ! (fld ! refl (stop !))) (look-in ! (3 + 1) (sub ! 1 refl (whole !)))) (no-more !)))) (from ! (stop !))
+        (init ! (3 + 8) refl (tt, (tt, (record { fits = room .0 }, tt)))) $
+        move ! (2 ∷ 0 ∷ []) $ calls-free-at 𝓤 H A W mem run (α ∷ []) fullShare (x δ (freedTo rs i turn)) i turn vx ! fm known-free
+        (omega (arith, len, few)) fits turn-fits (and-then ! (var ! (2 + 8) refl)
+        (and-then ! (var ! (2 + 4) refl) (and-then ! (var ! (2 + 3) refl) (no-more !)))) (λ u e.
         -- 3: [[α]; the records' last value; what is kept]
         land ! (from ! (stop !)) (init ! (3 + 6) refl (subst (λ (z : Val). T (hasTy tyUnit z) × WT z) (sym (e .0)) (tt, tt))) $
-        move ! (0 ∷ 2 ∷ 1 ∷ []) $ returned C.the-row κ q (x γ (freedTo rs i turn)) (length rs) ! tt α δ (set (freedTo rs i turn) i (leftBy turn (getD (freedTo rs i turn) i blank))) room len (e .1 ∙ len) $
+        move ! (0 ∷ 2 ∷ 1 ∷ []) $ returned C.the-row κ q (x γ (freedTo rs i turn)) (length rs) ! tt α δ
+        (set (freedTo rs i turn) i (recordLeftBy turn (getD (freedTo rs i turn) i blank))) room len (e .1 ∙ len) $
         -- 2: [records; [κ]]
         rewrite ! 0 (λ (z : List CellRecord). ‵ (Rec z)) (freed-more rs turn i (omega (arith, few))) refl $
-        assigns-last ! (bin ! (var ! (2 + 4) refl) (lit ! tt) (record { fits = next })) (from ! (stop !)) (store ! (2 + 4) refl (tt, record { fits = next })) $ rewrite ! (2 + 4) (λ (j : ℕ). ‵ (fat fullShare word l₄ 0 (vint w64 j))) (add-one i) refl $
+        assigns-last ! (bin ! (var ! (2 + 4) refl) (lit ! tt) (record { fits = next })) (from ! (stop !))
+        (store ! (2 + 4) refl (tt, record { fits = next })) $ rewrite ! (2 + 4) (λ (j : ℕ). ‵ (fat fullShare word l₄ 0 (vint w64 j)))
+        (add-one i) refl $
         forget ! (2 + 5) refl $ forget ! (2 + 6) refl $ forget ! (2 + 7) refl $ forget ! (2 + 8) refl $ by ! (k tt)))
       where
         len : length (freedTo rs i turn) ≡ length rs
@@ -110,29 +144,50 @@ module _ {M : Type 1} (𝓤 : URA M) (H : Heap 𝓤) (A : Atoms 𝓤) (W : Given
         assigns ! (bin ! (var ! (2 + 4) refl) (var ! (2 + 2) refl) tt) (from ! (stop !)) (init ! (2 + 5) refl (tt, tt)) $
         rewrite ! (2 + 5) (λ (t : Bool). ‵ (fat fullShare tyBool l₅ 0 (vbool t))) (fails n) refl $ leaves-loop ! (var ! (2 + 5) refl) $
         exec ! (𝓣 .C) (𝓣 .Λ) E mir′.t-3 (atRet E Post) $ assigns ! (of-opd ! (unit-lit !)) (from ! (stop !)) (init ! 2 refl (tt, tt)) $
-        returns ! (look ! 2 refl) $ move ! (2 ∷ 11 ∷ []) $ gone1 ! $ move ! (2 ∷ 10 ∷ []) $ gone1 ! $ move ! (2 ∷ 9 ∷ []) $ gone1 ! $ move ! (2 ∷ 8 ∷ []) $ gone1 ! $ move ! (2 ∷ 7 ∷ []) $ gone1 ! $ move ! (2 ∷ 6 ∷ []) $ gone1 ! $ move ! (2 ∷ 5 ∷ []) $ free1 ! $ move ! (2 ∷ 4 ∷ []) $ free1 ! $ move ! (2 ∷ 3 ∷ []) $ free1 ! $ free0 ! $ by ! exits
+        returns ! (look ! 2 refl) $ gone ! 2 refl $ by ! exits
 
   walk : (𝓣 : Tables 𝓤 H) → FmC 𝓤 H (W .laws) (𝓣 .C) → Triple 𝓤 (𝓣 .C #recv-queue·free-at) (FreeAt 𝓤 H A mem run)
-      → ent 𝓤 (onEntry 𝓤 H A here.signature (κ, tt) (q, tt) (x γ rs, (n, (turn, tt))) (vx ∷ [], (vint w64 n ∷ [], (vint w32 turn ∷ [], tt)))) (WpFn 𝓤 H (𝓣 .C) (𝓣 .Λ) code.function (vx ∷ vint w64 n ∷ vint w32 turn ∷ []) Post)
+      → ent 𝓤 (onEntry 𝓤 H A here.signature (κ, tt) (q, tt) (x γ rs, (n, (turn, tt)))
+      (vx ∷ [], (vint w64 n ∷ [], (vint w32 turn ∷ [], tt))))
+      (WpFn 𝓤 H (𝓣 .C) (𝓣 .Λ) code.function (vx ∷ vint w64 n ∷ vint w32 turn ∷ []) Post)
   walk 𝓣 fm known-free =
-      qed W ((‵ (flft κ q) ⊛ ‵ ftrue) ∷ ‵ (owns (MutSlice (named 0) κ C.the-row ∷ usize ∷ u32 ∷ []) (x γ rs, (n, (turn, tt))) (vx ∷ [], (vint w64 n ∷ [], (vint w32 turn ∷ [], tt)))) ∷ []) ∵ enter ! (𝓣 .C) (𝓣 .Λ) code.function (vx ∷ vint w64 n ∷ vint w32 turn ∷ []) _ $
-      alloc1 ! (λ l₀. alloc1 ! (λ l₁. alloc1 ! (λ l₂. alloc1 ! (λ l₃. alloc1 ! (λ l₄. alloc1 ! (λ l₅. alloc1 ! (λ l₆. alloc1 ! (λ l₇. alloc1 ! (λ l₈. alloc0 ! $ params1 ! $
-      pass1 ! (init ! 14 refl (tt, (tt, (record { fits = room .0 }, tt)))) $ pass1 ! (init ! 12 refl (tt, record { fits = n-fits })) $ pass1 ! (init ! 10 refl (tt, record { fits = turn-fits })) $ pass0 ! $
+      qed W ((‵ (flft κ q) ⊛ ‵ ftrue) ∷ ‵ (owns (MutSlice (named 0) κ C.the-row ∷ usize ∷ u32 ∷ []) (x γ rs, (n, (turn, tt)))
+      (vx ∷ [], (vint w64 n ∷ [], (vint w32 turn ∷ [], tt)))) ∷ []) ∵
+      enter ! (𝓣 .C) (𝓣 .Λ) code.function (vx ∷ vint w64 n ∷ vint w32 turn ∷ []) _ $
+      alloc1 ! (λ l₀. alloc1 !
+      (λ l₁. alloc1 !
+      (λ l₂. alloc1 ! (λ l₃. alloc1 ! (λ l₄. alloc1 ! (λ l₅. alloc1 ! (λ l₆. alloc1 ! (λ l₇. alloc1 ! (λ l₈. alloc0 ! $ params1 ! $
+      pass1 ! (init ! 14 refl (tt, (tt, (record { fits = room .0 }, tt)))) $ pass1 ! (init ! 12 refl (tt, record { fits = n-fits })) $
+      pass1 ! (init ! 10 refl (tt, record { fits = turn-fits })) $ pass0 ! $
       assigns ! (of-opd ! (lit ! tt)) (from ! (stop !)) (init ! 8 refl (tt, record { fits = lit< tt })) $
       move ! (19 ∷ []) $ fsplit ! $ move ! (20 ∷ []) $ split ! $
       -- [[κ]; true; records; what n and turn own; _8; …; _0; …]
       rewrite ! 2 (λ (z : List CellRecord). ‵ (Rec z)) (freed-none rs turn) refl $ keep ! (2 ∷ 0 ∷ entry 4 9) $
-      by ! (counts 𝓤 H A W 𝓣 (E 𝓣 fm known-free l₀ l₁ l₂ l₃ l₄ l₅ l₆ l₇ l₈) mir′.turn-1 (Left 𝓣 fm known-free l₀ l₁ l₂ l₃ l₄ l₅ l₆ l₇ l₈) n (λ _. Unit {0}) (λ i. ⋆ 𝓤 H A (At 𝓣 fm known-free l₀ l₁ l₂ l₃ l₄ l₅ l₆ l₇ l₈ i))
+      by ! (counts 𝓤 H A W 𝓣 (E 𝓣 fm known-free l₀ l₁ l₂ l₃ l₄ l₅ l₆ l₇ l₈) mir′.turn-1 (Left 𝓣 fm known-free l₀ l₁ l₂ l₃ l₄ l₅ l₆ l₇ l₈) n
+      (λ _. Unit {0}) (λ i. ⋆ 𝓤 H A (At 𝓣 fm known-free l₀ l₁ l₂ l₃ l₄ l₅ l₆ l₇ l₈ i))
       (more 𝓣 fm known-free l₀ l₁ l₂ l₃ l₄ l₅ l₆ l₇ l₈) (ends 𝓣 fm known-free l₀ l₁ l₂ l₃ l₄ l₅ l₆ l₇ l₈) tt))))))))))
 
-module _ {M : Type 1} (𝓤 : URA M) (H : Heap 𝓤) (A : Atoms 𝓤) (W : Given 𝓤 H A) (mem : Memory → SProp 𝓤) (run : Routine → Fun 𝓤) (𝓣 : Tables 𝓤 H) (known-free : Triple 𝓤 (𝓣 .C #recv-queue·free-at) (FreeAt 𝓤 H A mem run)) where
+module _ {M : Type 1} (𝓤 : URA M) (H : Heap 𝓤) (A : Atoms 𝓤) (W : Given 𝓤 H A) (mem : Memory → SProp 𝓤) (run : Routine → Fun 𝓤)
+    (𝓣 : Tables 𝓤 H) (known-free : Triple 𝓤 (𝓣 .C #recv-queue·free-at) (FreeAt 𝓤 H A mem run)) where
   here-walks : Walks 𝓤 H A here.ended stayed (WpFn 𝓤 H (𝓣 .C) (𝓣 .Λ) code.function) (here.clauses 𝓤 H A mem run)
-  here-walks = walked 𝓤 H A here.ended stayed (here.clauses 𝓤 H A mem run) (WpFn 𝓤 H (𝓣 .C) (𝓣 .Λ) code.function) (λ κs. (slice-vals, (uint-vals w64, (uint-vals w32, tt)))) (λ κs. (mut-slice-tells (named 0) (κs .0) C.the-row, (uint-tells w64, (uint-tells w32, tt))))
+  here-walks = walked 𝓤 H A here.ended stayed (here.clauses 𝓤 H A mem run) (WpFn 𝓤 H (𝓣 .C) (𝓣 .Λ) code.function)
+      (λ κs. (slice-vals, (uint-vals w64, (uint-vals w32, tt))))
+      (λ κs. (mut-slice-tells (named 0) (κs .0) C.the-row, (uint-tells w64, (uint-tells w32, tt))))
       (λ κs qs bounds a g are. needs 𝓤 (a .1 .0 ≤ length (now (a .0))) _ (λ few.
-      walk 𝓤 H A W mem run (κs .0) (qs .0) (a .0 .ptr .0) (a .0 .ptr .1) (a .0 .name) (a .0 .now) (a .1 .0) (a .1 .1 .0) (are .0 .0 .1) (are .1 .0 .1) (are .1 .1 .0 .1) few 𝓣 (fmOf 𝓤 H (W .laws) 𝓣) known-free))
+      walk 𝓤 H A W mem run (κs .0) (qs .0) (a .0 .ptr .0) (a .0 .ptr .1) (a .0 .name) (a .0 .now) (a .1 .0) (a .1 .1 .0) (are .0 .0 .1)
+      (are .1 .0 .1) (are .1 .1 .0 .1) few 𝓣 (fmOf 𝓤 H (W .laws) 𝓣) known-free))
 
   here-meets : Meets 𝓤 H A here.signature (WpFn 𝓤 H (𝓣 .C) (𝓣 .Λ) code.function) (here.spec 𝓤 H A mem run)
-  here-meets = walk-meets 𝓤 H A here.ended stayed W (goes-slice 𝓤 H A W 1 0 tt (plain (λ _. C.the-row)), (goes-dropped 𝓤 H A W 1 (plain (λ _. usize)) yes (λ κs x f. refl), (goes-dropped 𝓤 H A W 1 (plain (λ _. u32)) yes (λ κs x f. refl), tt)))
+  here-meets = walk-meets 𝓤 H A here.ended stayed W (
+    goes-slice 𝓤 H A W 1 0 tt (plain (λ _. C.the-row)),
+    (
+      goes-dropped 𝓤 H A W 1 (plain (λ _. usize)) yes (λ κs x f. refl),
+      (
+        goes-dropped 𝓤 H A W 1 (plain (λ _. u32)) yes (λ κs x f. refl),
+        tt,
+      ),
+    ),
+  )
       (here.clauses 𝓤 H A mem run) (WpFn 𝓤 H (𝓣 .C) (𝓣 .Λ) code.function) (WpFn-mono 𝓤 H (W .laws) 𝓣 code.function) here-walks
 
 pub free-turn-spec : {M : Type 1} → stated.statement M
@@ -141,4 +196,5 @@ free-turn-spec 𝓤 H 𝓜 𝓖 𝓡 =
     entered 𝓤 H (tripleOf 𝓤 H (𝓖 .A) here.signature (here.spec 𝓤 H (𝓖 .A) (𝓜 .mem) (𝓡 .run)))
     (tables 𝓤 H 𝓜 𝓡 code.env .C) (tables 𝓤 H 𝓜 𝓡 code.env .Λ) #recv-queue·free-turn code.function (code.unfolded 𝓤 H 𝓜 𝓡)
     (here-meets 𝓤 H (𝓖 .A) (givenOf 𝓤 H 𝓜 𝓖) (𝓜 .mem) (𝓡 .run) (tablesOf 𝓤 H 𝓜 (tables 𝓤 H 𝓜 𝓡 code.env))
-    (cited 𝓤 H (FreeAt 𝓤 H (𝓖 .A) (𝓜 .mem) (𝓡 .run)) 𝓜 𝓡 code.env #recv-queue·free-at free-at-def.routine code.calls-recv-queue·free-at (free-at-thm.met 𝓤 H 𝓜 𝓖 𝓡)))
+    (cited 𝓤 H (FreeAt 𝓤 H (𝓖 .A) (𝓜 .mem) (𝓡 .run)) 𝓜 𝓡 code.env #recv-queue·free-at free-at-def.routine code.calls-recv-queue·free-at
+    (free-at-thm.met 𝓤 H 𝓜 𝓖 𝓡)))

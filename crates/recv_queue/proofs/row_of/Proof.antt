@@ -1,5 +1,5 @@
 use borrow.Author.Needs.{needs}
-use Rattle.slots.specs.First.{storedRow}
+use Rattle.row_slots.specs.First.{storedRow}
 use Rattle.recv_queue.proofs.row_of.Statement.{statement}
 use Rattle.recv_queue.proofs.row_of.Tie as tie
 

@@ -23,10 +23,17 @@ copy-firsts-spec = tie.close (tie.spec
     (λ c. omega arith)
     (λ c. omega arith)
     (λ c.
-    let test = c .before .before .before in
-    (omega arith, copy-yes _ _ (test .before .loop .inv .1) (test .loop-test .taken) (c .before .before .whole-row .ensures) (c .before .is-first .ensures) (c .if1 .taken) (test .before .before .before .before .pre)))
+    let test = c .before .before .before in (
+      omega arith,
+      copy-yes _ _ (test .before .loop .inv .1) (test .loop-test .taken) (c .before .before .whole-row .ensures)
+          (c .before .is-first .ensures) (c .if1 .taken) (test .before .before .before .before .pre),
+    ))
     (λ c. omega arith)
     (λ c. omega arith)
-    (λ c. (omega arith, copy-no _ _ (c .before .before .before .before .loop .inv .1) (c .before .before .before .loop-test .taken) (c .before .before .whole-row .ensures) (c .before .is-first .ensures) (c .if1 .left)))
+    (λ c. (
+      omega arith,
+      copy-no _ _ (c .before .before .before .before .loop .inv .1) (c .before .before .before .loop-test .taken)
+          (c .before .before .whole-row .ensures) (c .before .is-first .ensures) (c .if1 .left),
+    ))
     (λ c. c .before .loop .inv .1 .long)
     (λ c. copy-ends _ _ (c .before .loop .inv .1) (c .before .loop .inv .0) (c .loop-test .left)))

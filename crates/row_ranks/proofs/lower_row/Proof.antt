@@ -16,6 +16,7 @@ lower-row-spec = tie.close (tie.spec
     let put = c .before .before in
     let low = put .before .before .before in
     let test = low .before in
-    changes _ _ _ _ (test .before .before .whole-row .ensures) (test .before .is-used-as .ensures) (test .if1 .taken) (lower-is _ _ (low .lowered .ensures) (put .before .mark-row .ensures)) (put .put-row .ensures))
+    changes _ _ _ _ (test .before .before .whole-row .ensures) (test .before .is-used-as .ensures) (test .if1 .taken)
+    (lower-is _ _ (low .lowered .ensures) (put .before .mark-row .ensures)) (put .put-row .ensures))
     (λ c. search needs)
     (λ c. stays _ _ _ _ (c .before .before .whole-row .ensures) (c .before .is-used-as .ensures) (c .if1 .left)))

@@ -18,6 +18,7 @@ rank-row-spec = tie.close (tie.spec
     let put = c .before .before in
     let ranked = put .before .before .before in
     let test = ranked .before in
-    changes _ _ _ _ (test .before .before .whole-row .ensures) (test .before .is-used-as .ensures) (test .if1 .taken) (rank-row _ _ (ranked .rank .ensures .0) (put .before .mark-row .ensures)) (put .put-row .ensures))
+    changes _ _ _ _ (test .before .before .whole-row .ensures) (test .before .is-used-as .ensures) (test .if1 .taken)
+    (rank-row _ _ (ranked .rank .ensures .0) (put .before .mark-row .ensures)) (put .put-row .ensures))
     (λ c. search needs)
     (λ c. stays _ _ _ _ (c .before .before .whole-row .ensures) (c .before .is-used-as .ensures) (c .if1 .left)))

@@ -15,5 +15,8 @@ renumber-by-spec = tie.close (tie.spec
     (λ c. search needs)
     (λ c.
     let all = c .before .before .rank-all .ensures in
-    let copied = c .before .before .before .before .before .before .before .copy-firsts .ensures in
-    (renumber-is _ _ _ (c .before .before .before .before .before .before .before .before .before .before .before .before .pre .1) (copied .0) (copied .1 .1) (all .0), all .1)))
+    let copied = c .before .before .before .before .before .before .before .copy-firsts .ensures in (
+      renumber-is _ _ _ (c .before .before .before .before .before .before .before .before .before .before .before .before .pre .1)
+          (copied .0) (copied .1 .1) (all .0),
+      all .1,
+    )))

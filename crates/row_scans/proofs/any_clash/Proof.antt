@@ -23,8 +23,13 @@ any-clash-spec = tie.close (tie.spec
     (λ c. (omega arith, any-none _ _))
     (λ c κs. tt)
     (λ c κs. tt)
-    (λ c. any-hit _ _ _ (c .before .before .before .loop-test .taken) (c .before .before .whole-row .ensures) (c .before .is-clash .ensures) (c .before .before .before .before .loop .inv .1) (c .if1 .taken))
+    (λ c. any-hit _ _ _ (c .before .before .before .loop-test .taken) (c .before .before .whole-row .ensures) (c .before .is-clash .ensures)
+    (c .before .before .before .before .loop .inv .1) (c .if1 .taken))
     (λ c. omega arith)
     (λ c. omega arith)
-    (λ c. (omega arith, any-miss _ _ _ (c .before .before .before .loop-test .taken) (c .before .before .whole-row .ensures) (c .before .is-clash .ensures) (c .before .before .before .before .loop .inv .1) (c .if1 .left)))
+    (λ c. (
+      omega arith,
+      any-miss _ _ _ (c .before .before .before .loop-test .taken) (c .before .before .whole-row .ensures)
+          (c .before .is-clash .ensures) (c .before .before .before .before .loop .inv .1) (c .if1 .left),
+    ))
     (λ c. at-end (any _) _ (c .before .loop .inv .0) (c .loop-test .left) (c .before .loop .inv .1)))

@@ -21,8 +21,13 @@ find-ready-spec = tie.close (tie.spec
     (λ c. (omega arith, index-none _ _))
     (λ c κs. tt)
     (λ c κs. tt)
-    (λ c. index-hit _ _ _ (c .before .before .before .loop-test .taken) (c .before .before .whole-row .ensures) (c .before .is-ready-at .ensures) (c .before .before .before .before .loop .inv .1) (c .if1 .taken))
+    (λ c. index-hit _ _ _ (c .before .before .before .loop-test .taken) (c .before .before .whole-row .ensures)
+    (c .before .is-ready-at .ensures) (c .before .before .before .before .loop .inv .1) (c .if1 .taken))
     (λ c. omega arith)
     (λ c. omega arith)
-    (λ c. (omega arith, index-miss _ _ _ (c .before .before .before .loop-test .taken) (c .before .before .whole-row .ensures) (c .before .is-ready-at .ensures) (c .before .before .before .before .loop .inv .1) (c .if1 .left)))
+    (λ c. (
+      omega arith,
+      index-miss _ _ _ (c .before .before .before .loop-test .taken) (c .before .before .whole-row .ensures)
+          (c .before .is-ready-at .ensures) (c .before .before .before .before .loop .inv .1) (c .if1 .left),
+    ))
     (λ c. at-end (indexOf _) _ (c .before .loop .inv .0) (c .loop-test .left) (c .before .loop .inv .1)))

@@ -11,7 +11,8 @@ use Rattle.row_sweeps.proofs.turn_held.Tie as tie
 
 abbrev Inv-loop : tie.InvT-loop
 Inv-loop words₀ channel order turn n i₀ held₀ words i held =
-    Sweeping (changeRow (bears (heldAs channel order)) (markRow 3 turn)) words₀ words i × (held ≡ any (bears (heldAs channel order)) (cellsBelow words₀ i))
+    Sweeping (changeRow (bears (heldAs channel order)) (markRow 3 turn)) words₀ words i
+    × (held ≡ any (bears (heldAs channel order)) (cellsBelow words₀ i))
 
 abbrev μ-loop : tie.MeasureT-loop
 μ-loop words₀ channel order turn n i₀ held₀ words i held = n - i
@@ -32,4 +33,8 @@ turn-held-spec = tie.close (tie.spec
     let row = step .turn-held-row in
     (sweep-goes (so .0) l (row .kept .0) (row .ensures .1), any-goes _ (so .0) l (so .1) (row .ensures .0)))
     (λ c. c .before .loop .inv .0 .long)
-    (λ c. (any-ends _ (c .before .loop .inv .0) (c .loop-test .left) (c .before .loop .inv .1), sweep-ends _ _ (c .before .loop .inv .0) (c .loop-test .left))))
+    (λ c. (
+      any-ends _ (c .before .loop .inv .0) (c .loop-test .left) (c .before .loop .inv .1),
+      sweep-ends _ _ (c .before .loop .inv .0)
+          (c .loop-test .left),
+    )))

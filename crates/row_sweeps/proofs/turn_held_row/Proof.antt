@@ -15,8 +15,11 @@ turn-held-row-spec = tie.close (tie.spec
     let put = c .before .before in
     let test = put .before .before .before in
     let row = test .before .before .whole-row .ensures in
-    let held = test .before .is-held .ensures in
-    (tells (bears (heldAs _ _)) row held (test .if1 .taken), changes _ _ _ _ row held (test .if1 .taken) (put .before .mark-row .ensures) (put .put-row .ensures)))
+    let held = test .before .is-held .ensures in (
+      tells (bears (heldAs _ _)) row held (test .if1 .taken),
+      changes _ _ _ _ row held (test .if1 .taken) (put .before .mark-row .ensures)
+          (put .put-row .ensures),
+    ))
     (λ c. search needs)
     (λ c.
     let row = c .before .before .whole-row .ensures in

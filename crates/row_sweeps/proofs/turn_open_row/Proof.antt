@@ -13,6 +13,7 @@ turn-open-row-spec = tie.close (tie.spec
     (λ c.
     let put = c .before .before in
     let test = put .before .before .before in
-    changes _ _ _ _ (test .before .before .whole-row .ensures) (test .before .is-open .ensures) (test .if1 .taken) (put .before .mark-row .ensures) (put .put-row .ensures))
+    changes _ _ _ _ (test .before .before .whole-row .ensures) (test .before .is-open .ensures) (test .if1 .taken)
+    (put .before .mark-row .ensures) (put .put-row .ensures))
     (λ c. search needs)
     (λ c. stays _ _ _ _ (c .before .before .whole-row .ensures) (c .before .is-open .ensures) (c .if1 .left)))

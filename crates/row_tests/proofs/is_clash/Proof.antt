@@ -1,5 +1,5 @@
 use mathlib.Core.Path.{refl}
-use Rattle.line.specs.Bare.{conflict}
+use Rattle.bare.specs.Bare.{conflict}
 use Rattle.cells.specs.Cell.{pieceIn}
 use Rattle.cells.specs.Records.{clashes}
 use Rattle.rows.specs.Rows.{cellOf}

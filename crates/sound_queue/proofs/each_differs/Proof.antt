@@ -1,7 +1,7 @@
 use mathlib.Core.Path.{_≡_}
 use Prim.Native.Nat.{_≤_, _-_}
 use lib.ListN.{length, drop}
-use Rattle.recv.specs.Queue.{differ}
+use Rattle.receiver.specs.Queue.{differ}
 use Rattle.sound_queue.proofs.SoundCases.{differ-not, differ-further, differ-yes}
 use borrow.Author.Needs.{needs}
 use Rattle.sound_queue.proofs.each_differs.Statement.{statement}

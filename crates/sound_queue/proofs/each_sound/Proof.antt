@@ -4,7 +4,7 @@ use lib.ListN.{length, drop}
 use Rattle.base.specs.Lists.{every}
 use Rattle.window.specs.Window.{windowOf}
 use Rattle.sound_queue.specs.Sound.{soundNumber}
-use Rattle.recv.proofs.Parts.{every-not, every-further, every-yes}
+use Rattle.receiver.proofs.Parts.{every-not, every-further, every-yes}
 use borrow.Author.Needs.{needs}
 use Rattle.sound_queue.proofs.each_sound.Statement.{statement}
 use Rattle.sound_queue.proofs.each_sound.Tie as tie

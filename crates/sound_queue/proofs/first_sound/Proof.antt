@@ -1,4 +1,4 @@
-use Rattle.recv.proofs.Parts.{part-count}
+use Rattle.receiver.proofs.Parts.{part-count}
 use Rattle.sound_queue.proofs.SoundCases.{first-all}
 use borrow.Author.Needs.{needs}
 use Rattle.sound_queue.proofs.first_sound.Statement.{statement}

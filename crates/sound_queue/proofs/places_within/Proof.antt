@@ -2,7 +2,7 @@ use mathlib.Core.Path.{_≡_}
 use Prim.Native.Nat.{_≤_}
 use Rattle.base.specs.Limits.{windowPlaces}
 use Rattle.window.specs.Window.{windowOf}
-use Rattle.recv.specs.Queue.{placesWithin}
+use Rattle.receiver.specs.Queue.{placesWithin}
 use Rattle.sound_queue.proofs.SoundCases.{places-done, places-not, places-further}
 use borrow.Author.Needs.{needs}
 use Rattle.sound_queue.proofs.places_within.Statement.{statement}

@@ -8,7 +8,8 @@ use Rattle.ack.proofs.runs.put_runs.Statement.{statement}
 use Rattle.ack.proofs.runs.put_runs.Tie as tie
 
 abbrev Inv-loop : tie.InvT-loop
-Inv-loop out₀ p numbers q₀ i₀ out q i = (i ≤ length numbers) × Left p (recordsBytes (runs numbers)) out₀ q (recordsBytes (runs (drop i numbers))) out
+Inv-loop out₀ p numbers q₀ i₀ out q i = (i ≤ length numbers) × Left p (recordsBytes (runs numbers)) out₀ q
+    (recordsBytes (runs (drop i numbers))) out
 
 abbrev μ-loop : tie.MeasureT-loop
 μ-loop out₀ p numbers q₀ i₀ out q i = length numbers - i

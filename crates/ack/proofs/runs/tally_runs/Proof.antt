@@ -7,7 +7,8 @@ use Rattle.ack.proofs.runs.tally_runs.Statement.{statement}
 use Rattle.ack.proofs.runs.tally_runs.Tie as tie
 
 abbrev Inv-loop : tie.InvT-loop
-Inv-loop numbers records₀ bytes₀ i₀ records bytes i = (i ≤ length numbers) × (records ≤ i) × (bytes ≤ rangeSize * i) × Counted numbers i records bytes
+Inv-loop numbers records₀ bytes₀ i₀ records bytes i = (i ≤ length numbers) × (records ≤ i) × (bytes ≤ rangeSize * i)
+    × Counted numbers i records bytes
 
 abbrev μ-loop : tie.MeasureT-loop
 μ-loop numbers records₀ bytes₀ i₀ records bytes i = length numbers - i

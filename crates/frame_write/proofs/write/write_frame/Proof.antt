@@ -1,4 +1,5 @@
-use Rattle.frame_write.proofs.WriteCases.{limits-kind, limits-body, answer-over, answer-past, answer-short, answer-written, output-over, output-past, output-short, output-written}
+use Rattle.frame_write.proofs.WriteCases.{limits-kind, limits-body, answer-over, answer-past, answer-short, answer-written}
+use Rattle.frame_write.proofs.WriteCases.{output-over, output-past, output-short, output-written}
 use borrow.Author.Needs.{needs}
 use Rattle.frame_write.proofs.write.write_frame.Statement.{statement}
 use Rattle.frame_write.proofs.write.write_frame.Tie as tie

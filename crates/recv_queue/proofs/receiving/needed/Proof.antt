@@ -1,7 +1,7 @@
 use borrow.Author.Needs.{needs}
 use Rattle.base.proofs.Ifs.{ifs, by-ifs}
-use Rattle.narrow.specs.Needs.{receiveNeeds}
-use Rattle.narrow.proofs.Needs.{room-read}
+use Rattle.recv_prefix.specs.Needs.{receiveNeeds}
+use Rattle.recv_prefix.proofs.Needs.{room-read}
 use Rattle.recv_queue.proofs.receiving.needed.Statement.{statement}
 use Rattle.recv_queue.proofs.receiving.needed.Tie as tie
 

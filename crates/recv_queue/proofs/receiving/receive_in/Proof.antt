@@ -1,24 +1,35 @@
--- `recv_queue::receiving::receive_in` meets its contract: a walk of its MIR, by hand, a straight line of four calls. The records are shared for `load` and given up to `save`; the words are lent to `load` and to the core and shared for `save`; the receiver and the store are given up to the core.
+-- `recv_queue::receiving::receive_in` meets its contract: a walk of its MIR, by hand, a straight line of four calls. The records are shared
+-- for `load` and given up to `save`; the words are lent to `load` and to the core and shared for `save`; the receiver and the store are
+-- given up to the core.
 -- Assumes nothing.
-use Rattle.walks.proofs.Walk.{_≡_, refl, sym, _∙_, subst, ℕ, _+_, _<_, _≤_, _*_, _^_, arith, List, [], _∷_, length, T, URA, fullShare, named, w64, tyInt, tyUnit, Val, vint, vptr, hasTy, WT, SProp, ent, Lft, GName, Share, ftrue, fat, flft, fres, Memory, Routine, Heap, Calls, Loops, WpFn, Tables, Atoms, FmC, fmOf, WpFn-mono, Fun, givenOf, tables, tablesOf, Given, Item, ‵, _⊛_, ⋆, _$_, _∵_, !, qed, by, move, keep, split, join, rewrite, fsplit, fjoin, suffices, frame}
-use Rattle.walks.proofs.Walk.{done, agg, whole, sub, look-in, look, store, init, stop, hop, fld, from, load, of-opd, addr, and-then, no-more, land, assigns, returns, enter, alloc1, alloc0, params1, pass1, pass0, free0, yes, owns, Is, shows, uint-vals, uint-tells, u8, u32, usize, RefT, MutRef, now, ptr-vals, mut-tells, sliceVal, MutSlice, ShrSlice, Room, finally, slice-vals, mut-slice-tells, shr-slice-tells, plain, shrSliceOf, owned, peeks, nothing, onEntry, Triple}
-use Rattle.walks.proofs.Walk.{Meets, tripleOf, entered, cited, says, Stays, stay-dropped, stay-slice, gave-ref, gave-slice, walkOf, Walks, ends-at, walked, goes-dropped, goes-slice, goes-gave-ref, goes-gave-slice, walk-meets}
+use Rattle.walks.proofs.Walk.{_≡_, refl, sym, _∙_, subst, ℕ, _+_, _<_, _≤_, _*_, _^_, arith, List, [], _∷_, length, T, URA, fullShare}
+use Rattle.walks.proofs.Walk.{named, w64, tyInt, tyUnit, Val, vint, vptr, hasTy, WT, SProp, ent, Lft, GName, Share, ftrue, fat, flft, fres}
+use Rattle.walks.proofs.Walk.{Memory, Routine, Heap, Calls, Loops, WpFn, Tables, Atoms, FmC, fmOf, WpFn-mono, Fun, givenOf, tables}
+use Rattle.walks.proofs.Walk.{tablesOf, Given, Item, ‵, _⊛_, ⋆, _$_, _∵_, !, qed, by, move, keep, split, join, rewrite, fsplit, fjoin}
+use Rattle.walks.proofs.Walk.{suffices, frame}
+use Rattle.walks.proofs.Walk.{done, agg, whole, sub, look-in, look, store, init, stop, hop, fld, from, load, of-opd, addr, and-then}
+use Rattle.walks.proofs.Walk.{no-more, land, assigns, returns, enter, alloc1, alloc0, params1, pass1, pass0, yes, owns, Is, shows}
+use Rattle.walks.proofs.Walk.{uint-vals, uint-tells, u8, u32, usize, RefT, MutRef, now, ptr-vals, mut-tells, sliceVal, MutSlice, ShrSlice}
+use Rattle.walks.proofs.Walk.{Room, finally, slice-vals, mut-slice-tells, shr-slice-tells, plain, shrSliceOf, owned, peeks, nothing}
+use Rattle.walks.proofs.Walk.{onEntry, Triple}
+use Rattle.walks.proofs.Walk.{Meets, tripleOf, entered, cited, says, Stays, stay-dropped, stay-slice, gave-ref, gave-slice, walkOf, Walks}
+use Rattle.walks.proofs.Walk.{ends-at, walked, goes-dropped, goes-slice, goes-gave-ref, goes-gave-slice, walk-meets}
 use denote.Enum.Laws as EL
 use denote.Triple.Walked.{needs}
 use Rattle.cells.specs.declared.CellRecord.{CellRecord}
 use Rattle.cells.proofs.CellRecord as C
 use Rattle.rows.specs.Rows.{rowWords}
-use Rattle.recv.specs.declared.RecvQueue.{RecvQueue}
-use Rattle.recv.proofs.RecvQueue as Q
-use Rattle.pass.specs.declared.Receive.{Receive}
-use Rattle.pass.specs.Outcome.{receiveAnswer}
-use Rattle.pass.proofs.Receive as P
-use Rattle.pass.proofs.Receive.Laws as P′
+use Rattle.receiver.specs.declared.RecvQueue.{RecvQueue}
+use Rattle.receiver.proofs.RecvQueue as Q
+use Rattle.recv_steps.specs.declared.Receive.{Receive}
+use Rattle.recv_steps.specs.Outcome.{receiveAnswer}
+use Rattle.recv_steps.proofs.Receive as P
+use Rattle.recv_steps.proofs.Receive.Laws as P′
 use Rattle.recv_queue.specs.Records.{loaded, saved}
 use Rattle.recv_queue.specs.Answers.{rowsWritten}
 use Rattle.recv_queue.proofs.Receives.{Enough, enough-few, CallSays, received-in}
 use Rattle.recv_queue.proofs.Written.{written-within}
-use Rattle.walks.proofs.Order.{entry, var, gone1}
+use Rattle.walks.proofs.Order.{entry, var, gone}
 use Rattle.walks.proofs.Slices.{lending, returned, sharing, unshared}
 use Rattle.recv_queue.proofs.Calls.{Load, Save, calls-load, calls-save}
 use Rattle.recv_queue.proofs.receiving.Core.{Core, RowsSaved, calls-core, calls-saved}
@@ -39,13 +50,29 @@ use Rattle.recv_queue.proofs.receiving.receive_in as here
 use Rattle.recv_queue.proofs.receiving.receive_in.Statement as stated
 use Rattle.recv_queue.proofs.receiving.receive_in.Code as code
 
--- what the walk still has of each parameter at exit: the number and the datagram nothing, the receiver, the records and the store only their last values, the words all
+-- what the walk still has of each parameter at exit: the number and the datagram nothing, the receiver, the records and the store only
+-- their last values, the words all
 abbrev stayed : Stays (here.ended .signature .params) (here.ended .kept)
-stayed = (gave-ref (0 ∷ []) tt (plain (λ _. Q.the-row)), (gave-slice (1 ∷ []) tt (plain (λ _. C.the-row)), (stay-slice (2 ∷ []) tt (plain (λ _. u32)), (stay-dropped (plain (λ _. usize)) yes, (gave-slice (3 ∷ []) tt (plain (λ _. u8)), (stay-dropped (shrSliceOf (4 ∷ []) tt (plain (λ _. u8))) yes, tt))))))
+stayed = (
+  gave-ref (0 ∷ []) tt (plain (λ _. Q.the-row)),
+  (
+    gave-slice (1 ∷ []) tt (plain (λ _. C.the-row)),
+    (
+      stay-slice (2 ∷ []) tt (plain (λ _. u32)),
+      (
+        stay-dropped (plain (λ _. usize)) yes,
+        (gave-slice (3 ∷ []) tt (plain (λ _. u8)), (stay-dropped (shrSliceOf (4 ∷ []) tt (plain (λ _. u8))) yes, tt)),
+      ),
+    ),
+  ),
+)
 
-module _ {M : Type 1} (𝓤 : URA M) (H : Heap 𝓤) (A : Atoms 𝓤) (W : Given 𝓤 H A) (mem : Memory → SProp 𝓤) (run : Routine → Fun 𝓤) (κ₀ κ₁ κ₂ κ₃ κ₄ : Lft) (q₀ q₁ q₂ q₃ q₄ : Share) (b₀ o₀ : ℕ) (γ₀ : GName) (queue : RecvQueue) (b₁ o₁ : ℕ) (γ₁ : GName) (rs : List CellRecord)
+module _ {M : Type 1} (𝓤 : URA M) (H : Heap 𝓤) (A : Atoms 𝓤) (W : Given 𝓤 H A) (mem : Memory → SProp 𝓤) (run : Routine → Fun 𝓤)
+    (κ₀ κ₁ κ₂ κ₃ κ₄ : Lft) (q₀ q₁ q₂ q₃ q₄ : Share) (b₀ o₀ : ℕ) (γ₀ : GName) (queue : RecvQueue) (b₁ o₁ : ℕ) (γ₁ : GName)
+    (rs : List CellRecord)
     (b₂ o₂ : ℕ) (γ₂ : GName) (ws : List ℕ) (n : ℕ) (b₃ o₃ : ℕ) (γ₃ : GName) (st : List ℕ) (b₄ o₄ : ℕ) (γ₄ : GName) (dg : List ℕ)
-    (room₁ : Room C.the-row (length rs)) (room₂ : Room u32 (length ws)) (room₃ : Room u8 (length st)) (room₄ : Room u8 (length dg)) (n-fits : n < 2 ^ 64) (enough : Enough rs st dg n) (wide : rowWords * n ≤ length ws) where
+    (room₁ : Room C.the-row (length rs)) (room₂ : Room u32 (length ws)) (room₃ : Room u8 (length st)) (room₄ : Room u8 (length dg))
+    (n-fits : n < 2 ^ 64) (enough : Enough rs st dg n) (wide : rowWords * n ≤ length ws) where
   -- the parameters
   abbrev g : RefT RecvQueue
   g = record { ptr = (b₀, o₀); name = γ₀; now = queue }
@@ -87,101 +114,210 @@ module _ {M : Type 1} (𝓤 : URA M) (H : Heap 𝓤) (A : Atoms 𝓤) (W : Given
   m a = rowsWritten (receiveAnswer a) n
 
   abbrev Bound : walkOf 𝓤 H A here.ended stayed (here.clauses 𝓤 H A mem run) .Ghost
-  Bound = (((κ₀, (κ₁, (κ₂, (κ₃, (κ₄, tt))))), (q₀, (q₁, (q₂, (q₃, (q₄, tt))))), tt, (g, (x γ₁, (y γ₂ ws, (n, (s, (d, tt)))))), (vg ∷ [], (vx ∷ [], (vy ∷ [], (vint w64 n ∷ [], (vs ∷ [], (vd ∷ [], tt))))))), tt)
+  Bound = (
+    (
+      (κ₀, (κ₁, (κ₂, (κ₃, (κ₄, tt))))),
+      (q₀, (q₁, (q₂, (q₃, (q₄, tt))))),
+      tt,
+      (g, (x γ₁, (y γ₂ ws, (n, (s, (d, tt)))))),
+      (vg ∷ [], (vx ∷ [], (vy ∷ [], (vint w64 n ∷ [], (vs ∷ [], (vd ∷ [], tt)))))),
+    ),
+    tt,
+  )
 
   abbrev Post : Val → SProp 𝓤
   Post = walkOf 𝓤 H A here.ended stayed (here.clauses 𝓤 H A mem run) .post Bound
 
   -- at the end: the answer a, the receiver h, the records saved from the words w, and the store u that the core left
   abbrev Left : Val → Receive → RecvQueue → List ℕ → List ℕ → List (Item 𝓤)
-  Left v a h w u = ‵ (P.the-row .own a (v ∷ [])) ∷ ‵ (MutSlice (named 2) κ₂ u32 .own (y γ₂ w) (vy ∷ [])) ∷ ‵ (flft κ₂ q₂) ∷ ‵ (flft κ₁ q₁) ∷ ‵ (finally C.the-row γ₁ (saved rs (m a) w)) ∷ ‵ (finally u8 γ₃ u) ∷ ‵ (fres γ₀ (Q.the-row .coded .code h)) ∷ ‵ (flft κ₄ q₄) ∷ ‵ (flft κ₃ q₃) ∷ ‵ (flft κ₀ q₀) ∷ []
+  Left v a h w u = ‵ (P.the-row .own a (v ∷ [])) ∷ ‵ (MutSlice (named 2) κ₂ u32 .own (y γ₂ w) (vy ∷ [])) ∷ ‵ (flft κ₂ q₂) ∷ ‵ (flft κ₁ q₁)
+      ∷ ‵ (finally C.the-row γ₁ (saved rs (m a) w)) ∷ ‵ (finally u8 γ₃ u) ∷ ‵ (fres γ₀ (Q.the-row .coded .code h)) ∷ ‵ (flft κ₄ q₄)
+      ∷ ‵ (flft κ₃ q₃) ∷ ‵ (flft κ₀ q₀) ∷ []
 
-  exits : (v : Val) (a : Receive) (h : RecvQueue) (w u : List ℕ) → CallSays queue rs st dg a h (saved rs (m a) w) u → length (saved rs (m a) w) ≡ length rs → length w ≡ length ws → length u ≡ length st → ent 𝓤 (⋆ 𝓤 H A (Left v a h w u)) (Post v)
+  exits : (v : Val) (a : Receive) (h : RecvQueue) (w u : List ℕ) → CallSays queue rs st dg a h (saved rs (m a) w) u
+      → length (saved rs (m a) w) ≡ length rs → length w ≡ length ws → length u ≡ length st → ent 𝓤 (⋆ 𝓤 H A (Left v a h w u)) (Post v)
   exits v a h w u said e f i =
-      qed W (Left v a h w u) ∵ suffices ! _ (ends-at 𝓤 H A here.ended stayed (here.clauses 𝓤 H A mem run) W Bound v a (h, (saved rs (m a) w, (w, (tt, (u, (tt, tt)))))) (tt, (e, (f, (tt, (i, (tt, tt))))))) $ says ! said $
-      nothing ! $ move ! (8 ∷ 0 ∷ []) $ join ! $ move ! (8 ∷ 0 ∷ []) $ join ! $ move ! (3 ∷ 0 ∷ []) $ join ! $ move ! (3 ∷ 0 ∷ []) $ join ! $ move ! (6 ∷ 0 ∷ []) $ join ! $ frame ! $
+      qed W (Left v a h w u) ∵ suffices ! _ (ends-at 𝓤 H A here.ended stayed (here.clauses 𝓤 H A mem run) W Bound v a
+      (h, (saved rs (m a) w, (w, (tt, (u, (tt, tt)))))) (tt, (e, (f, (tt, (i, (tt, tt))))))) $ says ! said $
+      nothing ! $ move ! (8 ∷ 0 ∷ []) $ join ! $ move ! (8 ∷ 0 ∷ []) $ join ! $ move ! (3 ∷ 0 ∷ []) $ join ! $ move ! (3 ∷ 0 ∷ []) $
+      join ! $ move ! (6 ∷ 0 ∷ []) $ join ! $ frame ! $
       -- [the answer; words; records; store; receiver]
-      nothing ! $ nothing ! $ fjoin ! $ move ! (4 ∷ 0 ∷ []) $ fjoin ! $ nothing ! $ fjoin ! $ move ! (2 ∷ 0 ∷ []) $ fjoin ! $ move ! (2 ∷ 0 ∷ []) $ fjoin ! $ move ! (2 ∷ 0 ∷ []) $ fjoin ! $ done !
+      nothing ! $ nothing ! $ fjoin ! $ move ! (4 ∷ 0 ∷ []) $ fjoin ! $ nothing ! $ fjoin ! $ move ! (2 ∷ 0 ∷ []) $ fjoin ! $
+      move ! (2 ∷ 0 ∷ []) $ fjoin ! $ move ! (2 ∷ 0 ∷ []) $ fjoin ! $ done !
 
   module _ (C′ : Calls 𝓤 H) (Λ : Loops 𝓤 H) (fm : FmC 𝓤 H (W .laws) C′) (known-load : Triple 𝓤 (C′ #recv-queue·load) (Load 𝓤 H A mem run))
-      (known-core : Triple 𝓤 (C′ #recv-lent·receive-with) (Core 𝓤 H A mem run)) (known-saved : Triple 𝓤 (C′ #recv-queue·receiving·rows-saved) (RowsSaved 𝓤 H A mem run)) (known-save : Triple 𝓤 (C′ #recv-queue·save) (Save 𝓤 H A mem run)) where
-    walk : ent 𝓤 (onEntry 𝓤 H A here.signature (κ₀, (κ₁, (κ₂, (κ₃, (κ₄, tt))))) (q₀, (q₁, (q₂, (q₃, (q₄, tt))))) (g, (x γ₁, (y γ₂ ws, (n, (s, (d, tt)))))) (vg ∷ [], (vx ∷ [], (vy ∷ [], (vint w64 n ∷ [], (vs ∷ [], (vd ∷ [], tt))))))) (WpFn 𝓤 H C′ Λ code.function (vg ∷ vx ∷ vy ∷ vint w64 n ∷ vs ∷ vd ∷ []) Post)
+      (known-core : Triple 𝓤 (C′ #recv-lent·receive-with) (Core 𝓤 H A mem run))
+      (known-saved : Triple 𝓤 (C′ #recv-queue·receiving·rows-saved) (RowsSaved 𝓤 H A mem run))
+      (known-save : Triple 𝓤 (C′ #recv-queue·save) (Save 𝓤 H A mem run)) where
+    walk : ent 𝓤 (onEntry 𝓤 H A here.signature (κ₀, (κ₁, (κ₂, (κ₃, (κ₄, tt))))) (q₀, (q₁, (q₂, (q₃, (q₄, tt)))))
+        (g, (x γ₁, (y γ₂ ws, (n, (s, (d, tt)))))) (vg ∷ [], (vx ∷ [], (vy ∷ [], (vint w64 n ∷ [], (vs ∷ [], (vd ∷ [], tt)))))))
+        (WpFn 𝓤 H C′ Λ code.function (vg ∷ vx ∷ vy ∷ vint w64 n ∷ vs ∷ vd ∷ []) Post)
     walk =
-        qed W ((‵ (flft κ₀ q₀) ⊛ (‵ (flft κ₁ q₁) ⊛ (‵ (flft κ₂ q₂) ⊛ (‵ (flft κ₃ q₃) ⊛ (‵ (flft κ₄ q₄) ⊛ ‵ ftrue))))) ∷ ‵ (owns (MutRef (named 0) κ₀ Q.the-row ∷ MutSlice (named 1) κ₁ C.the-row ∷ MutSlice (named 2) κ₂ u32 ∷ usize ∷ MutSlice (named 3) κ₃ u8 ∷ ShrSlice (named 4) κ₄ u8 ∷ []) (g, (x γ₁, (y γ₂ ws, (n, (s, (d, tt)))))) (vg ∷ [], (vx ∷ [], (vy ∷ [], (vint w64 n ∷ [], (vs ∷ [], (vd ∷ [], tt))))))) ∷ []) ∵
+        qed W ((‵ (flft κ₀ q₀) ⊛ (‵ (flft κ₁ q₁) ⊛ (‵ (flft κ₂ q₂) ⊛ (‵ (flft κ₃ q₃) ⊛ (‵ (flft κ₄ q₄) ⊛ ‵ ftrue)))))
+        ∷ ‵ (owns (MutRef (named 0) κ₀ Q.the-row ∷ MutSlice (named 1) κ₁ C.the-row ∷ MutSlice (named 2) κ₂ u32 ∷ usize
+        ∷ MutSlice (named 3) κ₃ u8 ∷ ShrSlice (named 4) κ₄ u8 ∷ []) (g, (x γ₁, (y γ₂ ws, (n, (s, (d, tt))))))
+        (vg ∷ [], (vx ∷ [], (vy ∷ [], (vint w64 n ∷ [], (vs ∷ [], (vd ∷ [], tt))))))) ∷ []) ∵
         enter ! C′ Λ code.function (vg ∷ vx ∷ vy ∷ vint w64 n ∷ vs ∷ vd ∷ []) _ $
-        alloc1 ! (λ l₀. alloc1 ! (λ l₁. alloc1 ! (λ l₂. alloc1 ! (λ l₃. alloc1 ! (λ l₄. alloc1 ! (λ l₅. alloc1 ! (λ l₆. alloc1 ! (λ l₇. alloc1 ! (λ l₈. alloc1 ! (λ l₉. alloc1 ! (λ l₁₀. alloc1 ! (λ l₁₁. alloc1 ! (λ l₁₂. alloc1 ! (λ l₁₃. alloc1 ! (λ l₁₄. alloc1 ! (λ l₁₅. alloc1 ! (λ l₁₆. alloc1 ! (λ l₁₇. alloc1 ! (λ l₁₈. alloc1 ! (λ l₁₉. alloc1 ! (λ l₂₀. alloc1 ! (λ l₂₁. alloc1 ! (λ l₂₂. alloc1 ! (λ l₂₃. alloc0 ! $ params1 ! $
-        pass1 ! (init ! 44 refl (tt, tt)) $ pass1 ! (init ! 42 refl (tt, (tt, (record { fits = room₁ .0 }, tt)))) $ pass1 ! (init ! 40 refl (tt, (tt, (record { fits = room₂ .0 }, tt)))) $
-        pass1 ! (init ! 38 refl (tt, record { fits = n-fits })) $ pass1 ! (init ! 36 refl (tt, (tt, (record { fits = room₃ .0 }, tt)))) $ pass1 ! (init ! 34 refl (tt, (tt, (record { fits = room₄ .0 }, tt)))) $ pass0 ! $
-        move ! (49 ∷ []) $ fsplit ! $ move ! (1 ∷ []) $ fsplit ! $ move ! (1 ∷ []) $ fsplit ! $ move ! (1 ∷ []) $ fsplit ! $ move ! (1 ∷ []) $ fsplit ! $ move ! (1 ∷ []) $ fsplit ! $ move ! (55 ∷ []) $ split ! $ move ! (1 ∷ []) $ split ! $ move ! (1 ∷ []) $ split ! $ move ! (1 ∷ []) $ split ! $ move ! (1 ∷ []) $ split ! $
-        -- from here on what is owned stands first, then the locals _0, _1, …, _23, then that each dies: with k things owned, local i is at k + i
+        alloc1 ! (λ l₀. alloc1 !
+        (λ l₁. alloc1 !
+        (λ l₂. alloc1 !
+        (λ l₃. alloc1 !
+        (λ l₄. alloc1 !
+        (λ l₅. alloc1 !
+        (λ l₆. alloc1 !
+        (λ l₇. alloc1 !
+        (λ l₈. alloc1 ! (λ l₉. alloc1 ! (λ l₁₀. alloc1 !
+        (λ l₁₁. alloc1 ! (λ l₁₂. alloc1 ! (λ l₁₃. alloc1 !
+        (λ l₁₄. alloc1 ! (λ l₁₅. alloc1 ! (λ l₁₆. alloc1 !
+        (λ l₁₇. alloc1 ! (λ l₁₈. alloc1 ! (λ l₁₉. alloc1 !
+        (λ l₂₀. alloc1 ! (λ l₂₁. alloc1 ! (λ l₂₂. alloc1 ! (λ l₂₃. alloc0 ! $ params1 ! $
+        pass1 ! (init ! 44 refl (tt, tt)) $ pass1 ! (init ! 42 refl (tt, (tt, (record { fits = room₁ .0 }, tt)))) $
+        pass1 ! (init ! 40 refl (tt, (tt, (record { fits = room₂ .0 }, tt)))) $
+        pass1 ! (init ! 38 refl (tt, record { fits = n-fits })) $ pass1 ! (init ! 36 refl (tt, (tt, (record { fits = room₃ .0 }, tt)))) $
+        pass1 ! (init ! 34 refl (tt, (tt, (record { fits = room₄ .0 }, tt)))) $ pass0 ! $
+        move ! (49 ∷ []) $ fsplit ! $ move ! (1 ∷ []) $ fsplit ! $ move ! (1 ∷ []) $ fsplit ! $ move ! (1 ∷ []) $ fsplit ! $ move ! (1 ∷ [])
+        $ fsplit ! $ move ! (1 ∷ []) $ fsplit ! $ move ! (55 ∷ []) $ split ! $ move ! (1 ∷ []) $ split ! $ move ! (1 ∷ []) $ split ! $
+        move ! (1 ∷ []) $ split ! $ move ! (1 ∷ []) $ split ! $
+        -- from here on what is owned stands first, then the locals _0, _1, …, _23, then that each dies: with k things owned, local i is at
+        -- k + i
         keep ! (11 ∷ 4 ∷ 10 ∷ 3 ∷ 8 ∷ 2 ∷ 6 ∷ 0 ∷ 12 ∷ 5 ∷ entry 13 24) $
-        -- 10: [records; [κ₁]; words; [κ₂]; store; [κ₃]; datagram; [κ₄]; receiver; [κ₀]]: the records are shared, and the words lent, for `load`
+        -- 10: [records; [κ₁]; words; [κ₂]; store; [κ₃]; datagram; [κ₄]; receiver; [κ₀]]: the records are shared, and the words lent, for
+        -- `load`
         sharing C.the-row κ₁ q₁ (x γ₁) (length rs) ! tt (λ α δ. move ! (3 ∷ 4 ∷ []) $ lending u32 κ₂ q₂ (y γ₂ ws) (length ws) ! tt (λ β ε.
         -- 12: [the lent words; what is kept; [β]; the shared records; what is kept; [α]; store; [κ₃]; datagram; [κ₄]; receiver; [κ₀]]
-        assigns ! (addr ! (from ! (fld ! refl (hop ! (look-in ! (12 + 2) (sub ! 0 refl (whole !))) (stop !))))) (from ! (stop !)) (init ! (12 + 10) refl (tt, tt)) $
-        assigns ! (agg ! (and-then ! (var ! (12 + 10) refl) (and-then ! (load ! (from ! (fld ! refl (stop !))) (look-in ! (12 + 2) (sub ! 1 refl (whole !)))) (no-more !)))) (from ! (stop !)) (init ! (12 + 11) refl (tt, (tt, (record { fits = room₁ .0 }, tt)))) $
-        assigns ! (addr ! (from ! (fld ! refl (hop ! (look-in ! (12 + 3) (sub ! 0 refl (whole !))) (stop !))))) (from ! (stop !)) (init ! (12 + 12) refl (tt, tt)) $
-        assigns ! (agg ! (and-then ! (var ! (12 + 12) refl) (and-then ! (load ! (from ! (fld ! refl (stop !))) (look-in ! (12 + 3) (sub ! 1 refl (whole !)))) (no-more !)))) (from ! (stop !)) (init ! (12 + 13) refl (tt, (tt, (record { fits = room₂ .0 }, tt)))) $
-        move ! (5 ∷ 2 ∷ 3 ∷ 0 ∷ []) $ calls-load 𝓤 H A W mem run (α ∷ []) (β ∷ []) fullShare fullShare (x δ) (y ε ws) n vx vy ! fm known-load (all, wide) n-fits (and-then ! (var ! (9 + 11) refl) (and-then ! (var ! (9 + 13) refl) (and-then ! (var ! (9 + 4) refl) (no-more !)))) (λ u₀ f.
+        assigns ! (addr ! (from ! (fld ! refl (hop ! (look-in ! (12 + 2) (sub ! 0 refl (whole !))) (stop !))))) (from ! (stop !))
+        (init ! (12 + 10) refl (tt, tt)) $
+        assigns ! (agg ! (and-then ! (var ! (12 + 10) refl) (and-then !
+        (load ! (from ! (fld ! refl (stop !))) (look-in ! (12 + 2) (sub ! 1 refl (whole !)))) (no-more !)))) (from ! (stop !))
+        (init ! (12 + 11) refl (tt, (tt, (record { fits = room₁ .0 }, tt)))) $
+        assigns ! (addr ! (from ! (fld ! refl (hop ! (look-in ! (12 + 3) (sub ! 0 refl (whole !))) (stop !))))) (from ! (stop !))
+        (init ! (12 + 12) refl (tt, tt)) $
+        assigns ! (agg ! (and-then ! (var ! (12 + 12) refl) (and-then !
+        (load ! (from ! (fld ! refl (stop !))) (look-in ! (12 + 3) (sub ! 1 refl (whole !)))) (no-more !)))) (from ! (stop !))
+        (init ! (12 + 13) refl (tt, (tt, (record { fits = room₂ .0 }, tt)))) $
+        move ! (5 ∷ 2 ∷ 3 ∷ 0 ∷ []) $ calls-load 𝓤 H A W mem run (α ∷ []) (β ∷ []) fullShare fullShare (x δ) (y ε ws) n vx vy ! fm
+        known-load (all, wide) n-fits (and-then ! (var ! (9 + 11) refl)
+        (and-then ! (var ! (9 + 13) refl) (and-then ! (var ! (9 + 4) refl) (no-more !)))) (λ u₀ f.
         -- 11: [[α]; [β]; the words' last value; what is kept of the words; of the records; store; [κ₃]; datagram; [κ₄]; receiver; [κ₀]]
         land ! (from ! (stop !)) (init ! (11 + 9) refl (subst (λ (z : Val). T (hasTy tyUnit z) × WT z) (sym (f .0)) (tt, tt))) $
-        move ! (0 ∷ 4 ∷ []) $ unshared C.the-row κ₁ q₁ (x γ₁) (length rs) ! tt α room₁ refl $ move ! (2 ∷ 4 ∷ 3 ∷ []) $ returned u32 κ₂ q₂ (y γ₂ ws) (length ws) ! tt β ε w₁ room₂ refl (f .1) $
+        move ! (0 ∷ 4 ∷ []) $ unshared C.the-row κ₁ q₁ (x γ₁) (length rs) ! tt α room₁ refl $ move ! (2 ∷ 4 ∷ 3 ∷ []) $
+        returned u32 κ₂ q₂ (y γ₂ ws) (length ws) ! tt β ε w₁ room₂ refl (f .1) $
         -- 10: [words; [κ₂]; records; [κ₁]; store; [κ₃]; datagram; [κ₄]; receiver; [κ₀]]: the words are lent for the core
         lending u32 κ₂ q₂ (y γ₂ w₁) (length ws) ! tt (λ α′ ε′.
         -- 11: [the lent words; what is kept; [α′]; records; [κ₁]; store; [κ₃]; datagram; [κ₄]; receiver; [κ₀]]
         assigns ! (addr ! (from ! (hop ! (look ! (11 + 1) refl) (stop !)))) (from ! (stop !)) (init ! (11 + 14) refl (tt, tt)) $
-        assigns ! (addr ! (from ! (fld ! refl (hop ! (look-in ! (11 + 3) (sub ! 0 refl (whole !))) (stop !))))) (from ! (stop !)) (init ! (11 + 15) refl (tt, tt)) $
-        assigns ! (agg ! (and-then ! (var ! (11 + 15) refl) (and-then ! (load ! (from ! (fld ! refl (stop !))) (look-in ! (11 + 3) (sub ! 1 refl (whole !)))) (no-more !)))) (from ! (stop !)) (init ! (11 + 16) refl (tt, (tt, (record { fits = room₂ .0 }, tt)))) $
-        assigns ! (of-opd ! (load ! (from ! (fld ! refl (stop !))) (look-in ! (11 + 2) (sub ! 1 refl (whole !))))) (from ! (stop !)) (init ! (11 + 17) refl (tt, record { fits = room₁ .0 })) $
-        assigns ! (addr ! (from ! (fld ! refl (hop ! (look-in ! (11 + 5) (sub ! 0 refl (whole !))) (stop !))))) (from ! (stop !)) (init ! (11 + 18) refl (tt, tt)) $
-        assigns ! (agg ! (and-then ! (var ! (11 + 18) refl) (and-then ! (load ! (from ! (fld ! refl (stop !))) (look-in ! (11 + 5) (sub ! 1 refl (whole !)))) (no-more !)))) (from ! (stop !)) (init ! (11 + 19) refl (tt, (tt, (record { fits = room₃ .0 }, tt)))) $
-        move ! (10 ∷ 2 ∷ 6 ∷ 8 ∷ 9 ∷ 0 ∷ 5 ∷ 7 ∷ []) $ calls-core 𝓤 H A W mem run κ₀ (α′ ∷ []) κ₃ κ₄ q₀ fullShare q₃ q₄ g (y ε′ w₁) n (length rs) s d vg vy vs vd ! fm known-core n-fits (room₁ .0) (and-then ! (var ! (4 + 14) refl) (and-then ! (var ! (4 + 16) refl) (and-then ! (var ! (4 + 4) refl) (and-then ! (var ! (4 + 17) refl) (and-then ! (var ! (4 + 19) refl) (and-then ! (var ! (4 + 6) refl) (no-more !))))))) (λ v a h w₂ u e.
+        assigns ! (addr ! (from ! (fld ! refl (hop ! (look-in ! (11 + 3) (sub ! 0 refl (whole !))) (stop !))))) (from ! (stop !))
+        (init ! (11 + 15) refl (tt, tt)) $
+        assigns ! (agg ! (and-then ! (var ! (11 + 15) refl) (and-then !
+        (load ! (from ! (fld ! refl (stop !))) (look-in ! (11 + 3) (sub ! 1 refl (whole !)))) (no-more !)))) (from ! (stop !))
+        (init ! (11 + 16) refl (tt, (tt, (record { fits = room₂ .0 }, tt)))) $
+        assigns ! (of-opd ! (load ! (from ! (fld ! refl (stop !))) (look-in ! (11 + 2) (sub ! 1 refl (whole !))))) (from ! (stop !))
+        (init ! (11 + 17) refl (tt, record { fits = room₁ .0 })) $
+        assigns ! (addr ! (from ! (fld ! refl (hop ! (look-in ! (11 + 5) (sub ! 0 refl (whole !))) (stop !))))) (from ! (stop !))
+        (init ! (11 + 18) refl (tt, tt)) $
+        assigns ! (agg ! (and-then ! (var ! (11 + 18) refl) (and-then !
+        (load ! (from ! (fld ! refl (stop !))) (look-in ! (11 + 5) (sub ! 1 refl (whole !)))) (no-more !)))) (from ! (stop !))
+        (init ! (11 + 19) refl (tt, (tt, (record { fits = room₃ .0 }, tt)))) $
+        move ! (10 ∷ 2 ∷ 6 ∷ 8 ∷ 9 ∷ 0 ∷ 5 ∷ 7 ∷ []) $ calls-core 𝓤 H A W mem run κ₀ (α′ ∷ []) κ₃ κ₄ q₀ fullShare q₃ q₄ g (y ε′ w₁) n
+        (length rs) s d vg vy vs vd ! fm known-core n-fits (room₁ .0)
+        (and-then ! (var ! (4 + 14) refl) (and-then ! (var ! (4 + 16) refl)
+        (and-then ! (var ! (4 + 4) refl) (and-then ! (var ! (4 + 17) refl)
+        (and-then ! (var ! (4 + 19) refl) (and-then ! (var ! (4 + 6) refl) (no-more !))))))) (λ v a h w₂ u e.
         -- 11: [the answer; the words' last value; the store's; the receiver's; [κ₄]; [κ₃]; [α′]; [κ₀]; what is kept; records; [κ₁]]
         peeks ! P.the-row (Is P.the-row) (shows 𝓤 H A P.the-row) a (v ∷ []) (λ is.
         land ! (from ! (stop !)) (init ! (11 + 7) refl (EL.lawful P.the-type P′.the-laws 𝓤 H A W tt .typed a _ is .0)) $
-        calls-saved 𝓤 H A W mem run a n v ! fm known-saved n-fits (and-then ! (var ! (11 + 7) refl) (and-then ! (var ! (11 + 4) refl) (no-more !))) (λ v₈ e₈.
+        calls-saved 𝓤 H A W mem run a n v ! fm known-saved n-fits
+        (and-then ! (var ! (11 + 7) refl) (and-then ! (var ! (11 + 4) refl) (no-more !))) (λ v₈ e₈.
         -- 10: [the words' last value; the store's; the receiver's; [κ₄]; [κ₃]; [α′]; [κ₀]; what is kept; records; [κ₁]]
-        land ! (from ! (stop !)) (init ! (10 + 8) refl (subst (λ (z : Val). T (hasTy (tyInt w64) z) × WT z) (sym (e₈ .0)) (tt, record { fits = e₈ .1 }))) $ rewrite ! (10 + 8) (λ (z : Val). ‵ (fat fullShare (tyInt w64) l₈ 0 z)) (e₈ .0) refl $
+        land ! (from ! (stop !)) (init ! (10 + 8) refl (subst (λ (z : Val). T (hasTy (tyInt w64) z) × WT z) (sym (e₈ .0))
+        (tt, record { fits = e₈ .1 }))) $ rewrite ! (10 + 8) (λ (z : Val). ‵ (fat fullShare (tyInt w64) l₈ 0 z)) (e₈ .0) refl $
         move ! (5 ∷ 7 ∷ 0 ∷ []) $ returned u32 κ₂ q₂ (y γ₂ w₁) (length ws) ! tt α′ ε′ w₂ room₂ (f .1) (e .0 ∙ f .1) $
         -- 9: [words; [κ₂]; the store's last value; the receiver's; [κ₄]; [κ₃]; [κ₀]; records; [κ₁]]: the words are shared for `save`
         sharing u32 κ₂ q₂ (y γ₂ w₂) (length ws) ! tt (λ β′ δ′.
         -- 10: [the shared words; what is kept; [β′]; the store's last value; the receiver's; [κ₄]; [κ₃]; [κ₀]; records; [κ₁]]
-        assigns ! (addr ! (from ! (fld ! refl (hop ! (look-in ! (10 + 2) (sub ! 0 refl (whole !))) (stop !))))) (from ! (stop !)) (init ! (10 + 20) refl (tt, tt)) $
-        assigns ! (agg ! (and-then ! (var ! (10 + 20) refl) (and-then ! (load ! (from ! (fld ! refl (stop !))) (look-in ! (10 + 2) (sub ! 1 refl (whole !)))) (no-more !)))) (from ! (stop !)) (init ! (10 + 21) refl (tt, (tt, (record { fits = room₁ .0 }, tt)))) $
-        assigns ! (addr ! (from ! (fld ! refl (hop ! (look-in ! (10 + 3) (sub ! 0 refl (whole !))) (stop !))))) (from ! (stop !)) (init ! (10 + 22) refl (tt, tt)) $
-        assigns ! (agg ! (and-then ! (var ! (10 + 22) refl) (and-then ! (load ! (from ! (fld ! refl (stop !))) (look-in ! (10 + 3) (sub ! 1 refl (whole !)))) (no-more !)))) (from ! (stop !)) (init ! (10 + 23) refl (tt, (tt, (record { fits = room₂ .0 }, tt)))) $
-        move ! (9 ∷ 2 ∷ 8 ∷ 0 ∷ []) $ calls-save 𝓤 H A W mem run κ₁ (β′ ∷ []) q₁ fullShare (x γ₁) (y δ′ w₂) (m a) vx vy ! fm known-save (within-records a, within-words a w₂ (e .0 ∙ f .1)) (e₈ .1) (and-then ! (var ! (7 + 21) refl) (and-then ! (var ! (7 + 23) refl) (and-then ! (var ! (7 + 8) refl) (no-more !)))) (λ u₁ i.
+        assigns ! (addr ! (from ! (fld ! refl (hop ! (look-in ! (10 + 2) (sub ! 0 refl (whole !))) (stop !))))) (from ! (stop !))
+        (init ! (10 + 20) refl (tt, tt)) $
+        assigns ! (agg ! (and-then ! (var ! (10 + 20) refl) (and-then !
+        (load ! (from ! (fld ! refl (stop !))) (look-in ! (10 + 2) (sub ! 1 refl (whole !)))) (no-more !)))) (from ! (stop !))
+        (init ! (10 + 21) refl (tt, (tt, (record { fits = room₁ .0 }, tt)))) $
+        assigns ! (addr ! (from ! (fld ! refl (hop ! (look-in ! (10 + 3) (sub ! 0 refl (whole !))) (stop !))))) (from ! (stop !))
+        (init ! (10 + 22) refl (tt, tt)) $
+        assigns ! (agg ! (and-then ! (var ! (10 + 22) refl) (and-then !
+        (load ! (from ! (fld ! refl (stop !))) (look-in ! (10 + 3) (sub ! 1 refl (whole !)))) (no-more !)))) (from ! (stop !))
+        (init ! (10 + 23) refl (tt, (tt, (record { fits = room₂ .0 }, tt)))) $
+        move ! (9 ∷ 2 ∷ 8 ∷ 0 ∷ []) $ calls-save 𝓤 H A W mem run κ₁ (β′ ∷ []) q₁ fullShare (x γ₁) (y δ′ w₂) (m a) vx vy ! fm known-save
+        (within-records a, within-words a w₂ (e .0 ∙ f .1)) (e₈ .1)
+        (and-then ! (var ! (7 + 21) refl) (and-then ! (var ! (7 + 23) refl) (and-then ! (var ! (7 + 8) refl) (no-more !)))) (λ u₁ i.
         -- 9: [[κ₁]; [β′]; the records' last value; what is kept; the store's last value; the receiver's; [κ₄]; [κ₃]; [κ₀]]
         land ! (from ! (stop !)) (store ! (9 + 9) refl (subst (λ (z : Val). T (hasTy tyUnit z) × WT z) (sym (i .0)) (tt, tt))) $
         move ! (1 ∷ 3 ∷ []) $ unshared u32 κ₂ q₂ (y γ₂ w₂) (length ws) ! tt β′ room₂ (e .0 ∙ f .1) $
         -- 9: [words; [κ₂]; [κ₁]; the records' last value; the store's; the receiver's; [κ₄]; [κ₃]; [κ₀]]
-        assigns ! (of-opd ! (var ! (9 + 7) refl)) (from ! (stop !)) (init ! (9 + 0) refl (EL.lawful P.the-type P′.the-laws 𝓤 H A W tt .typed a _ is .0)) $
+        assigns ! (of-opd ! (var ! (9 + 7) refl)) (from ! (stop !))
+        (init ! (9 + 0) refl (EL.lawful P.the-type P′.the-laws 𝓤 H A W tt .typed a _ is .0)) $
         owned ! P.the-row (Is P.the-row) ((EL.makes P.the-type P′.the-plain) 𝓤 H A) a (v ∷ []) is $
-        returns ! (look ! 10 refl) $ move ! (10 ∷ 34 ∷ []) $ gone1 ! $ move ! (10 ∷ 33 ∷ []) $ gone1 ! $ move ! (10 ∷ 32 ∷ []) $ gone1 ! $ move ! (10 ∷ 31 ∷ []) $ gone1 ! $ move ! (10 ∷ 30 ∷ []) $ gone1 ! $ move ! (10 ∷ 29 ∷ []) $ gone1 ! $ move ! (10 ∷ 28 ∷ []) $ gone1 ! $ move ! (10 ∷ 27 ∷ []) $ gone1 ! $ move ! (10 ∷ 26 ∷ []) $ gone1 ! $ move ! (10 ∷ 25 ∷ []) $ gone1 ! $ move ! (10 ∷ 24 ∷ []) $ gone1 ! $ move ! (10 ∷ 23 ∷ []) $ gone1 ! $ move ! (10 ∷ 22 ∷ []) $ gone1 ! $ move ! (10 ∷ 21 ∷ []) $ gone1 ! $ move ! (10 ∷ 20 ∷ []) $ gone1 ! $ move ! (10 ∷ 19 ∷ []) $ gone1 ! $ move ! (10 ∷ 18 ∷ []) $ gone1 ! $ move ! (10 ∷ 17 ∷ []) $ gone1 ! $ move ! (10 ∷ 16 ∷ []) $ gone1 ! $ move ! (10 ∷ 15 ∷ []) $ gone1 ! $ move ! (10 ∷ 14 ∷ []) $ gone1 ! $ move ! (10 ∷ 13 ∷ []) $ gone1 ! $ move ! (10 ∷ 12 ∷ []) $ gone1 ! $ move ! (10 ∷ 11 ∷ []) $ gone1 ! $ free0 ! $
-        by ! (exits v a h w₂ u (received-in queue rs st dg n enough ws a h w₂ u wide (e .0 ∙ f .1) (e .2)) (i .1) (e .0 ∙ f .1) (e .1)))))))))))))))))))))))))))))))))))
+        returns ! (look ! 10 refl) $ gone ! 10 refl $
+        by ! (exits v a h w₂ u (received-in queue rs st dg n enough ws a h w₂ u wide (e .0 ∙ f .1) (e .2)) (i .1) (e .0 ∙ f .1)
+        (e .1)))))))))))))))))))))))))))))))))))
       where
         all : n ≤ length rs
         all = enough-few rs st dg n enough .0
 
         within-records : (a : Receive) → m a ≤ length rs
-        within-records a = let k : m a ≤ n = written-within (receiveAnswer a) n in let i : n ≤ length rs = enough-few rs st dg n enough .0 in omega arith
+        within-records a = let k : m a ≤ n = written-within (receiveAnswer a) n in let i : n ≤ length rs =
+            enough-few rs st dg n enough .0 in omega arith
 
         within-words : (a : Receive) (w : List ℕ) → length w ≡ length ws → rowWords * m a ≤ length w
         within-words a w e = let k : m a ≤ n = written-within (receiveAnswer a) n in omega arith
 
-module _ {M : Type 1} (𝓤 : URA M) (H : Heap 𝓤) (A : Atoms 𝓤) (W : Given 𝓤 H A) (mem : Memory → SProp 𝓤) (run : Routine → Fun 𝓤) (𝓣 : Tables 𝓤 H) (known-load : Triple 𝓤 (𝓣 .C #recv-queue·load) (Load 𝓤 H A mem run))
-    (known-core : Triple 𝓤 (𝓣 .C #recv-lent·receive-with) (Core 𝓤 H A mem run)) (known-saved : Triple 𝓤 (𝓣 .C #recv-queue·receiving·rows-saved) (RowsSaved 𝓤 H A mem run)) (known-save : Triple 𝓤 (𝓣 .C #recv-queue·save) (Save 𝓤 H A mem run)) where
+module _ {M : Type 1} (𝓤 : URA M) (H : Heap 𝓤) (A : Atoms 𝓤) (W : Given 𝓤 H A) (mem : Memory → SProp 𝓤) (run : Routine → Fun 𝓤)
+    (𝓣 : Tables 𝓤 H) (known-load : Triple 𝓤 (𝓣 .C #recv-queue·load) (Load 𝓤 H A mem run))
+    (known-core : Triple 𝓤 (𝓣 .C #recv-lent·receive-with) (Core 𝓤 H A mem run))
+    (known-saved : Triple 𝓤 (𝓣 .C #recv-queue·receiving·rows-saved) (RowsSaved 𝓤 H A mem run))
+    (known-save : Triple 𝓤 (𝓣 .C #recv-queue·save) (Save 𝓤 H A mem run)) where
   here-walks : Walks 𝓤 H A here.ended stayed (WpFn 𝓤 H (𝓣 .C) (𝓣 .Λ) code.function) (here.clauses 𝓤 H A mem run)
-  here-walks = walked 𝓤 H A here.ended stayed (here.clauses 𝓤 H A mem run) (WpFn 𝓤 H (𝓣 .C) (𝓣 .Λ) code.function) (λ κs. (ptr-vals, (slice-vals, (slice-vals, (uint-vals w64, (slice-vals, (slice-vals, tt)))))))
-      (λ κs. (mut-tells (named 0) (κs .0) Q.the-row, (mut-slice-tells (named 1) (κs .1 .0) C.the-row, (mut-slice-tells (named 2) (κs .1 .1 .0) u32, (uint-tells w64, (mut-slice-tells (named 3) (κs .1 .1 .1 .0) u8, (shr-slice-tells (named 4) (κs .1 .1 .1 .1 .0) u8, tt)))))))
-      (λ κs qs bounds a _ are. needs 𝓤 (Enough (now (a .1 .0)) (now (a .1 .1 .1 .1 .0)) (now (a .1 .1 .1 .1 .1 .0)) (a .1 .1 .1 .0) × (rowWords * a .1 .1 .1 .0 ≤ length (now (a .1 .1 .0)))) _ (λ fits.
-      walk 𝓤 H A W mem run (κs .0) (κs .1 .0) (κs .1 .1 .0) (κs .1 .1 .1 .0) (κs .1 .1 .1 .1 .0) (qs .0) (qs .1 .0) (qs .1 .1 .0) (qs .1 .1 .1 .0) (qs .1 .1 .1 .1 .0) (a .0 .ptr .0) (a .0 .ptr .1) (a .0 .name) (a .0 .now) (a .1 .0 .ptr .0) (a .1 .0 .ptr .1) (a .1 .0 .name) (a .1 .0 .now)
-      (a .1 .1 .0 .ptr .0) (a .1 .1 .0 .ptr .1) (a .1 .1 .0 .name) (a .1 .1 .0 .now) (a .1 .1 .1 .0) (a .1 .1 .1 .1 .0 .ptr .0) (a .1 .1 .1 .1 .0 .ptr .1) (a .1 .1 .1 .1 .0 .name) (a .1 .1 .1 .1 .0 .now) (a .1 .1 .1 .1 .1 .0 .ptr .0) (a .1 .1 .1 .1 .1 .0 .ptr .1) (a .1 .1 .1 .1 .1 .0 .name) (a .1 .1 .1 .1 .1 .0 .now)
-      (are .1 .0 .0 .1) (are .1 .1 .0 .0 .1) (are .1 .1 .1 .1 .0 .0 .1) (are .1 .1 .1 .1 .1 .0 .0 .1) (are .1 .1 .1 .0 .1) (fits .0) (fits .1) (𝓣 .C) (𝓣 .Λ) (fmOf 𝓤 H (W .laws) 𝓣) known-load known-core known-saved known-save))
+  here-walks = walked 𝓤 H A here.ended stayed (here.clauses 𝓤 H A mem run) (WpFn 𝓤 H (𝓣 .C) (𝓣 .Λ) code.function)
+      (λ κs. (ptr-vals, (slice-vals, (slice-vals, (uint-vals w64, (slice-vals, (slice-vals, tt)))))))
+      (λ κs. (
+        mut-tells (named 0) (κs .0) Q.the-row,
+        (
+          mut-slice-tells (named 1) (κs .1 .0) C.the-row,
+          (
+            mut-slice-tells (named 2) (κs .1 .1 .0) u32,
+            (
+              uint-tells w64,
+              (mut-slice-tells (named 3) (κs .1 .1 .1 .0) u8, (shr-slice-tells (named 4) (κs .1 .1 .1 .1 .0) u8, tt)),
+            ),
+          ),
+        ),
+      ))
+      (λ κs qs bounds a _ are. needs 𝓤 (Enough (now (a .1 .0)) (now (a .1 .1 .1 .1 .0)) (now (a .1 .1 .1 .1 .1 .0)) (a .1 .1 .1 .0)
+      × (rowWords * a .1 .1 .1 .0 ≤ length (now (a .1 .1 .0)))) _ (λ fits.
+      walk 𝓤 H A W mem run (κs .0) (κs .1 .0) (κs .1 .1 .0) (κs .1 .1 .1 .0) (κs .1 .1 .1 .1 .0) (qs .0) (qs .1 .0) (qs .1 .1 .0)
+      (qs .1 .1 .1 .0) (qs .1 .1 .1 .1 .0) (a .0 .ptr .0) (a .0 .ptr .1) (a .0 .name) (a .0 .now) (a .1 .0 .ptr .0) (a .1 .0 .ptr .1)
+      (a .1 .0 .name) (a .1 .0 .now)
+      (a .1 .1 .0 .ptr .0) (a .1 .1 .0 .ptr .1) (a .1 .1 .0 .name) (a .1 .1 .0 .now) (a .1 .1 .1 .0) (a .1 .1 .1 .1 .0 .ptr .0)
+      (a .1 .1 .1 .1 .0 .ptr .1) (a .1 .1 .1 .1 .0 .name) (a .1 .1 .1 .1 .0 .now) (a .1 .1 .1 .1 .1 .0 .ptr .0)
+      (a .1 .1 .1 .1 .1 .0 .ptr .1) (a .1 .1 .1 .1 .1 .0 .name) (a .1 .1 .1 .1 .1 .0 .now)
+      (are .1 .0 .0 .1) (are .1 .1 .0 .0 .1) (are .1 .1 .1 .1 .0 .0 .1) (are .1 .1 .1 .1 .1 .0 .0 .1) (are .1 .1 .1 .0 .1) (fits .0)
+      (fits .1) (𝓣 .C) (𝓣 .Λ) (fmOf 𝓤 H (W .laws) 𝓣) known-load known-core known-saved known-save))
 
   here-meets : Meets 𝓤 H A here.signature (WpFn 𝓤 H (𝓣 .C) (𝓣 .Λ) code.function) (here.spec 𝓤 H A mem run)
-  here-meets = walk-meets 𝓤 H A here.ended stayed W
-      (goes-gave-ref 𝓤 H A W 5 0 tt (plain (λ _. Q.the-row)), (goes-gave-slice 𝓤 H A W 5 1 tt (plain (λ _. C.the-row)), (goes-slice 𝓤 H A W 5 2 tt (plain (λ _. u32)), (goes-dropped 𝓤 H A W 5 (plain (λ _. usize)) yes (λ κs x f. refl), (goes-gave-slice 𝓤 H A W 5 3 tt (plain (λ _. u8)), (goes-dropped 𝓤 H A W 5 (shrSliceOf (4 ∷ []) tt (plain (λ _. u8))) yes (λ κs x f. refl), tt))))))
+  here-meets = walk-meets 𝓤 H A here.ended stayed W (
+    goes-gave-ref 𝓤 H A W 5 0 tt (plain (λ _. Q.the-row)),
+    (
+      goes-gave-slice 𝓤 H A W 5 1 tt (plain (λ _. C.the-row)),
+      (
+        goes-slice 𝓤 H A W 5 2 tt (plain (λ _. u32)),
+        (
+          goes-dropped 𝓤 H A W 5 (plain (λ _. usize)) yes (λ κs x f. refl),
+          (
+            goes-gave-slice 𝓤 H A W 5 3 tt (plain (λ _. u8)),
+            (goes-dropped 𝓤 H A W 5 (shrSliceOf (4 ∷ []) tt (plain (λ _. u8))) yes (λ κs x f. refl), tt),
+          ),
+        ),
+      ),
+    ),
+  )
       (here.clauses 𝓤 H A mem run) (WpFn 𝓤 H (𝓣 .C) (𝓣 .Λ) code.function) (WpFn-mono 𝓤 H (W .laws) 𝓣 code.function) here-walks
 
 pub receive-in-spec : {M : Type 1} → stated.statement M
@@ -190,7 +326,11 @@ receive-in-spec 𝓤 H 𝓜 𝓖 𝓡 =
     entered 𝓤 H (tripleOf 𝓤 H (𝓖 .A) here.signature (here.spec 𝓤 H (𝓖 .A) (𝓜 .mem) (𝓡 .run)))
     (tables 𝓤 H 𝓜 𝓡 code.env .C) (tables 𝓤 H 𝓜 𝓡 code.env .Λ) #recv-queue·receiving·receive-in code.function (code.unfolded 𝓤 H 𝓜 𝓡)
     (here-meets 𝓤 H (𝓖 .A) (givenOf 𝓤 H 𝓜 𝓖) (𝓜 .mem) (𝓡 .run) (tablesOf 𝓤 H 𝓜 (tables 𝓤 H 𝓜 𝓡 code.env))
-    (cited 𝓤 H (Load 𝓤 H (𝓖 .A) (𝓜 .mem) (𝓡 .run)) 𝓜 𝓡 code.env #recv-queue·load load-def.routine code.calls-recv-queue·load (load-thm.met 𝓤 H 𝓜 𝓖 𝓡))
-    (cited 𝓤 H (Core 𝓤 H (𝓖 .A) (𝓜 .mem) (𝓡 .run)) 𝓜 𝓡 code.env #recv-lent·receive-with core-def.routine code.calls-recv-lent·receive-with (core-thm.met 𝓤 H 𝓜 𝓖 𝓡))
-    (cited 𝓤 H (RowsSaved 𝓤 H (𝓖 .A) (𝓜 .mem) (𝓡 .run)) 𝓜 𝓡 code.env #recv-queue·receiving·rows-saved rows-saved-def.routine code.calls-recv-queue·receiving·rows-saved (rows-saved-thm.met 𝓤 H 𝓜 𝓖 𝓡))
-    (cited 𝓤 H (Save 𝓤 H (𝓖 .A) (𝓜 .mem) (𝓡 .run)) 𝓜 𝓡 code.env #recv-queue·save save-def.routine code.calls-recv-queue·save (save-thm.met 𝓤 H 𝓜 𝓖 𝓡)))
+    (cited 𝓤 H (Load 𝓤 H (𝓖 .A) (𝓜 .mem) (𝓡 .run)) 𝓜 𝓡 code.env #recv-queue·load load-def.routine code.calls-recv-queue·load
+    (load-thm.met 𝓤 H 𝓜 𝓖 𝓡))
+    (cited 𝓤 H (Core 𝓤 H (𝓖 .A) (𝓜 .mem) (𝓡 .run)) 𝓜 𝓡 code.env #recv-lent·receive-with core-def.routine code.calls-recv-lent·receive-with
+    (core-thm.met 𝓤 H 𝓜 𝓖 𝓡))
+    (cited 𝓤 H (RowsSaved 𝓤 H (𝓖 .A) (𝓜 .mem) (𝓡 .run)) 𝓜 𝓡 code.env #recv-queue·receiving·rows-saved rows-saved-def.routine
+    code.calls-recv-queue·receiving·rows-saved (rows-saved-thm.met 𝓤 H 𝓜 𝓖 𝓡))
+    (cited 𝓤 H (Save 𝓤 H (𝓖 .A) (𝓜 .mem) (𝓡 .run)) 𝓜 𝓡 code.env #recv-queue·save save-def.routine code.calls-recv-queue·save
+    (save-thm.met 𝓤 H 𝓜 𝓖 𝓡)))

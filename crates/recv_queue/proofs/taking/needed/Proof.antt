@@ -1,6 +1,6 @@
 use borrow.Author.Needs.{needs}
 use Rattle.base.proofs.Ifs.{ifs, by-ifs}
-use Rattle.narrow.specs.Needs.{takeNeeds}
+use Rattle.recv_prefix.specs.Needs.{takeNeeds}
 use Rattle.recv_queue.proofs.taking.needed.Statement.{statement}
 use Rattle.recv_queue.proofs.taking.needed.Tie as tie
 

@@ -1,8 +1,0 @@
-pub mod Work
-pub mod Own
-pub mod Placing
-pub mod Moves
-pub mod Frames
-pub mod Flush
-pub mod Outcome
-pub mod Receives

@@ -1,0 +1,15 @@
+pub mod Keeps
+pub mod ByParts
+pub mod Accepting
+pub mod FramesIn
+pub mod Nexts
+pub mod Unsent
+pub mod Parts
+pub mod Queues
+pub mod AnswerCases
+pub mod Receives
+pub mod Hands
+pub mod Steps
+pub mod Runs
+pub mod Drains
+pub mod Demand

@@ -1,0 +1,207 @@
+-- `recv_channel::advance_all` meets its contract: a walk of its MIR, by hand, a loop of two calls. The slice of numbers is Copy: each turn
+-- passes a copy of it on. The receiver's reference is lent again in each turn, for a lifetime that the turn makes and ends.
+-- Assumes nothing.
+use Rattle.walks.proofs.Walk.{_≡_, refl, sym, subst, ℕ, suc, _+_, _<_, _^_, add-one, arith, Bool, List, [], _∷_, length, lit<, URA}
+use Rattle.walks.proofs.Walk.{fullShare, Ty, named, erased, imm, mut, w32, w64, tyInt, tyBool, tyUnit, tyRef, Val, vunit, vbool, vint, vptr}
+use Rattle.walks.proofs.Walk.{hasTy, WT, SProp, ent, emp, via, fst∗, Lft, GName, Share, Fml, ftrue, fat, froom, fdies, flft, Memory}
+use Rattle.walks.proofs.Walk.{Routine, Heap, Out, Env, afterSeq, afterBlock, afterTurn, Wp, atReturn, WpFn, Tables, Atoms, FmC, fmOf}
+use Rattle.walks.proofs.Walk.{WpFn-mono, Fun}
+use Rattle.walks.proofs.Walk.{givenOf, tables, tablesOf, Given, Item, ‵, _⊛_, ⋆, anyQ, atRet, _$_, _∵_, !, qed, by, move, keep, drop, use1}
+use Rattle.walks.proofs.Walk.{split, join, rewrite, fsplit, fjoin, feqI, suffices, frame, done, look, store, init, forget, stop, hop, from}
+use Rattle.walks.proofs.Walk.{lit, unit-lit, of-opd, bin, addr, and-then, no-more, land, assigns, assigns-last, stays, leaves-loop, returns}
+use Rattle.walks.proofs.Walk.{enter, alloc1, alloc0, params1, pass1, pass0, exec, yes, owns, pointee, u32, RefT, MutRef}
+use Rattle.walks.proofs.Walk.{ptr-vals, mut-tells, sliceTy, sliceVal, ShrSlice, Room, slice-vals, shr-slice-tells, shr-slice-copy, plain}
+use Rattle.walks.proofs.Walk.{shrSliceOf, nothing, onEntry, Triple, Meets, tripleOf, entered, cited, says, Stays, stay-ref, stay-dropped}
+use Rattle.walks.proofs.Walk.{walkOf, Walks, ends-at, walked, goes-ref, goes-dropped, walk-meets}
+use lib.Dec.{T as Holds}
+use Rattle.receiver.specs.declared.RecvQueue.{RecvQueue}
+use Rattle.receiver.proofs.RecvQueue as T
+use Rattle.walks.proofs.Order.{entry, var, gone}
+use Rattle.walks.proofs.Counting.{Turn, counts, holds, fails}
+use Rattle.receiver.specs.Parts.{nextAt}
+use Rattle.recv_channel.specs.Advance.{advancedTo}
+use Rattle.recv_channel.proofs.Laws.{upTo, up-none, up-more, up-all}
+use Rattle.walks.proofs.Behind.{lending-again, returned-again}
+use Rattle.recv_channel.proofs.Calls.{NextAt, calls-next-at, AdvanceAt, calls-advance-at}
+use Rattle.recv_channel.proofs.next_at.Symbol as next-at-def
+use Rattle.recv_channel.proofs.next_at.Symbol.{name as #recv-channel·next-at}
+use Rattle.recv_channel.proofs.next_at.Met as next-at-thm
+use Rattle.recv_channel.proofs.advance_at.Symbol as advance-at-def
+use Rattle.recv_channel.proofs.advance_at.Symbol.{name as #recv-channel·advance-at}
+use Rattle.recv_channel.proofs.advance_at.Met as advance-at-thm
+use Rattle.recv_channel.proofs.advance_all.Key.{name as #recv-channel·advance-all}
+use Rattle.recv_channel.proofs.advance_all as f
+use Rattle.recv_channel.proofs.advance_all.Statement as stated
+use Rattle.recv_channel.proofs.advance_all.Code as code
+use Rattle.recv_channel.proofs.advance_all.Code.Mir as mir′
+
+-- the types of the locals
+abbrev word : Ty
+word = tyInt w64
+
+abbrev number : Ty
+number = tyInt w32
+
+abbrev ref₁ : Ty
+ref₁ = tyRef (named 0) mut (pointee (T.the-row .written))
+
+abbrev slice₂ : Ty
+slice₂ = sliceTy (tyRef (named 1) imm (tyInt w32))
+
+abbrev refE : Ty
+refE = tyRef erased mut (pointee (T.the-row .written))
+
+abbrev stayed : Stays (f.ended .signature .params) (f.ended .kept)
+stayed = (stay-ref (0 ∷ []) tt (plain (λ _. T.the-row)), (stay-dropped (shrSliceOf (1 ∷ []) tt (plain (λ _. u32))) yes, tt))
+
+module _ {M : Type 1} (𝓤 : URA M) (H : Heap 𝓤) (A : Atoms 𝓤) (W : Given 𝓤 H A) (mem : Memory → SProp 𝓤) (run : Routine → Fun 𝓤)
+    (κ₀ κ₁ : Lft) (q₀ q₁ : Share) (b₀ o₀ : ℕ) (γ₀ : GName) (h : RecvQueue) (b₁ o₁ : ℕ) (γ₁ : GName) (ns : List ℕ)
+    (room₁ : Room u32 (length ns)) where
+  abbrev x : GName → RecvQueue → RefT RecvQueue
+  x γ z = record { ptr = (b₀, o₀); name = γ; now = z }
+
+  abbrev y : RefT (List ℕ)
+  y = record { ptr = (b₁, o₁); name = γ₁; now = ns }
+
+  abbrev vx : Val
+  vx = vptr b₀ o₀
+
+  abbrev vy : Val
+  vy = sliceVal (b₁, o₁) (length ns)
+
+  abbrev Que : RecvQueue → Fml
+  Que z = MutRef (named 0) κ₀ T.the-row .own (x γ₀ z) (vx ∷ [])
+
+  abbrev Nxt : Fml
+  Nxt = ShrSlice (named 1) κ₁ u32 .own y (vy ∷ [])
+
+  abbrev Bound : walkOf 𝓤 H A f.ended stayed (f.clauses 𝓤 H A mem run) .Ghost
+  Bound = (((κ₀, (κ₁, tt)), (q₀, (q₁, tt)), tt, (x γ₀ h, (y, tt)), (vx ∷ [], (vy ∷ [], tt))), tt)
+
+  abbrev Post : Val → SProp 𝓤
+  Post = walkOf 𝓤 H A f.ended stayed (f.clauses 𝓤 H A mem run) .post Bound
+
+  exits : ent 𝓤 (⋆ 𝓤 H A (‵ (Que (upTo 32 h ns)) ∷ ‵ (flft κ₀ q₀) ∷ ‵ (flft κ₁ q₁) ∷ [])) (Post vunit)
+  exits =
+      qed W (‵ (Que (upTo 32 h ns)) ∷ ‵ (flft κ₀ q₀) ∷ ‵ (flft κ₁ q₁) ∷ []) ∵
+      suffices ! _ (ends-at 𝓤 H A f.ended stayed (f.clauses 𝓤 H A mem run) W Bound vunit tt (upTo 32 h ns, (tt, tt)) (tt, (tt, tt))) $
+      says ! (up-all h ns) $
+      nothing ! $ move ! (3 ∷ 0 ∷ []) $ join ! $ move ! (2 ∷ 0 ∷ []) $ join ! $ frame ! $
+      nothing ! $ nothing ! $ fjoin ! $ move ! (1 ∷ 0 ∷ []) $ fjoin ! $ feqI ! (List Val) (vunit ∷ []) (vunit ∷ []) refl $
+      move ! (1 ∷ 0 ∷ []) $ done !
+
+  module _ (𝓣 : Tables 𝓤 H) (fm : FmC 𝓤 H (W .laws) (𝓣 .C)) (known-next : Triple 𝓤 (𝓣 .C #recv-channel·next-at) (NextAt 𝓤 H A mem run))
+      (known-at : Triple 𝓤 (𝓣 .C #recv-channel·advance-at) (AdvanceAt 𝓤 H A mem run)) (l₀ l₁ l₂ l₃ l₄ l₅ l₆ l₇ : ℕ) where
+    abbrev E : Env 𝓤 H
+    E = (tyUnit, l₀) ∷ (ref₁, l₁) ∷ (slice₂, l₂) ∷ (word, l₃) ∷ (number, l₄) ∷ (tyBool, l₅) ∷ (tyUnit, l₆) ∷ (refE, l₇) ∷ []
+
+    -- at the head of the loop, with i channels advanced: four things owned, then the locals _0, …, _7 (local i is at 4 + i), then that each
+    -- dies
+    abbrev At : ℕ → List (Item 𝓤)
+    At i = ‵ (Que (upTo i h ns)) ∷ ‵ Nxt ∷ ‵ (flft κ₀ q₀) ∷ ‵ (flft κ₁ q₁)
+        ∷ ‵ (froom tyUnit l₀ 0) ∷ ‵ (fat fullShare ref₁ l₁ 0 vx) ∷ ‵ (fat fullShare slice₂ l₂ 0 vy)
+        ∷ ‵ (fat fullShare word l₃ 0 (vint w64 i)) ∷ ‵ (froom number l₄ 0) ∷ ‵ (froom tyBool l₅ 0) ∷ ‵ (froom tyUnit l₆ 0)
+        ∷ ‵ (froom refE l₇ 0)
+        ∷ ‵ (fdies tyUnit l₀) ∷ ‵ (fdies ref₁ l₁) ∷ ‵ (fdies slice₂ l₂) ∷ ‵ (fdies word l₃) ∷ ‵ (fdies number l₄) ∷ ‵ (fdies tyBool l₅)
+        ∷ ‵ (fdies tyUnit l₆) ∷ ‵ (fdies refE l₇) ∷ []
+
+    abbrev Left : Out → SProp 𝓤
+    Left = afterBlock 𝓤 H (afterSeq 𝓤 H (Wp 𝓤 H (𝓣 .C) (𝓣 .Λ) E mir′.t-3 (atReturn 𝓤 H E Post)) (atReturn 𝓤 H E Post))
+
+    -- a turn that advances one channel
+    more : (i : ℕ) (X : SProp 𝓤) → i < 32 → Unit {0} → (Unit {0} → ent 𝓤 (⋆ 𝓤 H A (At (suc i))) X) → ent 𝓤 (⋆ 𝓤 H A (At i))
+        (Turn 𝓤 H A W 𝓣 E mir′.turn-1 Left X)
+    unfolding afterTurn
+    more i X small _ k =
+        qed W (At i) ∵ exec ! (𝓣 .C) (𝓣 .Λ) E mir′.turn-1 (anyQ (afterTurn 𝓤 H X Left)) $
+        assigns ! (bin ! (var ! (4 + 3) refl) (lit ! tt) tt) (from ! (stop !)) (init ! (4 + 5) refl (tt, tt)) $
+        rewrite ! (4 + 5) (λ (t : Bool). ‵ (fat fullShare tyBool l₅ 0 (vbool t))) (holds i 32 small) refl $ stays ! (var ! (4 + 5) refl) $
+        -- the numbers are passed on as a copy
+        move ! (1 ∷ []) $ use1 W (‵ Nxt ⊛ ‵ Nxt) (shr-slice-copy 𝓤 H A W (named 1) κ₁ u32 .twice y (vy ∷ [])) $ split ! $
+        move ! (4 ∷ 0 ∷ []) $
+        -- 5: [[κ₁]; numbers; numbers; receiver; [κ₀]]
+        calls-next-at 𝓤 H A W mem run κ₁ q₁ y i vy ! fm known-next fits-word
+        (and-then ! (var ! (4 + 2) refl) (and-then ! (var ! (4 + 3) refl) (no-more !))) (λ fits.
+        -- 4: [[κ₁]; numbers; receiver; [κ₀]]
+        land ! (from ! (stop !)) (init ! (4 + 4) refl (tt, record { fits = fits })) $
+        assigns ! (addr ! (from ! (hop ! (look ! (4 + 1) refl) (stop !)))) (from ! (stop !)) (init ! (4 + 7) refl (tt, tt)) $
+        move ! (2 ∷ 3 ∷ []) $ lending-again T.the-row κ₀ q₀ (x γ₀ (upTo i h ns)) ! tt (λ α δ.
+        -- 5: [the lent receiver; what is kept; [α]; [κ₁]; numbers]
+        move ! (2 ∷ 0 ∷ []) $ calls-advance-at 𝓤 H A W mem run (α ∷ []) fullShare (x δ (upTo i h ns)) i (nextAt ns i) vx ! fm known-at small
+        fits-word fits (and-then ! (var ! (4 + 7) refl) (and-then ! (var ! (4 + 3) refl) (and-then ! (var ! (4 + 4) refl) (no-more !))))
+        (λ u e.
+        -- 5: [[α]; the receiver's last value; what is kept; [κ₁]; numbers]
+        land ! (from ! (stop !)) (init ! (5 + 6) refl (subst (λ (z : Val). Holds (hasTy tyUnit z) × WT z) (sym e) (tt, tt))) $
+        move ! (0 ∷ 2 ∷ 1 ∷ []) $ returned-again T.the-row κ₀ q₀ (x γ₀ (upTo i h ns)) ! tt α δ (advancedTo (upTo i h ns) i (nextAt ns i)) $
+        -- 4: [receiver; [κ₀]; [κ₁]; numbers]
+        rewrite ! 0 (λ (z : RecvQueue). ‵ (Que z)) (up-more h ns i) refl $
+        assigns-last ! (bin ! (var ! (4 + 3) refl) (lit ! tt) (record { fits = next })) (from ! (stop !))
+        (store ! (4 + 3) refl (tt, record { fits = next })) $ rewrite ! (4 + 3) (λ (j : ℕ). ‵ (fat fullShare word l₃ 0 (vint w64 j)))
+        (add-one i) refl $
+        forget ! (4 + 4) refl $ forget ! (4 + 5) refl $ forget ! (4 + 6) refl $ forget ! (4 + 7) refl $ move ! (0 ∷ 3 ∷ 1 ∷ 2 ∷ []) $
+        by ! (k tt))))
+      where
+        fits-word : i < 2 ^ 64
+        fits-word = omega arith
+
+        next : i + 1 < 2 ^ 64
+        next = omega arith
+
+    -- the turn that leaves the loop, and the rest of the body
+    ends : (X : SProp 𝓤) → Unit {0} → ent 𝓤 (⋆ 𝓤 H A (At 32)) (Turn 𝓤 H A W 𝓣 E mir′.turn-1 Left X)
+    unfolding afterTurn
+    ends X _ =
+        qed W (At 32) ∵ exec ! (𝓣 .C) (𝓣 .Λ) E mir′.turn-1 (anyQ (afterTurn 𝓤 H X Left)) $
+        assigns ! (bin ! (var ! (4 + 3) refl) (lit ! tt) tt) (from ! (stop !)) (init ! (4 + 5) refl (tt, tt)) $
+        rewrite ! (4 + 5) (λ (t : Bool). ‵ (fat fullShare tyBool l₅ 0 (vbool t))) (fails 32) refl $ leaves-loop ! (var ! (4 + 5) refl) $
+        exec ! (𝓣 .C) (𝓣 .Λ) E mir′.t-3 (atRet E Post) $ assigns ! (of-opd ! (unit-lit !)) (from ! (stop !)) (init ! (4 + 0) refl (tt, tt))
+        $
+        returns ! (look ! 4 refl) $ gone ! 4 refl $ move ! (1 ∷ []) $ drop ! $
+        by ! exits
+
+  walk : (𝓣 : Tables 𝓤 H) → FmC 𝓤 H (W .laws) (𝓣 .C) → Triple 𝓤 (𝓣 .C #recv-channel·next-at) (NextAt 𝓤 H A mem run)
+      → Triple 𝓤 (𝓣 .C #recv-channel·advance-at) (AdvanceAt 𝓤 H A mem run)
+      → ent 𝓤 (onEntry 𝓤 H A f.signature (κ₀, (κ₁, tt)) (q₀, (q₁, tt)) (x γ₀ h, (y, tt)) (vx ∷ [], (vy ∷ [], tt)))
+      (WpFn 𝓤 H (𝓣 .C) (𝓣 .Λ) code.function (vx ∷ vy ∷ []) Post)
+  walk 𝓣 fm known-next known-at =
+      qed W ((‵ (flft κ₀ q₀) ⊛ (‵ (flft κ₁ q₁) ⊛ ‵ ftrue)) ∷ ‵ (owns (MutRef (named 0) κ₀ T.the-row ∷ ShrSlice (named 1) κ₁ u32 ∷ [])
+      (x γ₀ h, (y, tt)) (vx ∷ [], (vy ∷ [], tt))) ∷ []) ∵ enter ! (𝓣 .C) (𝓣 .Λ) code.function (vx ∷ vy ∷ []) _ $
+      alloc1 ! (λ l₀. alloc1 !
+      (λ l₁. alloc1 ! (λ l₂. alloc1 ! (λ l₃. alloc1 ! (λ l₄. alloc1 ! (λ l₅. alloc1 ! (λ l₆. alloc1 ! (λ l₇. alloc0 ! $ params1 ! $
+      pass1 ! (init ! 12 refl (tt, tt)) $ pass1 ! (init ! 10 refl (tt, (tt, (record { fits = room₁ .0 }, tt)))) $ pass0 ! $
+      assigns ! (of-opd ! (lit ! tt)) (from ! (stop !)) (init ! 8 refl (tt, record { fits = lit< tt })) $
+      move ! (17 ∷ []) $ fsplit ! $ move ! (1 ∷ []) $ fsplit ! $ move ! (19 ∷ []) $ split ! $ move ! (1 ∷ []) $ split ! $
+      -- [[κ₁]; true; [κ₀]; numbers; true; receiver; _7; …; …; _0; …]
+      rewrite ! 5 (λ (z : RecvQueue). ‵ (Que z)) (up-none h ns) refl $ keep ! (5 ∷ 3 ∷ 2 ∷ 0 ∷ entry 6 8) $
+      by ! (counts 𝓤 H A W 𝓣 (E 𝓣 fm known-next known-at l₀ l₁ l₂ l₃ l₄ l₅ l₆ l₇) mir′.turn-1
+      (Left 𝓣 fm known-next known-at l₀ l₁ l₂ l₃ l₄ l₅ l₆ l₇) 32 (λ _. Unit {0})
+      (λ i. ⋆ 𝓤 H A (At 𝓣 fm known-next known-at l₀ l₁ l₂ l₃ l₄ l₅ l₆ l₇ i))
+      (more 𝓣 fm known-next known-at l₀ l₁ l₂ l₃ l₄ l₅ l₆ l₇) (ends 𝓣 fm known-next known-at l₀ l₁ l₂ l₃ l₄ l₅ l₆ l₇) tt)))))))))
+
+module _ {M : Type 1} (𝓤 : URA M) (H : Heap 𝓤) (A : Atoms 𝓤) (W : Given 𝓤 H A) (mem : Memory → SProp 𝓤) (run : Routine → Fun 𝓤)
+    (𝓣 : Tables 𝓤 H) (known-next : Triple 𝓤 (𝓣 .C #recv-channel·next-at) (NextAt 𝓤 H A mem run))
+    (known-at : Triple 𝓤 (𝓣 .C #recv-channel·advance-at) (AdvanceAt 𝓤 H A mem run)) where
+  here-walks : Walks 𝓤 H A f.ended stayed (WpFn 𝓤 H (𝓣 .C) (𝓣 .Λ) code.function) (f.clauses 𝓤 H A mem run)
+  here-walks = walked 𝓤 H A f.ended stayed (f.clauses 𝓤 H A mem run) (WpFn 𝓤 H (𝓣 .C) (𝓣 .Λ) code.function)
+      (λ κs. (ptr-vals, (slice-vals, tt))) (λ κs. (mut-tells (named 0) (κs .0) T.the-row, (shr-slice-tells (named 1) (κs .1 .0) u32, tt)))
+      (λ κs qs bounds a _ are. via 𝓤 _ (fst∗ 𝓤 _ (emp 𝓤))
+      (walk 𝓤 H A W mem run (κs .0) (κs .1 .0) (qs .0) (qs .1 .0) (a .0 .ptr .0) (a .0 .ptr .1) (a .0 .name) (a .0 .now) (a .1 .0 .ptr .0)
+      (a .1 .0 .ptr .1) (a .1 .0 .name) (a .1 .0 .now) (are .1 .0 .0 .1) 𝓣 (fmOf 𝓤 H (W .laws) 𝓣) known-next known-at))
+
+  here-meets : Meets 𝓤 H A f.signature (WpFn 𝓤 H (𝓣 .C) (𝓣 .Λ) code.function) (f.spec 𝓤 H A mem run)
+  here-meets = walk-meets 𝓤 H A f.ended stayed W (
+    goes-ref 𝓤 H A W 2 0 tt (plain (λ _. T.the-row)),
+    (goes-dropped 𝓤 H A W 2 (shrSliceOf (1 ∷ []) tt (plain (λ _. u32))) yes (λ κs x g. refl), tt),
+  )
+      (f.clauses 𝓤 H A mem run) (WpFn 𝓤 H (𝓣 .C) (𝓣 .Λ) code.function) (WpFn-mono 𝓤 H (W .laws) 𝓣 code.function) here-walks
+
+pub advance-all-spec : {M : Type 1} → stated.statement M
+unfolding code.routine tablesOf
+advance-all-spec 𝓤 H 𝓜 𝓖 𝓡 =
+    entered 𝓤 H (tripleOf 𝓤 H (𝓖 .A) f.signature (f.spec 𝓤 H (𝓖 .A) (𝓜 .mem) (𝓡 .run)))
+    (tables 𝓤 H 𝓜 𝓡 code.env .C) (tables 𝓤 H 𝓜 𝓡 code.env .Λ) #recv-channel·advance-all code.function (code.unfolded 𝓤 H 𝓜 𝓡)
+    (here-meets 𝓤 H (𝓖 .A) (givenOf 𝓤 H 𝓜 𝓖) (𝓜 .mem) (𝓡 .run) (tablesOf 𝓤 H 𝓜 (tables 𝓤 H 𝓜 𝓡 code.env))
+    (cited 𝓤 H (NextAt 𝓤 H (𝓖 .A) (𝓜 .mem) (𝓡 .run)) 𝓜 𝓡 code.env #recv-channel·next-at next-at-def.routine code.calls-recv-channel·next-at
+    (next-at-thm.met 𝓤 H 𝓜 𝓖 𝓡))
+    (cited 𝓤 H (AdvanceAt 𝓤 H (𝓖 .A) (𝓜 .mem) (𝓡 .run)) 𝓜 𝓡 code.env #recv-channel·advance-at advance-at-def.routine
+    code.calls-recv-channel·advance-at (advance-at-thm.met 𝓤 H 𝓜 𝓖 𝓡)))

@@ -1,0 +1,162 @@
+-- `recv_channel::advance_at` meets its contract: a walk of its MIR, by hand. The borrow is opened, the field `channels` is cut out, its
+-- element c is lent to `advance` where it lies, comes back, the field goes back, and the borrow is closed at the new receiver.
+-- Assumes nothing.
+use Rattle.walks.proofs.Walk.{_≡_, refl, sym, subst, ℕ, _+_, _*_, _<_, _^_, arith, [], _∷_, List, set, getD, URA, fullShare, named, w32}
+use Rattle.walks.proofs.Walk.{w64, tyUnit, Val, vint, vunit, vptr, hasTy, WT, SProp, ent, sep, wand, GName, Lft, Share, ftrue, fat, flft}
+use Rattle.walks.proofs.Walk.{fobs, fbor, Memory, Routine, Heap, Calls, Loops, WpFn, Tables, Atoms, sem, Fun, givenOf, tables, tablesOf}
+use Rattle.walks.proofs.Walk.{Given, ‵, raw, _⊛_, ⋆, _$_, _∵_, !, qed, by, move, keep, drop, use1, use2, split, join, rewrite, fsplit}
+use Rattle.walks.proofs.Walk.{fsplit3}
+use Rattle.walks.proofs.Walk.{fjoin, fjoin3, feqI, suffices, frame, done, look, init, stop, hop, fld, from, lit, unit-lit, of-opd, addr}
+use Rattle.walks.proofs.Walk.{bin, and-then, no-more, land, assigns, returns, enter, alloc1, alloc0, params1, pass1, pass0, FmC}
+use Rattle.walks.proofs.Walk.{fmOf, WpFn-mono, yes, owns, mem, partAt, uint-vals, uint-tells, Array, u32, usize, RefT, MutRef, ptr-vals}
+use Rattle.walks.proofs.Walk.{mut-tells, plain, nothing, onEntry, Triple, Meets, tripleOf, entered, cited, says, Stays, stay-ref}
+use Rattle.walks.proofs.Walk.{stay-dropped, walkOf}
+use Rattle.walks.proofs.Walk.{goes-ref, goes-dropped, Walks, ends-at, walked, walk-meets}
+use lib.Dec.{T as Holds}
+use mir.Syntax.{tyPtr}
+use base.Logic.{apply∗}
+use types.Mut.{open-ref, close-ref}
+use types.SemTy.{Body}
+use borrow.Struct.Way.{Cut}
+use borrow.Struct.Behind.{put-at}
+use borrow.Struct.Items.{cut-records}
+use denote.Index.{place, place-is}
+use denote.Triple.Walked.{needs}
+use Rattle.receiver.specs.declared.Channel.{Channel}
+use Rattle.receiver.specs.declared.RecvQueue.{RecvQueue}
+use Rattle.receiver.proofs.Channel as C
+use Rattle.receiver.proofs.RecvQueue as T
+use Rattle.receiver.proofs.RecvQueue.Laws as T′
+use Rattle.walks.proofs.Order.{entry, var, gone}
+use Rattle.receiver.specs.Parts.{channelOf}
+use Rattle.recv_channel.specs.Advance.{withChannels, advancedTo}
+use Rattle.walks.proofs.Parts.{lending-element, returned-element}
+use Rattle.recv_channel.proofs.Calls.{Advance, calls-advance}
+use Rattle.recv_channel.proofs.advance.Symbol as advance-def
+use Rattle.recv_channel.proofs.advance.Symbol.{name as #recv-channel·advance}
+use Rattle.recv_channel.proofs.advance.Met as advance-thm
+use Rattle.recv_channel.proofs.advance_at.Key.{name as #recv-channel·advance-at}
+use Rattle.recv_channel.proofs.advance_at as f
+use Rattle.recv_channel.proofs.advance_at.Statement as stated
+use Rattle.recv_channel.proofs.advance_at.Code as code
+
+abbrev stayed : Stays (f.ended .signature .params) (f.ended .kept)
+stayed = (stay-ref (0 ∷ []) tt (plain (λ _. T.the-row)), (stay-dropped (plain (λ _. usize)) yes, (stay-dropped (plain (λ _. u32)) yes, tt)))
+
+module _ {M : Type 1} (𝓤 : URA M) (H : Heap 𝓤) (A : Atoms 𝓤) (W : Given 𝓤 H A) (at-mem : Memory → SProp 𝓤) (run : Routine → Fun 𝓤) (κ : Lft)
+    (q : Share) (b o : ℕ) (γ : GName) (h : RecvQueue) (c n : ℕ) (c-fits : c < 2 ^ 64) (n-fits : n < 2 ^ 32) (small : c < 32) where
+  abbrev x : RefT RecvQueue
+  x = record { ptr = (b, o); name = γ; now = h }
+
+  -- the channels afterwards, and the receiver with them
+  abbrev cs : List Channel
+  cs = set (h .channels) c (channelOf n)
+
+  abbrev h′ : RecvQueue
+  h′ = withChannels h cs
+
+  is-advanced : h′ ≡ advancedTo h c n
+  unfolding advancedTo
+  is-advanced = refl
+
+  -- the way back to the receiver, from the channels afterwards
+  abbrev back : SProp 𝓤
+  back = wand 𝓤 (sem 𝓤 H A (partAt (Array C.the-row 32) fullShare cs b (o + 520))) (sem 𝓤 H A (partAt T.the-row fullShare h′ b o))
+
+  -- the receiver in memory is its channels, 520 bytes on, and the way back
+  cuts : Cut 𝓤 H A fullShare T.the-row (Array C.the-row 32) 520 h h′ (h .channels) cs (b, o)
+  cuts = cut-records 𝓤 H A fullShare T.the-row C.the-type 32 520 h h′ (h .channels) cs (b, o)
+      (put-at 𝓤 H A W fullShare T.the-type T′.the-laws 2 520 refl refl (b, o) h h′ (T.struct .as-values h) cs refl refl)
+
+  -- where channel c lies
+  abbrev spot : ℕ
+  spot = place 4 (o + 520) c
+
+  abbrev Bound : walkOf 𝓤 H A f.ended stayed (f.clauses 𝓤 H A at-mem run) .Ghost
+  Bound = (((κ, tt), (q, tt), tt, (x, (c, (n, tt))), (vptr b o ∷ [], (vint w64 c ∷ [], (vint w32 n ∷ [], tt)))), tt)
+
+  abbrev Post : Val → SProp 𝓤
+  Post = walkOf 𝓤 H A f.ended stayed (f.clauses 𝓤 H A at-mem run) .post Bound
+
+  exits : ent 𝓤 (⋆ 𝓤 H A (‵ (fobs γ (T.the-row .coded .code h′)) ∷ ‵ (fbor κ (Body (mem T.the-row) b o γ)) ∷ ‵ (flft κ q) ∷ []))
+      (Post vunit)
+  exits =
+      qed W (‵ (fobs γ (T.the-row .coded .code h′)) ∷ ‵ (fbor κ (Body (mem T.the-row) b o γ)) ∷ ‵ (flft κ q) ∷ []) ∵
+      suffices ! _ (ends-at 𝓤 H A f.ended stayed (f.clauses 𝓤 H A at-mem run) W Bound vunit tt (h′, (tt, (tt, tt))) (tt, (tt, (tt, tt)))) $
+      says ! is-advanced $ nothing ! $ move ! (3 ∷ 0 ∷ []) $ join ! $
+      frame ! $ feqI ! (List Val) (vptr b o ∷ []) (vptr b o ∷ []) refl $ fjoin3 ! $ nothing ! $ nothing ! $ fjoin ! $ nothing ! $ fjoin ! $
+      move ! (1 ∷ 0 ∷ []) $ fjoin ! $
+      feqI ! (List Val) (vunit ∷ []) (vunit ∷ []) refl $ move ! (1 ∷ 0 ∷ []) $ done !
+
+  bytes-fit : c * 4 < 2 ^ 64
+  bytes-fit = omega arith
+
+  module _ (C₀ : Calls 𝓤 H) (Λ : Loops 𝓤 H) (fm : FmC 𝓤 H (W .laws) C₀)
+      (known : Triple 𝓤 (C₀ #recv-channel·advance) (Advance 𝓤 H A at-mem run)) where
+    walk : ent 𝓤 (onEntry 𝓤 H A f.signature (κ, tt) (q, tt) (x, (c, (n, tt))) (vptr b o ∷ [], (vint w64 c ∷ [], (vint w32 n ∷ [], tt))))
+        (WpFn 𝓤 H C₀ Λ code.function (vptr b o ∷ vint w64 c ∷ vint w32 n ∷ []) Post)
+    walk =
+        qed W ((‵ (flft κ q) ⊛ ‵ ftrue) ∷ ‵ (owns (MutRef (named 0) κ T.the-row ∷ usize ∷ u32 ∷ []) (x, (c, (n, tt)))
+        (vptr b o ∷ [], (vint w64 c ∷ [], (vint w32 n ∷ [], tt)))) ∷ []) ∵
+        enter ! C₀ Λ code.function (vptr b o ∷ vint w64 c ∷ vint w32 n ∷ []) _ $
+        alloc1 ! (λ l₀. alloc1 !
+        (λ l₁. alloc1 !
+        (λ l₂. alloc1 ! (λ l₃. alloc1 ! (λ l₄. alloc1 ! (λ l₅. alloc1 ! (λ l₆. alloc1 ! (λ l₇. alloc1 ! (λ l₈. alloc0 ! $ params1 ! $
+        pass1 ! (init ! 14 refl (tt, tt)) $ pass1 ! (init ! 12 refl (tt, record { fits = c-fits })) $
+        pass1 ! (init ! 10 refl (tt, record { fits = n-fits })) $ pass0 ! $
+        -- [_8; …; …; _0; …; [κ] and true; what the parameters own], then 3: [obs; the borrow; [κ]]
+        move ! (19 ∷ []) $ fsplit ! $ fsplit3 ! $ drop ! $ move ! (21 ∷ []) $ split ! $ keep ! (2 ∷ 3 ∷ 0 ∷ entry 5 9) $
+        assigns ! (bin ! (var ! (3 + 2) refl) (lit ! tt) (record { fits = bytes-fit })) (from ! (stop !))
+        (init ! (3 + 5) refl (tt, record { fits = bytes-fit })) $
+        assigns ! (addr ! (from ! (hop ! (look ! (3 + 1) refl) (fld ! refl (stop !))))) (from ! (stop !)) (init ! (3 + 6) refl (tt, tt)) $
+        assigns ! (bin ! (var ! (3 + 6) refl) (var ! (3 + 5) refl) tt) (from ! (stop !)) (init ! (3 + 7) refl (tt, tt)) $
+        rewrite ! (3 + 7) (λ (p : ℕ). ‵ (fat fullShare tyPtr l₇ 0 (vptr b p))) (sym (place-is 4 (o + 520) c)) refl $
+        assigns ! (addr ! (from ! (hop ! (look ! (3 + 7) refl) (stop !)))) (from ! (stop !)) (init ! (3 + 8) refl (tt, tt)) $
+        open-ref ! tt (mem T.the-row) {b = b} {o = o} $ use1 W (‵ (partAt (Array C.the-row 32) fullShare (h .channels) b (o + 520)) ⊛ raw
+        back) cuts $ split ! $
+        -- 5: [the channels; the way back; the open borrow; obs; auth]
+        lending-element C.the-row tt 32 b (o + 520) c ! tt (h .channels) (channelOf 0) small (λ len α δ.
+        -- 8: [the channel's reference; the lender's part; [α]; the other channels; the way back; the open borrow; obs; auth]
+        move ! (2 ∷ 0 ∷ []) $ calls-advance 𝓤 H A W at-mem run (α ∷ []) fullShare
+        (record { ptr = (b, spot); name = δ; now = getD (h .channels) c (channelOf 0) }) n (vptr b spot) ! fm known n-fits
+        (and-then ! (var ! (7 + 8) refl) (and-then ! (var ! (7 + 3) refl) (no-more !))) (λ v e.
+        -- 8: [[α]; the channel's last value; the lender's part; the other channels; the way back; the open borrow; obs; auth]
+        land ! (from ! (stop !)) (init ! (8 + 4) refl (subst (λ (z : Val). Holds (hasTy tyUnit z) × WT z) (sym e) (tt, tt))) $
+        move ! (0 ∷ 2 ∷ 1 ∷ []) $ returned-element C.the-row tt 32 b (o + 520) c ! tt (h .channels) (channelOf n) len small α δ $
+        use2 W (‵ (partAt T.the-row fullShare h′ b o)) (apply∗ 𝓤 (sem 𝓤 H A (partAt (Array C.the-row 32) fullShare cs b (o + 520)))
+        (sem 𝓤 H A (partAt T.the-row fullShare h′ b o))) $ close-ref ! tt (mem T.the-row) h′ {b = b} {o = o} $
+        -- 3: [obs; the borrow; [κ]]
+        assigns ! (of-opd ! (unit-lit !)) (from ! (stop !)) (init ! (3 + 0) refl (tt, tt)) $
+        returns ! (look ! 3 refl) $ gone ! 3 refl $ by ! exits)))))))))))
+
+module _ {M : Type 1} (𝓤 : URA M) (H : Heap 𝓤) (A : Atoms 𝓤) (W : Given 𝓤 H A) (at-mem : Memory → SProp 𝓤) (run : Routine → Fun 𝓤)
+    (𝓣 : Tables 𝓤 H) (known : Triple 𝓤 (𝓣 .C #recv-channel·advance) (Advance 𝓤 H A at-mem run)) where
+  here-walks : Walks 𝓤 H A f.ended stayed (WpFn 𝓤 H (𝓣 .C) (𝓣 .Λ) code.function) (f.clauses 𝓤 H A at-mem run)
+  here-walks = walked 𝓤 H A f.ended stayed (f.clauses 𝓤 H A at-mem run) (WpFn 𝓤 H (𝓣 .C) (𝓣 .Λ) code.function)
+      (λ κs. (ptr-vals, (uint-vals w64, (uint-vals w32, tt))))
+      (λ κs. (mut-tells (named 0) (κs .0) T.the-row, (uint-tells w64, (uint-tells w32, tt))))
+      (λ κs qs bounds a _ are. needs 𝓤 (a .1 .0 < 32) _ (λ small.
+      walk 𝓤 H A W at-mem run (κs .0) (qs .0) (a .0 .ptr .0) (a .0 .ptr .1) (a .0 .name) (a .0 .now) (a .1 .0) (a .1 .1 .0) (are .1 .0 .1)
+      (are .1 .1 .0 .1) small (𝓣 .C) (𝓣 .Λ) (fmOf 𝓤 H (W .laws) 𝓣) known))
+
+  here-meets : Meets 𝓤 H A f.signature (WpFn 𝓤 H (𝓣 .C) (𝓣 .Λ) code.function) (f.spec 𝓤 H A at-mem run)
+  here-meets = walk-meets 𝓤 H A f.ended stayed W (
+    goes-ref 𝓤 H A W 1 0 tt (plain (λ _. T.the-row)),
+    (
+      goes-dropped 𝓤 H A W 1 (plain (λ _. usize)) yes (λ κs x g. refl),
+      (
+        goes-dropped 𝓤 H A W 1 (plain (λ _. u32)) yes (λ κs x g. refl),
+        tt,
+      ),
+    ),
+  )
+      (f.clauses 𝓤 H A at-mem run) (WpFn 𝓤 H (𝓣 .C) (𝓣 .Λ) code.function) (WpFn-mono 𝓤 H (W .laws) 𝓣 code.function) here-walks
+
+pub advance-at-spec : {M : Type 1} → stated.statement M
+unfolding code.routine tablesOf
+advance-at-spec 𝓤 H 𝓜 𝓖 𝓡 =
+    entered 𝓤 H (tripleOf 𝓤 H (𝓖 .A) f.signature (f.spec 𝓤 H (𝓖 .A) (𝓜 .mem) (𝓡 .run)))
+    (tables 𝓤 H 𝓜 𝓡 code.env .C) (tables 𝓤 H 𝓜 𝓡 code.env .Λ) #recv-channel·advance-at code.function (code.unfolded 𝓤 H 𝓜 𝓡)
+    (here-meets 𝓤 H (𝓖 .A) (givenOf 𝓤 H 𝓜 𝓖) (𝓜 .mem) (𝓡 .run) (tablesOf 𝓤 H 𝓜 (tables 𝓤 H 𝓜 𝓡 code.env))
+    (cited 𝓤 H (Advance 𝓤 H (𝓖 .A) (𝓜 .mem) (𝓡 .run)) 𝓜 𝓡 code.env #recv-channel·advance advance-def.routine code.calls-recv-channel·advance
+    (advance-thm.met 𝓤 H 𝓜 𝓖 𝓡)))

@@ -1,0 +1,56 @@
+use mathlib.Core.Path.{_≡_, refl}
+use Prim.Native.Nat.{_-_}
+use native.Mathlib.Omega.{arith}
+use borrow.Author.Needs.{needs}
+use Rattle.recv_channel.proofs.Laws.{Filled, fill-more, filled-all}
+use Rattle.recv_channel.proofs.nexts_in.Statement.{statement}
+use Rattle.recv_channel.proofs.nexts_in.Tie as tie
+
+abbrev Inv-loop : tie.InvT-loop
+Inv-loop channels nexts₀ i₀ nexts i = Filled channels i nexts
+
+abbrev μ-loop : tie.MeasureT-loop
+μ-loop channels nexts₀ i₀ nexts i = 32 - i
+
+loop-holds : tie.Need-loop-holds Inv-loop μ-loop
+loop-holds c = record { few = omega arith; long = refl; at = λ j l. absurd (omega arith) }
+
+mul-channel : tie.Need-mul-channel Inv-loop μ-loop
+mul-channel c = search needs
+
+array-copy-out-channel : tie.Need-array-copy-out-channel Inv-loop μ-loop
+array-copy-out-channel c = search needs
+
+mul-nexts : tie.Need-mul-nexts Inv-loop μ-loop
+mul-nexts c = search needs
+
+array-write-nexts : tie.Need-array-write-nexts Inv-loop μ-loop
+array-write-nexts c = search needs
+
+add-i : tie.Need-add-i Inv-loop μ-loop
+add-i c = search needs
+
+loop-less : tie.Need-loop-less Inv-loop μ-loop
+loop-less c = search needs
+
+loop-again : tie.Need-loop-again Inv-loop μ-loop
+loop-again c = fill-more _ _ _ _ (c .before .before .loop .inv) (omega arith) refl
+
+returns : tie.Need-returns Inv-loop μ-loop
+returns c = search (needs, filled-all)
+
+pub nexts-in-spec : {M : Type 1} → statement M
+nexts-in-spec =
+    tie.close
+    (tie.spec
+    Inv-loop
+    μ-loop
+    loop-holds
+    mul-channel
+    array-copy-out-channel
+    mul-nexts
+    array-write-nexts
+    add-i
+    loop-less
+    loop-again
+    returns)

@@ -1,0 +1,17 @@
+pub mod CountChanges
+pub mod Changing
+pub mod Moving
+pub mod Fates
+pub mod Following
+pub mod Wholes
+pub mod Joining
+pub mod Stepping
+pub mod Numbering
+pub mod Seeing
+pub mod Passing
+pub mod Flushing
+pub mod Clearing
+pub mod Receiving
+pub mod Beginning
+pub mod ReceivingAccepted
+pub mod ReceivingRows

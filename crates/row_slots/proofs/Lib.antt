@@ -1,0 +1,10 @@
+pub mod ListMembers
+pub mod Meaning
+pub mod Changes
+pub mod Tests
+pub mod Complete
+pub mod Fitting
+pub mod Stored
+pub mod Copying
+pub mod First
+pub mod Examples
