@@ -1,5 +1,5 @@
--- "Sound means no more than this", as far as it speaks of cells and nexts (those on windows and unsent numbers: receiver/specs/Queue): a test over the
--- records.
+-- "Sound means no more than this", as far as it speaks of cells and nexts (those on windows and unsent numbers: receiver/specs/Queue): a
+-- test over the records.
 use Prim.Native.Nat.{ℕ, _*_, _≤_, _<_}
 use mathlib.Core.Bool.{Bool, cond, not, _&&_, _||_}
 use mathlib.Core.List.{List}

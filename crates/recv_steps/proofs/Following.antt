@@ -45,7 +45,8 @@ goes-on ws ws′ x y ns ns′ c n v lt en e em ey d =
     ch : Changes d (turnTo (heldAs c n) 3 (x .turn)) (rowsOf ws) (rowsOf ws′)
     ch = turn-changes d (heldAs c n) 3 (x .turn) (rowsOf ws) (rowsOf ws′) (omega arith) e
 
-    at : (a : ℕ → Bool) (store : List ℕ) → slotsIn (rowsOf ws′) store d ≡ turnTo (heldAs c (workOf a x ns (rowsOf ws) store d .state .next c)) 3
+    at : (a : ℕ → Bool) (store : List ℕ)
+        → slotsIn (rowsOf ws′) store d ≡ turnTo (heldAs c (workOf a x ns (rowsOf ws) store d .state .next c)) 3
         (workOf a x ns (rowsOf ws) store d .turn) (workOf a x ns (rowsOf ws) store d .state .slots)
     at a store = unfold workOf in rw (← en) (ch .is store)
 

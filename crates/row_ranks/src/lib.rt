@@ -228,7 +228,8 @@ fn rank_row(words: &mut [u32], turns: &[u32], i: usize)
 
 fn rank_all(words: &mut [u32], turns: &[u32])
     requires { ⌜ length (now turns) ≤ maxCells ⌝ }
-    ensures is { λ _. ⌜ rowsOf (now (words .exit)) ≡ changeRows (uses readyUse) (rankRow (now (turns .entry))) (rowsOf (now (words .entry))) ⌝ }
+    ensures is { λ _. ⌜ rowsOf (now (words .exit))
+        ≡ changeRows (uses readyUse) (rankRow (now (turns .entry))) (rowsOf (now (words .entry))) ⌝ }
     ensures rest { λ _. ⌜ rest (now (words .exit)) ≡ rest (now (words .entry)) ⌝ }
 {
     let n = words.len() / ROW;

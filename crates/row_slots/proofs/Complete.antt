@@ -36,7 +36,8 @@ piece-index f e p = go (f .piece) p (and-right (ltb (f .channel) maxOrdChans) _ 
 -- A piece was put beside slots with which it does not clash: its message has all indices exactly if it has as many slots as the piece says.
 pub piece-counted : (f : Frame) (l : List Slot) → Core l → inLimits f ≡ true → f .piece ≡ true → any (clash f) l ≡ false → any isFree l
     ≡ true
-    → allThere (openAs (f .id)) (putSlot (slotOf f openUse 0) l) (f .count) ≡ eqb (countOf (of (openAs (f .id))) (putSlot (slotOf f openUse 0) l))
+    → allThere (openAs (f .id)) (putSlot (slotOf f openUse 0) l) (f .count)
+    ≡ eqb (countOf (of (openAs (f .id))) (putSlot (slotOf f openUse 0) l))
     (f .count)
 piece-counted f l v lim e c room = all-there-counted (openAs (f .id)) (putSlot (slotOf f openUse 0) l) (f .count)
     (put-unique (slotOf f openUse 0) l room (fresh-piece f l e c) (v .unique) (openAs (f .id)))

@@ -1,14 +1,14 @@
 -- The tests of entries, in the code's ways.
 -- Assumes nothing.
-use Prim.Native.Nat.{ℕ, _+_, _*_, _%_, _<_, _≤_}
+use Prim.Native.Nat.{ℕ, _+_, _-_, _*_, _%_, _<_, _≤_}
 use mathlib.Core.Path.{_≡_, refl, sym, _∙_, ap}
 use mathlib.Core.Bool.{Bool, true, false, cond, not, _&&_, _||_}
 use mathlib.Core.List.{List}
 use native.Mathlib.Numerals.{add-one}
 use native.Mathlib.Omega.{arith}
 use lib.Dec.{ltb, leb, eqb}
-use lib.ListN.{length, getD, set, replicate, length-replicate, getD-replicate, List·getD-eq-default}
-use lib.Seq.{set-out}
+use lib.ListN.{length, getD, set, take, drop, replicate, length-replicate, getD-replicate, List·getD-eq-default}
+use lib.Seq.{set-out, take-all}
 use borrow.Author.Tests.{ltb-true, ltb-false, lt-ltb, le-ltb, eq-eqb, ne-eqb}
 use Rattle.base.specs.Limits.{maxCells, maxFrags}
 use Rattle.base.specs.Lists.{below}
@@ -17,6 +17,7 @@ use Rattle.cells.specs.Sound.{keyOf, limits, agree, soundCells}
 use Rattle.rows.specs.declared.Row.{Row}
 use Rattle.rows.specs.Rows.{rowCount, cellOf, cellsIn}
 use Rattle.rows.specs.Whole.{wholeRow}
+use Rattle.receiver.specs.Parts.{nextAt}
 use Rattle.sound_cells.specs.Counted.{mate, aheadOfNext}
 use Rattle.sound_cells.specs.Sorted.{cellAt, keyNumber, keyPart, upperPart, upperAt, keyAt, rowNumberAt, rises, allRise, isOwn, isLed}
 use Rattle.sound_cells.specs.Sorted.{isPlacedEntry, counted, tallied, isDue}
@@ -159,6 +160,11 @@ nothing-told e = neither false e refl
 
 pub told-true : {b s : Bool} → (b ≡ true → s ≡ true) → b ≡ true → true ≡ s
 told-true f e = sym (f e)
+
+-- A slice made anew is the same.
+pub told-anew : (ws ns : List ℕ) {b : Bool} → b ≡ soundCells (cellsIn (take (length ws - 0) (drop 0 ws)))
+    (nextAt (take (length ns - 0) (drop 0 ns))) → b ≡ soundCells (cellsIn ws) (nextAt ns)
+told-anew ws ns e = rw (take-all (length ws - 0) ws (omega arith), take-all (length ns - 0) ns (omega arith)) at e
 
 pub all-tests : (ws : List ℕ) (next : ℕ → ℕ) (es ranks leads : List ℕ) (k : ℕ) (start : List ℕ) {rise place due : Bool} {counts : List ℕ}
     → ((g : ℕ) → getD start g 0 ≡ 0) → k ≤ length start

@@ -6,8 +6,6 @@ use mathlib.Core.Bool.{Bool, true, false, cond, not, _&&_, _||_}
 use mathlib.Core.List.{List}
 use native.Mathlib.Omega.{arith}
 use lib.Dec.{ltb, leb, eqb}
-use lib.ListN.{length, getD, set}
-use lib.Seq.{set-out}
 use borrow.Author.Tests.{eqb-true, eqb-false, ne-eqb}
 use Rattle.base.specs.Limits.{numbers16, cellBytes}
 use Rattle.base.proofs.Choices.{cases}
@@ -17,21 +15,47 @@ use Rattle.rows.specs.Rows.{rowCount, cellOf, cellsIn}
 use Rattle.rows.specs.Whole.{wholeRow}
 use Rattle.sound_cells.specs.Counted.{mate, aheadOfNext}
 use Rattle.sound_cells.specs.Sorted.{cellAt, keyPart}
-use Rattle.sound_cells.specs.Ordered.{hasBit, withBit, wordOf, markOf, isFresh, greater, noted, messageGoesOn, MessageRun}
+use Rattle.sound_cells.specs.declared.order.Seen.{Seen}
+use Rattle.sound_cells.specs.Ordered.{hasBit, withBit, wordOf, markOf, bitsOf, withBits, isFresh, greater, noted}
+use Rattle.sound_cells.specs.Ordered.{messageGoesOn, MessageRun}
 use Rattle.sound_cells.proofs.Ordered.{Passed, pass-unused, pass-run, ordered-sound}
 
-pub fresh-is : (seen : List ℕ) (greatest key : ℕ) {w bits n : ℕ} {has : Bool} → w ≡ wordOf key → bits ≡ getD seen w 0 → n ≡ markOf key → has
+-- The bits in a word, read and put, in the code's ways.
+module _ (seen : Seen) {w : ℕ} where
+  pub bits-opened : w ≡ 1 → seen .opened ≡ bitsOf seen w
+  unfolding bitsOf
+  bits-opened e = rw e
+
+  pub bits-held : w ≡ 2 → seen .held ≡ bitsOf seen w
+  unfolding bitsOf
+  bits-held e = rw e
+
+  pub bits-ready : (w ≡ 1 → ⊥) → (w ≡ 2 → ⊥) → seen .ready ≡ bitsOf seen w
+  unfolding bitsOf
+  bits-ready e f = rw (ne-eqb w 1 e, ne-eqb w 2 f)
+
+  pub with-opened : (bits : ℕ) → w ≡ 1 → record { opened = bits; held = seen .held; ready = seen .ready } ≡ withBits seen w bits
+  unfolding withBits
+  with-opened bits e = rw e
+
+  pub with-held : (bits : ℕ) → w ≡ 2 → record { opened = seen .opened; held = bits; ready = seen .ready } ≡ withBits seen w bits
+  unfolding withBits
+  with-held bits e = rw e
+
+  pub with-ready : (bits : ℕ) → (w ≡ 1 → ⊥) → (w ≡ 2 → ⊥) → record { opened = seen .opened; held = seen .held; ready = bits }
+      ≡ withBits seen w bits
+  unfolding withBits
+  with-ready bits e f = rw (ne-eqb w 1 e, ne-eqb w 2 f)
+
+pub fresh-is : (seen : Seen) (greatest key : ℕ) {w bits n : ℕ} {has : Bool} → w ≡ wordOf key → bits ≡ bitsOf seen w → n ≡ markOf key → has
     ≡ hasBit bits n → (ltb greatest key || not has) ≡ isFresh seen greatest key
 unfolding isFresh
 fresh-is seen greatest key e f g h = rw (h, f, g, e)
 
-module _ (seen : List ℕ) (key : ℕ) {w n : ℕ} (e : w ≡ wordOf key) (f : n ≡ markOf key) where
-  pub note-is : {with : ℕ} → with ≡ withBit (getD seen w 0) n → set seen w with ≡ noted seen key
-  unfolding noted
-  note-is g = rw (g, e, f)
-
-  pub note-past : length seen ≤ w → seen ≡ noted seen key
-  note-past l = sym (set-out seen w (withBit (getD seen w 0) n) l) ∙ note-is refl
+pub note-is : (seen s : Seen) (key : ℕ) {w bits n with : ℕ} → w ≡ wordOf key → bits ≡ bitsOf seen w → n ≡ markOf key → with ≡ withBit bits n
+    → s ≡ withBits seen w with → s ≡ noted seen key
+unfolding noted
+note-is seen s key e f g h q = rw (q, h, f, g, e)
 
 pub goes-is : (a r : Row) (index : ℕ) {m l : Bool} → m ≡ mate (cellOf a) (cellOf r) → l ≡ agree (cellOf r) (cellOf a)
     → (m && (l && (ltb index (r .index) && (ltb (r .index) (r .count) && (leb (r .length) cellBytes && ltb (r .id) numbers16)))))
@@ -80,7 +104,7 @@ module _ (ws : List ℕ) (i : ℕ) {a : Row} (e : a ≡ wholeRow ws i) where
   }
 
 -- The rows passed, in the code's ways.
-module _ (ws : List ℕ) (next : ℕ → ℕ) {seen : List ℕ} {greatest i : ℕ} (h : Passed ws next seen greatest i) where
+module _ (ws : List ℕ) (next : ℕ → ℕ) {seen : Seen} {greatest i : ℕ} (h : Passed ws next seen greatest i) where
   pub goes-unused : {r : Row} → r ≡ wholeRow ws i → r .used ≡ 0 → Passed ws next seen greatest (i + 1)
   unfolding cellAt cellOf
   goes-unused q u = pass-unused ws next seen greatest i h (sym (ap (λ (x : Row). x .used) q) ∙ u)
@@ -95,7 +119,7 @@ module _ (ws : List ℕ) (next : ℕ → ℕ) {seen : List ℕ} {greatest i : �
   unfolding cellAt cellOf
   row-due m q e y = rw (← q) (sym e ∙ y)
 
-  pub goes-run : {r : Row} {e k g : ℕ} {b d f : Bool} {v : List ℕ} → r ≡ wholeRow ws i → (r .used ≡ 0 → ⊥) → b
+  pub goes-run : {r : Row} {e k g : ℕ} {b d f : Bool} {v : Seen} → r ≡ wholeRow ws i → (r .used ≡ 0 → ⊥) → b
       ≡ (limits (cellOf r) && aheadOfNext next (cellOf r)) → b ≡ true
       → MessageRun ws i e → d ≡ cond (eqb (r .used) 1) (not (eqb (e - i) (r .count))) (eqb (e - i) (r .count)) → d ≡ true
       → k ≡ keyPart (cellOf r) → f ≡ isFresh seen greatest k → f ≡ true → v ≡ noted seen k → g ≡ greater greatest k → Passed ws next v g e

@@ -6,7 +6,6 @@ use mathlib.Core.Bool.{Bool, true, false, cond, not, _&&_}
 use mathlib.Core.List.{List}
 use native.Mathlib.Omega.{arith}
 use lib.Dec.{ltb, leb, eqb}
-use lib.ListN.{length}
 use borrow.Author.Tests.{ltb-true, ltb-false, eqb-true, eqb-false}
 use Rattle.base.specs.Limits.{numbers16, numbers24, maxOrdChans, maxFrags, cellBytes}
 use Rattle.base.proofs.Choices.{cases, and-left, and-right, and-both}
@@ -15,11 +14,12 @@ use Rattle.cells.specs.Sound.{keyOf, limits, agree, soundCells}
 use Rattle.rows.specs.Rows.{rowCount, cellsIn}
 use Rattle.sound_cells.specs.Counted.{mate, aheadOfNext}
 use Rattle.sound_cells.specs.Sorted.{cellAt, keyPart}
+use Rattle.sound_cells.specs.declared.order.Seen.{Seen}
 use Rattle.sound_cells.specs.Ordered.{isFresh, noted, greater, messageGoesOn, MessageRun}
 use Rattle.sound_cells.proofs.Numbered.{climb, count-span}
 use Rattle.sound_cells.proofs.RowsSound.{mate-key, mate-used, twin-mate, twin-index, same-key-mate, agree-own, agree-through}
 use Rattle.sound_cells.proofs.RowsSound.{Passing, rows-sound}
-use Rattle.sound_cells.proofs.Seen.{Told, fresh-new, noted-long, noted-own, noted-keeps}
+use Rattle.sound_cells.proofs.Seen.{Told, fresh-new, noted-own, noted-keeps}
 
 -- Is a cell's message of m rows whole or not, as it must be?
 abbrev Due : Cell → ℕ → Type 0
@@ -145,22 +145,20 @@ module _ (ws : List ℕ) (next : ℕ → ℕ) where
     only : (k : ℕ) → k < i → Used k → keyOf (cellAt ws k) ≡ keyOf (cellAt ws j) → (from ≤ k) × (k < to)
 
   -- The rows below i have passed.
-  pub record Passed (seen : List ℕ) (greatest i : ℕ) : Type 0 where
-    pub long : length seen ≡ 4
+  pub record Passed (seen : Seen) (greatest i : ℕ) : Type 0 where
     told : (j : ℕ) → j < i → Used j → Told seen greatest (keyPart (cellAt ws j))
     led : (j : ℕ) → j < i → Used j → Led i j
 
-  pub pass-starts : (seen : List ℕ) → length seen ≡ 4 → Passed seen 0 0
-  pass-starts seen l = record { long = l; told = λ j l. absurd (omega arith); led = λ j l. absurd (omega arith) }
+  pub pass-starts : (seen : Seen) → Passed seen 0 0
+  pass-starts seen = record { told = λ j l. absurd (omega arith); led = λ j l. absurd (omega arith) }
 
   same-number : (i j : ℕ) → keyOf (cellAt ws i) ≡ keyOf (cellAt ws j) → keyPart (cellAt ws i) ≡ keyPart (cellAt ws j)
   unfolding keyPart
   same-number i j e = rw e
 
-  module _ (seen : List ℕ) (greatest i : ℕ) (h : Passed seen greatest i) where
+  module _ (seen : Seen) (greatest i : ℕ) (h : Passed seen greatest i) where
     pub pass-unused : cellAt ws i .used ≡ 0 → Passed seen greatest (i + 1)
     pass-unused z = record {
-      long = h .long;
       told = λ j l u. h .told j (before j l u) u;
       led = λ j l u. let b = h .led j (before j l u) u in
           record {
@@ -192,9 +190,9 @@ module _ (ws : List ℕ) (next : ℕ → ℕ) where
       told-after : (j : ℕ) → j < e → Used j → Told (noted seen (keyPart (cellAt ws i))) (greater greatest (keyPart (cellAt ws i)))
           (keyPart (cellAt ws j))
       told-after j l v = cases (ltb j i)
-          (λ y. noted-keeps seen greatest (keyPart (cellAt ws i)) (h .long) (keyPart (cellAt ws j)) (h .told j (ltb-true j i y) v))
+          (λ y. noted-keeps seen greatest (keyPart (cellAt ws i)) (keyPart (cellAt ws j)) (h .told j (ltb-true j i y) v))
           (λ y. subst (Told (noted seen (keyPart (cellAt ws i))) (greater greatest (keyPart (cellAt ws i))))
-          (sym (same-number j i (mine j (ltb-false j i y) l .key))) (noted-own seen greatest (keyPart (cellAt ws i)) (h .long)))
+          (sym (same-number j i (mine j (ltb-false j i y) l .key))) (noted-own seen greatest (keyPart (cellAt ws i))))
 
       led-after : (j : ℕ) → j < e → Used j → Led e j
       led-after j l v = cases (ltb j i)
@@ -225,7 +223,7 @@ module _ (ws : List ℕ) (next : ℕ → ℕ) where
           })
 
       pub pass-run : Passed (noted seen (keyPart (cellAt ws i))) (greater greatest (keyPart (cellAt ws i))) e
-      pass-run = record { long = noted-long seen greatest (keyPart (cellAt ws i)) ∙ h .long; told = told-after; led = led-after }
+      pass-run = record { told = told-after; led = led-after }
 
   passing : (i : ℕ) → Led (rowCount ws) i → Passing ws next i
   passing i b =
@@ -253,5 +251,5 @@ module _ (ws : List ℕ) (next : ℕ → ℕ) where
         due = own .due;
       }
 
-  pub ordered-sound : (seen : List ℕ) (greatest : ℕ) → Passed seen greatest (rowCount ws) → soundCells (cellsIn ws) next ≡ true
+  pub ordered-sound : (seen : Seen) (greatest : ℕ) → Passed seen greatest (rowCount ws) → soundCells (cellsIn ws) next ≡ true
   ordered-sound seen greatest h = rows-sound ws next (λ i l u. passing i (h .led i l u))

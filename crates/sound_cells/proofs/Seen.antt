@@ -2,17 +2,15 @@
 -- Assumes nothing.
 use Prim.Native.Nat.{ℕ, _+_, _%_, _^_, _<_, _≤_}
 use mathlib.Core.Path.{_≡_, refl, sym, _∙_}
-use mathlib.Core.Bool.{Bool, true, false, not}
-use mathlib.Core.List.{List}
+use mathlib.Core.Bool.{Bool, true, false, cond, not}
 use native.Mathlib.Omega.{arith}
 use lib.Dec.{ltb, eqb}
-use lib.ListN.{length, getD, length-set}
-use lib.Seq.{getD-set-same, getD-set-other}
 use borrow.Author.Tests.{ltb-true, ltb-false, lt-ltb, le-ltb, eqb-true, eqb-false, eq-eqb}
 use Rattle.base.proofs.Choices.{cases, neither}
 use Rattle.window.specs.Places.{bit}
 use Rattle.window.proofs.Bits.{bit-small, bit-set, bit-set-other, bit-fits}
-use Rattle.sound_cells.specs.Ordered.{hasBit, withBit, wordOf, markOf, isFresh, noted, greater}
+use Rattle.sound_cells.specs.declared.order.Seen.{Seen}
+use Rattle.sound_cells.specs.Ordered.{hasBit, withBit, wordOf, markOf, bitsOf, withBits, isFresh, noted, greater}
 
 module _ (b : ℕ) where
   clear : (n : ℕ) → hasBit b n ≡ false → bit b (n % 64) ≡ 0
@@ -72,43 +70,55 @@ module _ (a b : ℕ) where
       (λ y. rw y (omega arith))
       (λ y. rw y (omega (arith, ltb-false a b y)))
 
--- A key that occurred.
-pub record Told (seen : List ℕ) (greatest key : ℕ) : Type 0 where
-  pub low : key ≤ greatest
-  pub marked : hasBit (getD seen (wordOf key) 0) (markOf key) ≡ true
+-- What holds of a word's bits, and still of those put there, holds of every word's: a and b tell the word put, c and d the one asked.
+keep-each : (P : ℕ → Type 0) (seen : Seen) (bits : ℕ) (a b c d : Bool)
+    → (P (cond a (seen .opened) (cond b (seen .held) (seen .ready))) → P bits)
+    → P (cond c (seen .opened) (cond d (seen .held) (seen .ready)))
+    → (let s : Seen = cond a (record { opened = bits; held = seen .held; ready = seen .ready })
+    (cond b (record { opened = seen .opened; held = bits; ready = seen .ready })
+    (record { opened = seen .opened; held = seen .held; ready = bits })) in P (cond c (s .opened) (cond d (s .held) (s .ready))))
+keep-each P seen bits true b true d f h = f h
+keep-each P seen bits true b false true f h = h
+keep-each P seen bits true b false false f h = h
+keep-each P seen bits false true true d f h = h
+keep-each P seen bits false true false true f h = f h
+keep-each P seen bits false true false false f h = h
+keep-each P seen bits false false true d f h = h
+keep-each P seen bits false false false true f h = h
+keep-each P seen bits false false false false f h = f h
 
-module _ (seen : List ℕ) (greatest key : ℕ) where
+module _ (seen : Seen) (w bits : ℕ) where
+  bits-own : bitsOf (withBits seen w bits) w ≡ bits
+  unfolding bitsOf withBits
+  bits-own = cases (eqb w 1) (λ y. rw y) (λ y. cases (eqb w 2) (λ z. rw (y, z)) (λ z. rw (y, z)))
+
+  bits-keep : (P : ℕ → Type 0) → (P (bitsOf seen w) → P bits) → (v : ℕ) → P (bitsOf seen v) → P (bitsOf (withBits seen w bits) v)
+  unfolding bitsOf withBits
+  bits-keep P f v h = keep-each P seen bits (eqb w 1) (eqb w 2) (eqb v 1) (eqb v 2) f h
+
+-- A key that occurred.
+pub record Told (seen : Seen) (greatest key : ℕ) : Type 0 where
+  pub low : key ≤ greatest
+  pub marked : hasBit (bitsOf seen (wordOf key)) (markOf key) ≡ true
+
+module _ (seen : Seen) (greatest key : ℕ) where
   pub fresh-new : isFresh seen greatest key ≡ true → Told seen greatest key → ⊥
   unfolding isFresh
   fresh-new e h = cases (ltb greatest key)
       (λ y. omega (arith, ltb-true greatest key y, h .low))
-      (λ y. let f : not (hasBit (getD seen (wordOf key) 0) (markOf key)) ≡ true = rw y at e in neither false (rw (h .marked) at f) refl)
+      (λ y. let f : not (hasBit (bitsOf seen (wordOf key)) (markOf key)) ≡ true = rw y at e in neither false (rw (h .marked) at f) refl)
 
-  pub noted-long : length (noted seen key) ≡ length seen
+  pub noted-own : Told (noted seen key) (greater greatest key) key
   unfolding noted
-  noted-long = length-set seen (wordOf key) _
-
-  word-there : length seen ≡ 4 → wordOf key < length seen
-  unfolding wordOf
-  word-there e = omega arith
-
-  pub noted-own : length seen ≡ 4 → Told (noted seen key) (greater greatest key) key
-  unfolding noted
-  noted-own l = record {
+  noted-own = record {
     low = greater-right greatest key;
-    marked =
-        rw (getD-set-same seen (wordOf key) (withBit (getD seen (wordOf key) 0) (markOf key)) 0 (word-there l))
-        (with-own (getD seen (wordOf key) 0) (markOf key));
+    marked = rw (bits-own seen (wordOf key)) (with-own (bitsOf seen (wordOf key)) (markOf key));
   }
 
-  pub noted-keeps : length seen ≡ 4 → (other : ℕ) → Told seen greatest other → Told (noted seen key) (greater greatest key) other
+  pub noted-keeps : (other : ℕ) → Told seen greatest other → Told (noted seen key) (greater greatest key) other
   unfolding noted
-  noted-keeps l other h = record {
+  noted-keeps other h = record {
     low = omega (arith, h .low, greater-left greatest key);
-    marked = cases (eqb (wordOf other) (wordOf key))
-        (λ y. let q : wordOf other ≡ wordOf key = eqb-true _ _ y in
-        rw (q, getD-set-same seen (wordOf key) (withBit (getD seen (wordOf key) 0) (markOf key)) 0 (word-there l))
-        (with-keeps (getD seen (wordOf key) 0) (markOf key) (markOf other) (rw q at (h .marked))))
-        (λ y. rw (getD-set-other seen (wordOf key) (wordOf other) (withBit (getD seen (wordOf key) 0) (markOf key)) 0 (eqb-false _ _ y))
-        (h .marked));
+    marked = bits-keep seen (wordOf key) (withBit (bitsOf seen (wordOf key)) (markOf key)) (λ b. hasBit b (markOf other) ≡ true)
+        (with-keeps (bitsOf seen (wordOf key)) (markOf key) (markOf other)) (wordOf other) (h .marked);
   }

@@ -5,7 +5,6 @@ use mathlib.Core.Path.{_≡_}
 use mathlib.Core.Bool.{Bool, true, cond, not, _&&_, _||_}
 use mathlib.Core.List.{List}
 use lib.Dec.{ltb, leb, eqb}
-use lib.ListN.{getD, set}
 use Rattle.base.specs.Limits.{numbers16, cellBytes}
 use Rattle.window.specs.Places.{bit}
 use Rattle.cells.specs.Cell.{Cell}
@@ -13,6 +12,7 @@ use Rattle.cells.specs.Sound.{agree}
 use Rattle.rows.specs.Rows.{rowCount}
 use Rattle.sound_cells.specs.Counted.{mate}
 use Rattle.sound_cells.specs.Sorted.{cellAt}
+use Rattle.sound_cells.specs.declared.order.Seen.{Seen}
 
 -- is bit n, of 64, set? the number with this bit set
 unfoldable pub hasBit : ℕ → ℕ → Bool
@@ -29,13 +29,22 @@ wordOf key = key / 4294967296 % 4
 unfoldable pub markOf : ℕ → ℕ
 markOf key = key % 64 + key / 16777216 % 64 * 7
 
+-- the bits in a word, and other bits put there: word 1 is for open messages, 2 for held ones, any other for ready ones
+unfoldable pub bitsOf : Seen → ℕ → ℕ
+bitsOf seen w = cond (eqb w 1) (seen .opened) (cond (eqb w 2) (seen .held) (seen .ready))
+
+unfoldable pub withBits : Seen → ℕ → ℕ → Seen
+withBits seen w bits = cond (eqb w 1) (record { opened = bits; held = seen .held; ready = seen .ready })
+    (cond (eqb w 2) (record { opened = seen .opened; held = bits; ready = seen .ready })
+    (record { opened = seen .opened; held = seen .held; ready = bits }))
+
 -- A key has not occurred if it is greater than all that have, or if its bit is not among theirs.
-unfoldable pub isFresh : List ℕ → ℕ → ℕ → Bool
-isFresh seen greatest key = ltb greatest key || not (hasBit (getD seen (wordOf key) 0) (markOf key))
+unfoldable pub isFresh : Seen → ℕ → ℕ → Bool
+isFresh seen greatest key = ltb greatest key || not (hasBit (bitsOf seen (wordOf key)) (markOf key))
 
 -- what is known once a key has occurred
-unfoldable pub noted : List ℕ → ℕ → List ℕ
-noted seen key = set seen (wordOf key) (withBit (getD seen (wordOf key) 0) (markOf key))
+unfoldable pub noted : Seen → ℕ → Seen
+noted seen key = withBits seen (wordOf key) (withBit (bitsOf seen (wordOf key)) (markOf key))
 
 unfoldable pub greater : ℕ → ℕ → ℕ
 greater a b = cond (ltb a b) b a

@@ -2,7 +2,6 @@
 // one pass, without lists. So they mostly stand in the receivers that our own calls leave; where pieces of two messages came mixed, they do
 // not.
 use super::agrees;
-use super::entry_at;
 use super::is_due;
 use super::is_mate;
 use super::is_within;
@@ -12,12 +11,12 @@ use rows::Row;
 ghost use mathlib.Core.Path.{_≡_};
 ghost use mathlib.Core.Bool.{true};
 ghost use Prim.Native.Nat.{_%_, _^_, _<_};
-ghost use lib.ListN.{length};
 ghost use Rattle.cells.specs.Sound.{soundCells};
 ghost use Rattle.rows.specs.Rows.{rowCount, cellOf, cellsIn};
 ghost use Rattle.receiver.specs.Parts.{nextAt};
 ghost use Rattle.sound_cells.specs.Ordered as Ordered;
-ghost use Rattle.sound_cells.specs.Ordered.{hasBit, withBit, wordOf, markOf, isFresh, noted, messageGoesOn, MessageRun};
+ghost use Rattle.sound_cells.specs.Ordered.{hasBit, withBit, wordOf, markOf, bitsOf, withBits, isFresh, noted};
+ghost use Rattle.sound_cells.specs.Ordered.{messageGoesOn, MessageRun};
 
 mod entries;
 
@@ -66,23 +65,57 @@ fn mark(key: u64) -> u64
     key % 64 + key / 16777216 % 64 * 7
 }
 
-fn is_fresh(seen: &[u64], greatest: u64, key: u64) -> bool
-    ensures { λ b. ⌜ b ≡ isFresh (now (seen .entry)) greatest key ⌝ }
+// For each use, a word with a bit of each key that occurred. By value: a word is read and written without a test of its place.
+struct Seen {
+    opened: u64,
+    held: u64,
+    ready: u64,
+}
+
+fn bits_of(seen: Seen, w: usize) -> u64
+    ensures { λ r. ⌜ r ≡ bitsOf seen w ⌝ }
 {
-    let bits = entry_at(seen, word_of(key));
+    if w == 1 {
+        return seen.opened;
+    }
+    if w == 2 {
+        return seen.held;
+    }
+    seen.ready
+}
+
+fn with_bits(seen: Seen, w: usize, bits: u64) -> Seen
+    ensures { λ s. ⌜ s ≡ withBits seen w bits ⌝ }
+{
+    if w == 1 {
+        return Seen {
+            opened: bits,
+            ..seen
+        };
+    }
+    if w == 2 {
+        return Seen { held: bits, ..seen };
+    }
+    Seen {
+        ready: bits,
+        ..seen
+    }
+}
+
+fn is_fresh(seen: Seen, greatest: u64, key: u64) -> bool
+    ensures { λ b. ⌜ b ≡ isFresh seen greatest key ⌝ }
+{
+    let bits = bits_of(seen, word_of(key));
     let has = has_bit(bits, mark(key));
     (greatest < key) | !has
 }
 
-fn note_key(seen: &mut [u64], key: u64)
-    ensures { λ _. ⌜ now (seen .exit) ≡ noted (now (seen .entry)) key ⌝ }
+fn note_key(seen: Seen, key: u64) -> Seen
+    ensures { λ s. ⌜ s ≡ noted seen key ⌝ }
 {
     let w = word_of(key);
-    let n = mark(key);
-    if w < seen.len() {
-        let bits = seen[w];
-        seen[w] = with_bit(bits, n);
-    }
+    let bits = bits_of(seen, w);
+    with_bits(seen, w, with_bit(bits, mark(key)))
 }
 
 // Is r one more row of a's message, after one of this index?
@@ -130,13 +163,19 @@ fn message_end(words: &[u32], i: usize, count: u32) -> usize
     run_end(words, i)
 }
 
-// Are the rows in order? For each use, seen is to have a word.
-fn in_order(words: &[u32], nexts: &[u32], seen: &mut [u64]) -> bool
-    requires { ⌜ length (now seen) ≡ 4 ⌝ }
+// Are the rows in order? Whether all keys were fresh is asked at the end: which of the two tests makes one fresh cannot be foreseen, and a
+// branch on it would often be guessed wrong.
+fn by_order(words: &[u32], nexts: &[u32]) -> bool
     ensures { λ b. ⌜ (b ≡ true → soundCells (cellsIn (now (words .entry))) (nextAt (now (nexts .entry))) ≡ true) ⌝ }
 {
     let n = words.len() / ROW;
+    let mut seen = Seen {
+        opened: 0,
+        held: 0,
+        ready: 0,
+    };
     let mut greatest: u64 = 0;
+    let mut fresh = true;
     let mut i = 0;
     while i < n {
         let r = rows::whole_row(words, i);
@@ -151,20 +190,12 @@ fn in_order(words: &[u32], nexts: &[u32], seen: &mut [u64]) -> bool
                 return false;
             }
             let key = key_part(r);
-            if is_fresh(seen, greatest, key) {} else {
-                return false;
-            }
-            note_key(seen, key);
+            let new = is_fresh(seen, greatest, key);
+            fresh = fresh & new;
+            seen = note_key(seen, key);
             greatest = greater(greatest, key);
             i = e;
         }
     }
-    true
-}
-
-fn by_order(words: &[u32], nexts: &[u32]) -> bool
-    ensures { λ b. ⌜ (b ≡ true → soundCells (cellsIn (now (words .entry))) (nextAt (now (nexts .entry))) ≡ true) ⌝ }
-{
-    let mut seen = [0u64; 4];
-    in_order(words, nexts, &mut seen)
+    fresh
 }

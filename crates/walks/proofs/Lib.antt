@@ -1,4 +1,7 @@
 pub mod Order
+pub mod Begin
+pub mod Again
+pub mod Ways
 pub mod Counting
 pub mod Slices
 pub mod Parts

@@ -1,10 +1,8 @@
 -- How a walk keeps its context in order: what is owned first, k things, then the function's n locals, then that each of them dies. So local
 -- i is at k + i.
--- entry k n where the locals, and then their ends, stand once they are allocated (`alloc1`), the last first, with k things before them: for
--- the `keep` that puts them in order
 --     var              the operand that is a whole local, at its place in the context
--- gone all locals are freed in one step, whether they hold a value or none: they stand in order behind k things that are owned, and then
--- their ends
+--     gone             all locals are freed in one step, whether they hold a value or none: they stand in order behind k things that are
+--                      owned, and then their ends
 --     if-returns       `if c { a } b`, where a returns: a walk of each. The rest b stays as it is written, so nothing of it is computed
 --     big-lit          a large constant, such as 1024, is what it says: the rule that `Types/Run.antt`'s `lit` is for a small one
 -- Assumes `Given`.
@@ -25,13 +23,6 @@ use ghost.Atoms.{Atoms}
 use types.Kit.{Given, Item, nth, Goal, aim, Seq, Post, post, runs, anyQ, Step, step, frees, ‵, raw, _⊛_, some, given, later, mean, ⋆, pop}
 use types.Kit.{push, ⊢++, _$_, _∵_, !, qed, use1, split, join, move, frame, by}
 use types.Run.{Opd, look, stop, from, load, first, branches, skips, exec}
-
-abbrev down : ℕ → ℕ → List ℕ
-down k zero = []
-down k (suc n) = (k + 2 * n) ∷ down k n
-
-abbrev pub entry : ℕ → ℕ → List ℕ
-entry k n = down k n ++ down (suc k) n
 
 -- what a local holds: a value, or none
 pub data Held : Type 0 where

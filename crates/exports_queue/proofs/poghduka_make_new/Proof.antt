@@ -2,18 +2,17 @@
 -- given up to the first.
 -- Assumes nothing.
 use denote.Enum.Laws as EL
-use Rattle.walks.proofs.Walk.{_≡_, refl, ℕ, _+_, List, [], _∷_, length, URA, named, w32, Val, vptr, SProp, ent, emp, id⊢, via, fst∗, Lft}
-use Rattle.walks.proofs.Walk.{GName, Share, ftrue, flft, fres, Memory, Routine, Heap, Calls, Loops, WpFn, Tables, Atoms, FmC, fmOf}
-use Rattle.walks.proofs.Walk.{WpFn-mono, Fun, fact, givenOf, tables, tablesOf, Given, Item, ‵, raw, _⊛_, some, later, ⋆, _$_, _∵_, !, qed}
-use Rattle.walks.proofs.Walk.{by, move, keep, drop, use1, split, join, pick}
-use Rattle.walks.proofs.Walk.{fsplit, fjoin, suffices, frame, await, done, agg, whole, sub, look-in, look, init, stop, hop, fld, from, load}
-use Rattle.walks.proofs.Walk.{addr, and-then, no-more, land, assigns, returns, enter, alloc1, alloc0, params1, pass1, pass0, yes}
-use Rattle.walks.proofs.Walk.{owns, Is, shows, uint-lawful, u8, u32, RefT, MutRef, ptr-vals, mut-tells, sliceVal, MutSlice, ShrSlice, Room}
-use Rattle.walks.proofs.Walk.{finally, slice-vals, mut-slice-tells}
-use Rattle.walks.proofs.Walk.{shr-slice-tells, plain, shrSliceOf, peeks, heard, nothing, onEntry, Contract, Triple, calls-at, Meets}
-use Rattle.walks.proofs.Walk.{tripleOf, entered, cited, Lasts, lasts, says, Stays, stay-dropped, gave-ref, gave-slice, walkOf, Walks}
-use Rattle.walks.proofs.Walk.{ends-at, walked, goes-dropped, goes-gave-ref, goes-gave-slice, walk-meets}
-use Rattle.walks.proofs.Order.{entry, var, gone}
+use Rattle.walks.proofs.Walk.{_≡_, refl, ℕ, _+_, List, [], _∷_, length, URA, w32, Val, vptr, SProp, ent, emp, id⊢, via, fst∗, Lft, GName}
+use Rattle.walks.proofs.Walk.{Share, ftrue, flft, fres, Memory, Routine, Heap, Calls, Loops, WpFn, Tables, Atoms, FmC, fmOf, Fun, fact}
+use Rattle.walks.proofs.Walk.{givenOf, tables, tablesOf, Given, Item, ‵, raw, _⊛_, some, later, ⋆, _$_, _∵_, !, qed, by, move, keep, drop}
+use Rattle.walks.proofs.Walk.{use1, split, join, pick, fjoin, suffices, frame, await, done, look, init, stop, hop, from, addr, and-then}
+use Rattle.walks.proofs.Walk.{no-more, land, assigns, returns, Is, shows, uint-lawful, u8, u32, RefT, sliceVal, Room, finally, plain, peeks}
+use Rattle.walks.proofs.Walk.{heard, nothing, Contract, Triple, calls-at, Meets, tripleOf, entered, cited, Lasts, lasts, says, Stays}
+use Rattle.walks.proofs.Walk.{walkOf, ends-at, Go}
+use Rattle.walks.proofs.Order.{var, gone}
+use Rattle.walks.proofs.Again.{relends}
+use Rattle.walks.proofs.Begin.{Begins, begins}
+use Rattle.walks.proofs.Ways.{_&_, Ways, had-at-exit, meets, given-ref, given-slice, read-slice}
 use Rattle.cells.specs.declared.CellRecord.{CellRecord}
 use Rattle.cells.proofs.CellRecord as C
 use Rattle.receiver.specs.declared.RecvQueue.{RecvQueue}
@@ -38,14 +37,11 @@ use Rattle.exports_queue.proofs.poghduka_make_new.Statement as stated
 use Rattle.exports_queue.proofs.poghduka_make_new.Code as code
 
 -- what the walk still has of each parameter at exit: of a `&mut` its last value
+abbrev ways : Ways (here.ended .signature .params) (here.ended .kept)
+ways = given-ref 0 tt (plain (λ _. Q.the-row)) & given-slice 1 tt (plain (λ _. C.the-row)) & read-slice 2 tt (plain (λ _. u8)) & tt
+
 abbrev stayed : Stays (here.ended .signature .params) (here.ended .kept)
-stayed = (
-  gave-ref (0 ∷ []) tt (plain (λ _. Q.the-row)),
-  (
-    gave-slice (1 ∷ []) tt (plain (λ _. C.the-row)),
-    (stay-dropped (shrSliceOf (2 ∷ []) tt (plain (λ _. u8))) yes, tt),
-  ),
-)
+stayed = had-at-exit here.ended ways
 
 module _ {M : Type 1} (𝓤 : URA M) (H : Heap 𝓤) (A : Atoms 𝓤) (mem : Memory → SProp 𝓤) (run : Routine → Fun 𝓤) where
   abbrev Told : Contract 𝓤
@@ -104,28 +100,13 @@ module _ {M : Type 1} (𝓤 : URA M) (H : Heap 𝓤) (A : Atoms 𝓤) (W : Given
 
   module _ (C′ : Calls 𝓤 H) (Λ : Loops 𝓤 H) (fm : FmC 𝓤 H (W .laws) C′) (known : Triple 𝓤 (C′ #call) (Make 𝓤 H A mem run))
       (known-told : Triple 𝓤 (C′ #told) (Told 𝓤 H A mem run)) where
-    walk : ent 𝓤 (onEntry 𝓤 H A here.signature (κ₀, (κ₁, (κ₂, tt))) (q₀, (q₁, (q₂, tt))) (x, (y, (s, tt)))
-        (vx ∷ [], (vy ∷ [], (vs ∷ [], tt)))) (WpFn 𝓤 H C′ Λ code.function (vx ∷ vy ∷ vs ∷ []) Post)
-    walk =
-        qed W ((‵ (flft κ₀ q₀) ⊛ (‵ (flft κ₁ q₁) ⊛ (‵ (flft κ₂ q₂) ⊛ ‵ ftrue)))
-        ∷ ‵ (owns (MutRef (named 0) κ₀ Q.the-row ∷ MutSlice (named 1) κ₁ C.the-row ∷ ShrSlice (named 2) κ₂ u8 ∷ []) (x, (y, (s, tt)))
-        (vx ∷ [], (vy ∷ [], (vs ∷ [], tt)))) ∷ []) ∵
-        enter ! C′ Λ code.function (vx ∷ vy ∷ vs ∷ []) _ $
-        alloc1 ! (λ l₀. alloc1 !
-        (λ l₁. alloc1 ! (λ l₂. alloc1 ! (λ l₃. alloc1 ! (λ l₄. alloc1 ! (λ l₅. alloc1 ! (λ l₆. alloc1 ! (λ l₇. alloc0 ! $ params1 ! $
-        pass1 ! (init ! 12 refl (tt, tt)) $ pass1 ! (init ! 10 refl (tt, (tt, (record { fits = room₁ .0 }, tt)))) $
-        pass1 ! (init ! 8 refl (tt, (tt, (record { fits = room₂ .0 }, tt)))) $ pass0 ! $
-        move ! (17 ∷ []) $ fsplit ! $ move ! (1 ∷ []) $ fsplit ! $ move ! (1 ∷ []) $ fsplit ! $ move ! (20 ∷ []) $ split ! $ move ! (1 ∷ [])
-        $ split ! $ move ! (1 ∷ []) $ split ! $
-        -- from here on what is owned stands first, then the locals _0, …, _7, then that each dies: with k things owned, local i is at k + i
-        keep ! (3 ∷ 2 ∷ 0 ∷ 7 ∷ 6 ∷ 4 ∷ entry 8 8) $
+    walk : Begins (Go {0}) W here.signature (Passed .0) C′ Λ code.function Post
+    walk = begins ! (keep ! (3 ∷ 4 ∷ 5 ∷ 0 ∷ 1 ∷ 2 ∷ []))
+        ((tt, tt) & (tt, (tt, (record { fits = room₁ .0 }, tt))) & (tt, (tt, (record { fits = room₂ .0 }, tt))) & tt)
+        (λ l₀ l₁ l₂ l₃ l₄ l₅ l₆ l₇.
         -- 6: [the tokens; the parameters]
         assigns ! (addr ! (from ! (hop ! (look ! (6 + 1) refl) (stop !)))) (from ! (stop !)) (init ! (6 + 5) refl (tt, tt)) $
-        assigns ! (addr ! (from ! (fld ! refl (hop ! (look-in ! (6 + 2) (sub ! 0 refl (whole !))) (stop !))))) (from ! (stop !))
-        (init ! (6 + 6) refl (tt, tt)) $
-        assigns ! (agg ! (and-then ! (var ! (6 + 6) refl) (and-then !
-        (load ! (from ! (fld ! refl (stop !))) (look-in ! (6 + 2) (sub ! 1 refl (whole !)))) (no-more !)))) (from ! (stop !))
-        (init ! (6 + 7) refl (tt, (tt, (record { fits = room₁ .0 }, tt)))) $
+        relends ! (6 + 2) (6 + 6) (6 + 7) refl refl (room₁ .0) $
         calls-make 𝓤 H A W mem run κ₀ κ₁ κ₂ q₀ q₁ q₂ x y s vx vy vs ! fm known
         (and-then ! (var ! (1 + 5) refl) (and-then ! (var ! (1 + 7) refl) (and-then ! (var ! (1 + 3) refl) (no-more !))))
         (λ v a h′ l is.
@@ -142,35 +123,17 @@ module _ {M : Type 1} (𝓤 : URA M) (H : Heap 𝓤) (A : Atoms 𝓤) (W : Given
         peeks ! u32 (Is u32) (shows 𝓤 H A u32) z (y′ ∷ []) (λ isz.
         -- 6: [the numbers; the tokens; the last values]
         land ! (from ! (stop !)) (init ! 6 refl (uint-lawful 𝓤 H A W w32 .typed z _ isz .0)) $ returns ! (look ! 6 refl) $
-        gone ! 6 refl $ by ! (exits y′ a z h′ l (is .1) t (is .0)))))))))))))))))
+        gone ! 6 refl $ by ! (exits y′ a z h′ l (is .1) t (is .0))))))))))
 
 module _ {M : Type 1} (𝓤 : URA M) (H : Heap 𝓤) (A : Atoms 𝓤) (W : Given 𝓤 H A) (mem : Memory → SProp 𝓤) (run : Routine → Fun 𝓤)
     (𝓣 : Tables 𝓤 H) (known : Triple 𝓤 (𝓣 .C #call) (Make 𝓤 H A mem run)) (known-told : Triple 𝓤 (𝓣 .C #told) (Told 𝓤 H A mem run)) where
-  here-walks : Walks 𝓤 H A here.ended stayed (WpFn 𝓤 H (𝓣 .C) (𝓣 .Λ) code.function) (here.clauses 𝓤 H A mem run)
-  here-walks = walked 𝓤 H A here.ended stayed (here.clauses 𝓤 H A mem run) (WpFn 𝓤 H (𝓣 .C) (𝓣 .Λ) code.function)
-      (λ κs. (ptr-vals, (slice-vals, (slice-vals, tt))))
-      (λ κs. (
-        mut-tells (named 0) (κs .0) Q.the-row,
-        (
-          mut-slice-tells (named 1) (κs .1 .0) C.the-row,
-          (shr-slice-tells (named 2) (κs .1 .1 .0) u8, tt),
-        ),
-      ))
+  here-meets : Meets 𝓤 H A here.signature (WpFn 𝓤 H (𝓣 .C) (𝓣 .Λ) code.function) (here.spec 𝓤 H A mem run)
+  here-meets = meets here.ended ways 𝓤 H A W 𝓣 code.function (here.clauses 𝓤 H A mem run)
       (λ κs qs bounds a g are. via 𝓤 _ (fst∗ 𝓤 _ (emp 𝓤))
       (walk 𝓤 H A W mem run (κs .0) (κs .1 .0) (κs .1 .1 .0) (qs .0) (qs .1 .0) (qs .1 .1 .0) (a .0 .ptr .0) (a .0 .ptr .1) (a .0 .name)
       (a .0 .now) (a .1 .0 .ptr .0) (a .1 .0 .ptr .1) (a .1 .0 .name) (a .1 .0 .now) (a .1 .1 .0 .ptr .0) (a .1 .1 .0 .ptr .1)
       (a .1 .1 .0 .name) (a .1 .1 .0 .now)
-      (are .1 .0 .0 .1) (are .1 .1 .0 .0 .1) (𝓣 .C) (𝓣 .Λ) (fmOf 𝓤 H (W .laws) 𝓣) known known-told))
-
-  here-meets : Meets 𝓤 H A here.signature (WpFn 𝓤 H (𝓣 .C) (𝓣 .Λ) code.function) (here.spec 𝓤 H A mem run)
-  here-meets = walk-meets 𝓤 H A here.ended stayed W (
-    goes-gave-ref 𝓤 H A W 3 0 tt (plain (λ _. Q.the-row)),
-    (
-      goes-gave-slice 𝓤 H A W 3 1 tt (plain (λ _. C.the-row)),
-      (goes-dropped 𝓤 H A W 3 (shrSliceOf (2 ∷ []) tt (plain (λ _. u8))) yes (λ κs x f. refl), tt),
-    ),
-  )
-      (here.clauses 𝓤 H A mem run) (WpFn 𝓤 H (𝓣 .C) (𝓣 .Λ) code.function) (WpFn-mono 𝓤 H (W .laws) 𝓣 code.function) here-walks
+      (are .1 .0 .0 .1) (are .1 .1 .0 .0 .1) (𝓣 .C) (𝓣 .Λ) (fmOf 𝓤 H (W .laws) 𝓣) known known-told .go))
 
 pub poghduka-make-new-spec : {M : Type 1} → stated.statement M
 unfolding code.routine tablesOf

@@ -3,18 +3,16 @@
 -- Assumes nothing.
 use denote.Struct.Laws as LL
 use denote.Enum.Laws as EL
-use Rattle.walks.proofs.Walk.{_≡_, refl, ℕ, _+_, List, [], _∷_, length, URA, named, Val, vptr, SProp, ent, emp, id⊢, via, fst∗, Lft, GName}
-use Rattle.walks.proofs.Walk.{Share, ftrue, flft, fres, Memory, Routine, Heap, Calls, Loops, WpFn, Tables, Atoms, FmC, fmOf, WpFn-mono, Fun}
-use Rattle.walks.proofs.Walk.{fact, givenOf, tables, tablesOf, Given, Item, ‵, raw, _⊛_, some, later, ⋆, _$_, _∵_, !, qed, by, move, keep}
-use Rattle.walks.proofs.Walk.{drop, use1, split, join, pick, fsplit}
-use Rattle.walks.proofs.Walk.{fjoin, suffices, frame, await, done, agg, whole, sub, look-in, look, init, stop, hop, fld, from, load, addr}
-use Rattle.walks.proofs.Walk.{and-then, no-more, land, assigns, returns, enter, alloc1, alloc0, params1, pass1, pass0, yes, owns, Is}
-use Rattle.walks.proofs.Walk.{shows, u8, RefT, MutRef, ptr-vals, mut-tells, sliceVal, MutSlice, ShrSlice, Room, finally, slice-vals}
-use Rattle.walks.proofs.Walk.{mut-slice-tells, shr-slice-tells, plain}
-use Rattle.walks.proofs.Walk.{shrSliceOf, peeks, heard, nothing, onEntry, Contract, Triple, calls-at, Meets, tripleOf, entered, cited}
-use Rattle.walks.proofs.Walk.{Lasts, lasts, says, Stays, stay-dropped, gave-ref, gave-slice, walkOf, Walks, ends-at, walked, goes-dropped}
-use Rattle.walks.proofs.Walk.{goes-gave-ref, goes-gave-slice, walk-meets}
-use Rattle.walks.proofs.Order.{entry, var, gone}
+use Rattle.walks.proofs.Walk.{_≡_, refl, ℕ, _+_, List, [], _∷_, length, URA, Val, vptr, SProp, ent, emp, id⊢, via, fst∗, Lft, GName, Share}
+use Rattle.walks.proofs.Walk.{ftrue, flft, fres, Memory, Routine, Heap, Calls, Loops, WpFn, Tables, Atoms, FmC, fmOf, Fun, fact, givenOf}
+use Rattle.walks.proofs.Walk.{tables, tablesOf, Given, Item, ‵, raw, _⊛_, some, later, ⋆, _$_, _∵_, !, qed, by, move, keep, drop, use1}
+use Rattle.walks.proofs.Walk.{split, join, pick, fjoin, suffices, frame, await, done, look, init, stop, hop, from, addr, and-then, no-more}
+use Rattle.walks.proofs.Walk.{land, assigns, returns, Is, shows, u8, RefT, sliceVal, Room, finally, plain, peeks, heard, nothing, Contract}
+use Rattle.walks.proofs.Walk.{Triple, calls-at, Meets, tripleOf, entered, cited, Lasts, lasts, says, Stays, walkOf, ends-at, Go}
+use Rattle.walks.proofs.Order.{var, gone}
+use Rattle.walks.proofs.Again.{relends}
+use Rattle.walks.proofs.Begin.{Begins, begins}
+use Rattle.walks.proofs.Ways.{_&_, Ways, had-at-exit, meets, given-ref, given-slice, read-slice}
 use Rattle.cells.specs.declared.CellRecord.{CellRecord}
 use Rattle.cells.proofs.CellRecord as C
 use Rattle.receiver.specs.declared.RecvQueue.{RecvQueue}
@@ -44,14 +42,12 @@ use Rattle.exports_queue.proofs.poghduka_receive.Statement as stated
 use Rattle.exports_queue.proofs.poghduka_receive.Code as code
 
 -- what the walk still has of each parameter at exit: of a `&mut` its last value
+abbrev ways : Ways (here.ended .signature .params) (here.ended .kept)
+ways = given-ref 0 tt (plain (λ _. Q.the-row)) & given-slice 1 tt (plain (λ _. C.the-row)) & given-slice 2 tt (plain (λ _. u8))
+    & read-slice 3 tt (plain (λ _. u8)) & tt
+
 abbrev stayed : Stays (here.ended .signature .params) (here.ended .kept)
-stayed = (
-  gave-ref (0 ∷ []) tt (plain (λ _. Q.the-row)),
-  (
-    gave-slice (1 ∷ []) tt (plain (λ _. C.the-row)),
-    (gave-slice (2 ∷ []) tt (plain (λ _. u8)), (stay-dropped (shrSliceOf (3 ∷ []) tt (plain (λ _. u8))) yes, tt)),
-  ),
-)
+stayed = had-at-exit here.ended ways
 
 module _ {M : Type 1} (𝓤 : URA M) (H : Heap 𝓤) (A : Atoms 𝓤) (mem : Memory → SProp 𝓤) (run : Routine → Fun 𝓤) where
   abbrev Told : Contract 𝓤
@@ -128,38 +124,15 @@ module _ {M : Type 1} (𝓤 : URA M) (H : Heap 𝓤) (A : Atoms 𝓤) (W : Given
 
   module _ (C′ : Calls 𝓤 H) (Λ : Loops 𝓤 H) (fm : FmC 𝓤 H (W .laws) C′) (known : Triple 𝓤 (C′ #call) (Receives 𝓤 H A mem run))
       (known-told : Triple 𝓤 (C′ #told) (Told 𝓤 H A mem run)) where
-    walk : ent 𝓤 (onEntry 𝓤 H A here.signature (κ₀, (κ₁, (κ₂, (κ₃, tt)))) (q₀, (q₁, (q₂, (q₃, tt)))) (x, (y, (s, (d, tt))))
-        (vx ∷ [], (vy ∷ [], (vs ∷ [], (vd ∷ [], tt))))) (WpFn 𝓤 H C′ Λ code.function (vx ∷ vy ∷ vs ∷ vd ∷ []) Post)
-    walk =
-        qed W ((‵ (flft κ₀ q₀) ⊛ (‵ (flft κ₁ q₁) ⊛ (‵ (flft κ₂ q₂) ⊛ (‵ (flft κ₃ q₃) ⊛ ‵ ftrue))))
-        ∷ ‵ (owns (MutRef (named 0) κ₀ Q.the-row ∷ MutSlice (named 1) κ₁ C.the-row ∷ MutSlice (named 2) κ₂ u8 ∷ ShrSlice (named 3) κ₃ u8
-        ∷ []) (x, (y, (s, (d, tt)))) (vx ∷ [], (vy ∷ [], (vs ∷ [], (vd ∷ [], tt))))) ∷ []) ∵
-        enter ! C′ Λ code.function (vx ∷ vy ∷ vs ∷ vd ∷ []) _ $
-        alloc1 ! (λ l₀. alloc1 !
-        (λ l₁. alloc1 !
-        (λ l₂. alloc1 !
-        (λ l₃. alloc1 !
-        (λ l₄. alloc1 ! (λ l₅. alloc1 ! (λ l₆. alloc1 ! (λ l₇. alloc1 ! (λ l₈. alloc1 ! (λ l₉. alloc1 ! (λ l₁₀. alloc0 ! $ params1 ! $
-        pass1 ! (init ! 18 refl (tt, tt)) $ pass1 ! (init ! 16 refl (tt, (tt, (record { fits = room₁ .0 }, tt)))) $
-        pass1 ! (init ! 14 refl (tt, (tt, (record { fits = room₂ .0 }, tt)))) $
-        pass1 ! (init ! 12 refl (tt, (tt, (record { fits = room₃ .0 }, tt)))) $ pass0 ! $
-        move ! (23 ∷ []) $ fsplit ! $ move ! (1 ∷ []) $ fsplit ! $ move ! (1 ∷ []) $ fsplit ! $ move ! (1 ∷ []) $ fsplit ! $
-        move ! (27 ∷ []) $ split ! $ move ! (1 ∷ []) $ split ! $ move ! (1 ∷ []) $ split ! $ move ! (1 ∷ []) $ split ! $
-        -- from here on what is owned stands first, then the locals _0, …, _10, then that each dies: with k things owned, local i is at k +
-        -- i
-        keep ! (4 ∷ 3 ∷ 2 ∷ 0 ∷ 9 ∷ 8 ∷ 7 ∷ 5 ∷ entry 10 11) $
+    walk : Begins (Go {0}) W here.signature (Passed .0) C′ Λ code.function Post
+    walk = begins ! (keep ! (4 ∷ 5 ∷ 6 ∷ 7 ∷ 0 ∷ 1 ∷ 2 ∷ 3 ∷ []))
+        ((tt, tt) & (tt, (tt, (record { fits = room₁ .0 }, tt))) & (tt, (tt, (record { fits = room₂ .0 }, tt)))
+        & (tt, (tt, (record { fits = room₃ .0 }, tt))) & tt)
+        (λ l₀ l₁ l₂ l₃ l₄ l₅ l₆ l₇ l₈ l₉ l₁₀.
         -- 8: [the tokens; the parameters]
         assigns ! (addr ! (from ! (hop ! (look ! (8 + 1) refl) (stop !)))) (from ! (stop !)) (init ! (8 + 6) refl (tt, tt)) $
-        assigns ! (addr ! (from ! (fld ! refl (hop ! (look-in ! (8 + 2) (sub ! 0 refl (whole !))) (stop !))))) (from ! (stop !))
-        (init ! (8 + 7) refl (tt, tt)) $
-        assigns ! (agg ! (and-then ! (var ! (8 + 7) refl) (and-then !
-        (load ! (from ! (fld ! refl (stop !))) (look-in ! (8 + 2) (sub ! 1 refl (whole !)))) (no-more !)))) (from ! (stop !))
-        (init ! (8 + 8) refl (tt, (tt, (record { fits = room₁ .0 }, tt)))) $
-        assigns ! (addr ! (from ! (fld ! refl (hop ! (look-in ! (8 + 3) (sub ! 0 refl (whole !))) (stop !))))) (from ! (stop !))
-        (init ! (8 + 9) refl (tt, tt)) $
-        assigns ! (agg ! (and-then ! (var ! (8 + 9) refl) (and-then !
-        (load ! (from ! (fld ! refl (stop !))) (look-in ! (8 + 3) (sub ! 1 refl (whole !)))) (no-more !)))) (from ! (stop !))
-        (init ! (8 + 10) refl (tt, (tt, (record { fits = room₂ .0 }, tt)))) $
+        relends ! (8 + 2) (8 + 7) (8 + 8) refl refl (room₁ .0) $
+        relends ! (8 + 3) (8 + 9) (8 + 10) refl refl (room₂ .0) $
         calls-receive 𝓤 H A W mem run κ₀ κ₁ κ₂ κ₃ q₀ q₁ q₂ q₃ x y s d vx vy vs vd ! fm known
         (and-then ! (var ! (1 + 6) refl) (and-then ! (var ! (1 + 8) refl)
         (and-then ! (var ! (1 + 10) refl) (and-then ! (var ! (1 + 4) refl) (no-more !))))) (λ v a h′ l w is.
@@ -176,40 +149,19 @@ module _ {M : Type 1} (𝓤 : URA M) (H : Heap 𝓤) (A : Atoms 𝓤) (W : Given
         peeks ! Z.the-row (Is Z.the-row) (shows 𝓤 H A Z.the-row) z (y′ ∷ []) (λ isz.
         -- 8: [the numbers; the tokens; the last values]
         land ! (from ! (stop !)) (init ! 8 refl (LL.lawful Z.the-type Z′.the-laws 𝓤 H A W .typed z _ isz .0)) $ returns ! (look ! 8 refl) $
-        gone ! 8 refl $ by ! (exits y′ a z h′ l w (is .2) t (is .0) (is .1))))))))))))))))))))
+        gone ! 8 refl $ by ! (exits y′ a z h′ l w (is .2) t (is .0) (is .1))))))))))
 
 module _ {M : Type 1} (𝓤 : URA M) (H : Heap 𝓤) (A : Atoms 𝓤) (W : Given 𝓤 H A) (mem : Memory → SProp 𝓤) (run : Routine → Fun 𝓤)
     (𝓣 : Tables 𝓤 H) (known : Triple 𝓤 (𝓣 .C #call) (Receives 𝓤 H A mem run)) (known-told : Triple 𝓤 (𝓣 .C #told) (Told 𝓤 H A mem run))
   where
-    here-walks : Walks 𝓤 H A here.ended stayed (WpFn 𝓤 H (𝓣 .C) (𝓣 .Λ) code.function) (here.clauses 𝓤 H A mem run)
-    here-walks = walked 𝓤 H A here.ended stayed (here.clauses 𝓤 H A mem run) (WpFn 𝓤 H (𝓣 .C) (𝓣 .Λ) code.function)
-        (λ κs. (ptr-vals, (slice-vals, (slice-vals, (slice-vals, tt)))))
-        (λ κs. (
-          mut-tells (named 0) (κs .0) Q.the-row,
-          (
-            mut-slice-tells (named 1) (κs .1 .0) C.the-row,
-            (mut-slice-tells (named 2) (κs .1 .1 .0) u8, (shr-slice-tells (named 3) (κs .1 .1 .1 .0) u8, tt)),
-          ),
-        ))
+    here-meets : Meets 𝓤 H A here.signature (WpFn 𝓤 H (𝓣 .C) (𝓣 .Λ) code.function) (here.spec 𝓤 H A mem run)
+    here-meets = meets here.ended ways 𝓤 H A W 𝓣 code.function (here.clauses 𝓤 H A mem run)
         (λ κs qs bounds a g are. via 𝓤 _ (fst∗ 𝓤 _ (emp 𝓤))
         (walk 𝓤 H A W mem run (κs .0) (κs .1 .0) (κs .1 .1 .0) (κs .1 .1 .1 .0) (qs .0) (qs .1 .0) (qs .1 .1 .0) (qs .1 .1 .1 .0)
         (a .0 .ptr .0) (a .0 .ptr .1) (a .0 .name) (a .0 .now) (a .1 .0 .ptr .0) (a .1 .0 .ptr .1) (a .1 .0 .name) (a .1 .0 .now)
         (a .1 .1 .0 .ptr .0) (a .1 .1 .0 .ptr .1) (a .1 .1 .0 .name) (a .1 .1 .0 .now) (a .1 .1 .1 .0 .ptr .0) (a .1 .1 .1 .0 .ptr .1)
         (a .1 .1 .1 .0 .name) (a .1 .1 .1 .0 .now)
-        (are .1 .0 .0 .1) (are .1 .1 .0 .0 .1) (are .1 .1 .1 .0 .0 .1) (𝓣 .C) (𝓣 .Λ) (fmOf 𝓤 H (W .laws) 𝓣) known known-told))
-
-    here-meets : Meets 𝓤 H A here.signature (WpFn 𝓤 H (𝓣 .C) (𝓣 .Λ) code.function) (here.spec 𝓤 H A mem run)
-    here-meets = walk-meets 𝓤 H A here.ended stayed W (
-      goes-gave-ref 𝓤 H A W 4 0 tt (plain (λ _. Q.the-row)),
-      (
-        goes-gave-slice 𝓤 H A W 4 1 tt (plain (λ _. C.the-row)),
-        (
-          goes-gave-slice 𝓤 H A W 4 2 tt (plain (λ _. u8)),
-          (goes-dropped 𝓤 H A W 4 (shrSliceOf (3 ∷ []) tt (plain (λ _. u8))) yes (λ κs x f. refl), tt),
-        ),
-      ),
-    )
-        (here.clauses 𝓤 H A mem run) (WpFn 𝓤 H (𝓣 .C) (𝓣 .Λ) code.function) (WpFn-mono 𝓤 H (W .laws) 𝓣 code.function) here-walks
+        (are .1 .0 .0 .1) (are .1 .1 .0 .0 .1) (are .1 .1 .1 .0 .0 .1) (𝓣 .C) (𝓣 .Λ) (fmOf 𝓤 H (W .laws) 𝓣) known known-told .go))
 
 pub poghduka-receive-spec : {M : Type 1} → stated.statement M
 unfolding code.routine tablesOf

@@ -3,18 +3,16 @@
 -- Assumes nothing.
 use denote.Struct.Laws as LL
 use denote.Enum.Laws as EL
-use Rattle.walks.proofs.Walk.{_≡_, refl, ℕ, _+_, List, [], _∷_, length, URA, named, Val, vptr, SProp, ent, emp, id⊢, via, fst∗, Lft, GName}
-use Rattle.walks.proofs.Walk.{Share, ftrue, flft, Memory, Routine, Heap, Calls, Loops, WpFn, Tables, Atoms, FmC, fmOf, WpFn-mono, Fun, fact}
-use Rattle.walks.proofs.Walk.{givenOf, tables, tablesOf, Given, Item, ‵, raw, _⊛_, some, later, ⋆, _$_, _∵_, !, qed, by, move, keep, drop}
-use Rattle.walks.proofs.Walk.{use1, split, join, pick, fsplit, fjoin}
-use Rattle.walks.proofs.Walk.{suffices, frame, await, done, agg, whole, sub, look-in, look, init, stop, hop, fld, from, load, addr}
-use Rattle.walks.proofs.Walk.{and-then, no-more, land, assigns, returns, enter, alloc1, alloc0, params1, pass1, pass0, yes, owns, Is}
-use Rattle.walks.proofs.Walk.{shows, u8, RefT, ShrRef, ptr-vals, shr-tells, sliceVal, MutSlice, ShrSlice, Room, finally, slice-vals}
-use Rattle.walks.proofs.Walk.{mut-slice-tells, shr-slice-tells, plain, shrRefTo}
-use Rattle.walks.proofs.Walk.{shrSliceOf, peeks, heard, nothing, onEntry, Contract, Triple, calls-at, Meets, tripleOf, entered, cited}
-use Rattle.walks.proofs.Walk.{Lasts, lasts, says, Stays, stay-dropped, gave-slice, walkOf, Walks, ends-at, walked, goes-dropped}
-use Rattle.walks.proofs.Walk.{goes-gave-slice, walk-meets}
-use Rattle.walks.proofs.Order.{entry, var, gone}
+use Rattle.walks.proofs.Walk.{_≡_, refl, ℕ, _+_, List, [], _∷_, length, URA, Val, vptr, SProp, ent, emp, id⊢, via, fst∗, Lft, GName, Share}
+use Rattle.walks.proofs.Walk.{ftrue, flft, Memory, Routine, Heap, Calls, Loops, WpFn, Tables, Atoms, FmC, fmOf, Fun, fact, givenOf, tables}
+use Rattle.walks.proofs.Walk.{tablesOf, Given, Item, ‵, raw, _⊛_, some, later, ⋆, _$_, _∵_, !, qed, by, move, keep, drop, use1, split, join}
+use Rattle.walks.proofs.Walk.{pick, fjoin, suffices, frame, await, done, look, init, stop, from, and-then, no-more, land, returns, Is}
+use Rattle.walks.proofs.Walk.{shows, u8, RefT, sliceVal, Room, finally, plain, peeks, heard, nothing, Contract, Triple, calls-at, Meets}
+use Rattle.walks.proofs.Walk.{tripleOf, entered, cited, Lasts, lasts, says, Stays, walkOf, ends-at, Go}
+use Rattle.walks.proofs.Order.{var, gone}
+use Rattle.walks.proofs.Again.{relends}
+use Rattle.walks.proofs.Begin.{Begins, begins}
+use Rattle.walks.proofs.Ways.{_&_, Ways, had-at-exit, meets, given-slice, read-ref, read-slice}
 use Rattle.cells.specs.declared.CellRecord.{CellRecord}
 use Rattle.cells.proofs.CellRecord as C
 use Rattle.receiver.specs.declared.RecvQueue.{RecvQueue}
@@ -43,17 +41,12 @@ use Rattle.exports_queue.proofs.poghduka_take.Statement as stated
 use Rattle.exports_queue.proofs.poghduka_take.Code as code
 
 -- what the walk still has of each parameter at exit: of a `&mut` its last value
+abbrev ways : Ways (here.ended .signature .params) (here.ended .kept)
+ways = read-ref 0 tt (plain (λ _. Q.the-row)) & given-slice 1 tt (plain (λ _. C.the-row)) & read-slice 2 tt (plain (λ _. u8))
+    & given-slice 3 tt (plain (λ _. u8)) & tt
+
 abbrev stayed : Stays (here.ended .signature .params) (here.ended .kept)
-stayed = (
-  stay-dropped (shrRefTo (0 ∷ []) tt (plain (λ _. Q.the-row))) yes,
-  (
-    gave-slice (1 ∷ []) tt (plain (λ _. C.the-row)),
-    (
-      stay-dropped (shrSliceOf (2 ∷ []) tt (plain (λ _. u8))) yes,
-      (gave-slice (3 ∷ []) tt (plain (λ _. u8)), tt),
-    ),
-  ),
-)
+stayed = had-at-exit here.ended ways
 
 module _ {M : Type 1} (𝓤 : URA M) (H : Heap 𝓤) (A : Atoms 𝓤) (mem : Memory → SProp 𝓤) (run : Routine → Fun 𝓤) where
   abbrev Told : Contract 𝓤
@@ -129,35 +122,14 @@ module _ {M : Type 1} (𝓤 : URA M) (H : Heap 𝓤) (A : Atoms 𝓤) (W : Given
 
   module _ (C′ : Calls 𝓤 H) (Λ : Loops 𝓤 H) (fm : FmC 𝓤 H (W .laws) C′) (known : Triple 𝓤 (C′ #call) (Takes 𝓤 H A mem run))
       (known-told : Triple 𝓤 (C′ #told) (Told 𝓤 H A mem run)) where
-    walk : ent 𝓤 (onEntry 𝓤 H A here.signature (κ₀, (κ₁, (κ₂, (κ₃, tt)))) (q₀, (q₁, (q₂, (q₃, tt)))) (x, (y, (s, (d, tt))))
-        (vx ∷ [], (vy ∷ [], (vs ∷ [], (vd ∷ [], tt))))) (WpFn 𝓤 H C′ Λ code.function (vx ∷ vy ∷ vs ∷ vd ∷ []) Post)
-    walk =
-        qed W ((‵ (flft κ₀ q₀) ⊛ (‵ (flft κ₁ q₁) ⊛ (‵ (flft κ₂ q₂) ⊛ (‵ (flft κ₃ q₃) ⊛ ‵ ftrue))))
-        ∷ ‵ (owns (ShrRef (named 0) κ₀ Q.the-row ∷ MutSlice (named 1) κ₁ C.the-row ∷ ShrSlice (named 2) κ₂ u8 ∷ MutSlice (named 3) κ₃ u8
-        ∷ []) (x, (y, (s, (d, tt)))) (vx ∷ [], (vy ∷ [], (vs ∷ [], (vd ∷ [], tt))))) ∷ []) ∵
-        enter ! C′ Λ code.function (vx ∷ vy ∷ vs ∷ vd ∷ []) _ $
-        alloc1 ! (λ l₀. alloc1 !
-        (λ l₁. alloc1 !
-        (λ l₂. alloc1 !
-        (λ l₃. alloc1 ! (λ l₄. alloc1 ! (λ l₅. alloc1 ! (λ l₆. alloc1 ! (λ l₇. alloc1 ! (λ l₈. alloc1 ! (λ l₉. alloc0 ! $ params1 ! $
-        pass1 ! (init ! 16 refl (tt, tt)) $ pass1 ! (init ! 14 refl (tt, (tt, (record { fits = room₁ .0 }, tt)))) $
-        pass1 ! (init ! 12 refl (tt, (tt, (record { fits = room₂ .0 }, tt)))) $
-        pass1 ! (init ! 10 refl (tt, (tt, (record { fits = room₃ .0 }, tt)))) $ pass0 ! $
-        move ! (21 ∷ []) $ fsplit ! $ move ! (1 ∷ []) $ fsplit ! $ move ! (1 ∷ []) $ fsplit ! $ move ! (1 ∷ []) $ fsplit ! $
-        move ! (25 ∷ []) $ split ! $ move ! (1 ∷ []) $ split ! $ move ! (1 ∷ []) $ split ! $ move ! (1 ∷ []) $ split ! $
-        -- from here on what is owned stands first, then the locals _0, …, _9, then that each dies: with k things owned, local i is at k + i
-        keep ! (4 ∷ 3 ∷ 2 ∷ 0 ∷ 9 ∷ 8 ∷ 7 ∷ 5 ∷ entry 10 10) $
+    walk : Begins (Go {0}) W here.signature (Passed .0) C′ Λ code.function Post
+    walk = begins ! (keep ! (4 ∷ 5 ∷ 6 ∷ 7 ∷ 0 ∷ 1 ∷ 2 ∷ 3 ∷ []))
+        ((tt, tt) & (tt, (tt, (record { fits = room₁ .0 }, tt))) & (tt, (tt, (record { fits = room₂ .0 }, tt)))
+        & (tt, (tt, (record { fits = room₃ .0 }, tt))) & tt)
+        (λ l₀ l₁ l₂ l₃ l₄ l₅ l₆ l₇ l₈ l₉.
         -- 8: [the tokens; the parameters]
-        assigns ! (addr ! (from ! (fld ! refl (hop ! (look-in ! (8 + 2) (sub ! 0 refl (whole !))) (stop !))))) (from ! (stop !))
-        (init ! (8 + 6) refl (tt, tt)) $
-        assigns ! (agg ! (and-then ! (var ! (8 + 6) refl) (and-then !
-        (load ! (from ! (fld ! refl (stop !))) (look-in ! (8 + 2) (sub ! 1 refl (whole !)))) (no-more !)))) (from ! (stop !))
-        (init ! (8 + 7) refl (tt, (tt, (record { fits = room₁ .0 }, tt)))) $
-        assigns ! (addr ! (from ! (fld ! refl (hop ! (look-in ! (8 + 4) (sub ! 0 refl (whole !))) (stop !))))) (from ! (stop !))
-        (init ! (8 + 8) refl (tt, tt)) $
-        assigns ! (agg ! (and-then ! (var ! (8 + 8) refl) (and-then !
-        (load ! (from ! (fld ! refl (stop !))) (look-in ! (8 + 4) (sub ! 1 refl (whole !)))) (no-more !)))) (from ! (stop !))
-        (init ! (8 + 9) refl (tt, (tt, (record { fits = room₃ .0 }, tt)))) $
+        relends ! (8 + 2) (8 + 6) (8 + 7) refl refl (room₁ .0) $
+        relends ! (8 + 4) (8 + 8) (8 + 9) refl refl (room₃ .0) $
         calls-take 𝓤 H A W mem run κ₀ κ₁ κ₂ κ₃ q₀ q₁ q₂ q₃ x y s d vx vy vs vd ! fm known
         (and-then ! (var ! (1 + 1) refl) (and-then ! (var ! (1 + 7) refl)
         (and-then ! (var ! (1 + 3) refl) (and-then ! (var ! (1 + 9) refl) (no-more !))))) (λ v a l w is.
@@ -174,39 +146,18 @@ module _ {M : Type 1} (𝓤 : URA M) (H : Heap 𝓤) (A : Atoms 𝓤) (W : Given
         peeks ! Z.the-row (Is Z.the-row) (shows 𝓤 H A Z.the-row) z (y′ ∷ []) (λ isz.
         -- 7: [the numbers; the tokens; the last values]
         land ! (from ! (stop !)) (init ! 7 refl (LL.lawful Z.the-type Z′.the-laws 𝓤 H A W .typed z _ isz .0)) $ returns ! (look ! 7 refl) $
-        gone ! 7 refl $ by ! (exits y′ a z l w (is .2) t (is .0) (is .1)))))))))))))))))))
+        gone ! 7 refl $ by ! (exits y′ a z l w (is .2) t (is .0) (is .1))))))))))
 
 module _ {M : Type 1} (𝓤 : URA M) (H : Heap 𝓤) (A : Atoms 𝓤) (W : Given 𝓤 H A) (mem : Memory → SProp 𝓤) (run : Routine → Fun 𝓤)
     (𝓣 : Tables 𝓤 H) (known : Triple 𝓤 (𝓣 .C #call) (Takes 𝓤 H A mem run)) (known-told : Triple 𝓤 (𝓣 .C #told) (Told 𝓤 H A mem run)) where
-  here-walks : Walks 𝓤 H A here.ended stayed (WpFn 𝓤 H (𝓣 .C) (𝓣 .Λ) code.function) (here.clauses 𝓤 H A mem run)
-  here-walks = walked 𝓤 H A here.ended stayed (here.clauses 𝓤 H A mem run) (WpFn 𝓤 H (𝓣 .C) (𝓣 .Λ) code.function)
-      (λ κs. (ptr-vals, (slice-vals, (slice-vals, (slice-vals, tt)))))
-      (λ κs. (
-        shr-tells (named 0) (κs .0) Q.the-row,
-        (
-          mut-slice-tells (named 1) (κs .1 .0) C.the-row,
-          (shr-slice-tells (named 2) (κs .1 .1 .0) u8, (mut-slice-tells (named 3) (κs .1 .1 .1 .0) u8, tt)),
-        ),
-      ))
+  here-meets : Meets 𝓤 H A here.signature (WpFn 𝓤 H (𝓣 .C) (𝓣 .Λ) code.function) (here.spec 𝓤 H A mem run)
+  here-meets = meets here.ended ways 𝓤 H A W 𝓣 code.function (here.clauses 𝓤 H A mem run)
       (λ κs qs bounds a g are. via 𝓤 _ (fst∗ 𝓤 _ (emp 𝓤))
       (walk 𝓤 H A W mem run (κs .0) (κs .1 .0) (κs .1 .1 .0) (κs .1 .1 .1 .0) (qs .0) (qs .1 .0) (qs .1 .1 .0) (qs .1 .1 .1 .0)
       (a .0 .ptr .0) (a .0 .ptr .1) (a .0 .name) (a .0 .now) (a .1 .0 .ptr .0) (a .1 .0 .ptr .1) (a .1 .0 .name) (a .1 .0 .now)
       (a .1 .1 .0 .ptr .0) (a .1 .1 .0 .ptr .1) (a .1 .1 .0 .name) (a .1 .1 .0 .now) (a .1 .1 .1 .0 .ptr .0) (a .1 .1 .1 .0 .ptr .1)
       (a .1 .1 .1 .0 .name) (a .1 .1 .1 .0 .now)
-      (are .1 .0 .0 .1) (are .1 .1 .0 .0 .1) (are .1 .1 .1 .0 .0 .1) (𝓣 .C) (𝓣 .Λ) (fmOf 𝓤 H (W .laws) 𝓣) known known-told))
-
-  here-meets : Meets 𝓤 H A here.signature (WpFn 𝓤 H (𝓣 .C) (𝓣 .Λ) code.function) (here.spec 𝓤 H A mem run)
-  here-meets = walk-meets 𝓤 H A here.ended stayed W (
-    goes-dropped 𝓤 H A W 4 (shrRefTo (0 ∷ []) tt (plain (λ _. Q.the-row))) yes (λ κs x f. refl),
-    (
-      goes-gave-slice 𝓤 H A W 4 1 tt (plain (λ _. C.the-row)),
-      (
-        goes-dropped 𝓤 H A W 4 (shrSliceOf (2 ∷ []) tt (plain (λ _. u8))) yes (λ κs x f. refl),
-        (goes-gave-slice 𝓤 H A W 4 3 tt (plain (λ _. u8)), tt),
-      ),
-    ),
-  )
-      (here.clauses 𝓤 H A mem run) (WpFn 𝓤 H (𝓣 .C) (𝓣 .Λ) code.function) (WpFn-mono 𝓤 H (W .laws) 𝓣 code.function) here-walks
+      (are .1 .0 .0 .1) (are .1 .1 .0 .0 .1) (are .1 .1 .1 .0 .0 .1) (𝓣 .C) (𝓣 .Λ) (fmOf 𝓤 H (W .laws) 𝓣) known known-told .go))
 
 pub poghduka-take-spec : {M : Type 1} → stated.statement M
 unfolding code.routine tablesOf

@@ -1,25 +1,20 @@
 -- `recv_acks::write_missing` meets its contract: a walk of its MIR, by hand. The reference and the output are given up to
 -- `write_list`.
 -- Assumes nothing.
-use Rattle.walks.proofs.Walk.{_≡_, refl, ℕ, _+_, length, [], _∷_, List, URA, named, Val, vptr, SProp, ent, emp, via, fst∗, GName, Lft}
-use Rattle.walks.proofs.Walk.{Share, ftrue, flft, Memory, Routine, Heap, Calls, Loops, WpFn, Tables, Atoms, Fun, givenOf, tables}
-use Rattle.walks.proofs.Walk.{tablesOf}
-use Rattle.walks.proofs.Walk.{Given, Item, ‵, _⊛_, ⋆, _$_, _∵_, !, qed, by, move, keep, split, join, fsplit, fjoin, suffices, frame}
-use Rattle.walks.proofs.Walk.{done}
-use Rattle.walks.proofs.Walk.{look, init, stop, hop, fld, from, load, addr, and-then, no-more, land, assigns, returns, enter, alloc1}
-use Rattle.walks.proofs.Walk.{alloc0}
-use Rattle.walks.proofs.Walk.{params1, pass1, pass0, agg, whole, sub, look-in, FmC, fmOf, WpFn-mono, yes, owns, Is, shows, u8}
-use Rattle.walks.proofs.Walk.{RefT}
-use Rattle.walks.proofs.Walk.{ShrRef, ptr-vals, shr-tells, sliceVal, MutSlice, Room, finally, slice-vals, mut-slice-tells, plain}
-use Rattle.walks.proofs.Walk.{shrRefTo}
-use Rattle.walks.proofs.Walk.{peeks, nothing, onEntry, Triple, Meets, tripleOf, entered, cited, says, Stays, stay-dropped, gave-slice}
-use Rattle.walks.proofs.Walk.{walkOf, goes-dropped, goes-gave-slice, Walks, ends-at, walked, walk-meets, true}
+use Rattle.walks.proofs.Walk.{_≡_, refl, ℕ, _+_, length, [], _∷_, List, URA, Val, vptr, SProp, ent, emp, via, fst∗, GName, Lft, Share, flft}
+use Rattle.walks.proofs.Walk.{Memory, Routine, Heap, Calls, Loops, WpFn, Tables, Atoms, Fun, givenOf, tables, tablesOf, Given, Item, ‵, ⋆}
+use Rattle.walks.proofs.Walk.{_$_, _∵_, !, qed, by, move, keep, join, fjoin, suffices, frame, done, look, init, stop, from, and-then}
+use Rattle.walks.proofs.Walk.{no-more, land, returns, FmC, fmOf, Is, shows, u8, RefT, sliceVal, Room, finally, plain, peeks, nothing}
+use Rattle.walks.proofs.Walk.{Triple, Meets, tripleOf, entered, cited, says, Stays, walkOf, ends-at, true, Go}
 use types.Run.{true-lit}
 use denote.Enum.Laws as EL
 use Rattle.receiver.specs.declared.RecvQueue.{RecvQueue}
 use Rattle.receiver.specs.Write.{writeMissingOf}
 use Rattle.receiver.proofs.RecvQueue as T
-use Rattle.walks.proofs.Order.{entry, var, gone}
+use Rattle.walks.proofs.Order.{var, gone}
+use Rattle.walks.proofs.Again.{relends}
+use Rattle.walks.proofs.Begin.{Begins, begins}
+use Rattle.walks.proofs.Ways.{_&_, Ways, had-at-exit, meets, given-slice, read-ref}
 use Rattle.recv_acks.specs.declared.WriteQueue.{WriteQueue}
 use Rattle.recv_acks.specs.Wrote.{wrote}
 use Rattle.recv_acks.proofs.WriteLaws.{missing-said}
@@ -35,8 +30,11 @@ use Rattle.recv_acks.proofs.write_missing.Statement as stated
 use Rattle.recv_acks.proofs.write_missing.Code as code
 
 -- what the walk still has of each parameter at exit: of the output its last value
+abbrev ways : Ways (f.ended .signature .params) (f.ended .kept)
+ways = read-ref 0 tt (plain (λ _. T.the-row)) & given-slice 1 tt (plain (λ _. u8)) & tt
+
 abbrev stayed : Stays (f.ended .signature .params) (f.ended .kept)
-stayed = (stay-dropped (shrRefTo (0 ∷ []) tt (plain (λ _. T.the-row))) yes, (gave-slice (1 ∷ []) tt (plain (λ _. u8)), tt))
+stayed = had-at-exit f.ended ways
 
 module _ {M : Type 1} (𝓤 : URA M) (H : Heap 𝓤) (A : Atoms 𝓤) (W : Given 𝓤 H A) (mem : Memory → SProp 𝓤) (run : Routine → Fun 𝓤)
     (κ₀ κ₁ : Lft) (q₀ q₁ : Share) (b o : ℕ) (γ : GName) (h : RecvQueue) (b₁ o₁ : ℕ) (γ₁ : GName) (js : List ℕ)
@@ -73,51 +71,27 @@ module _ {M : Type 1} (𝓤 : URA M) (H : Heap 𝓤) (A : Atoms 𝓤) (W : Given
 
     module _ (C₀ : Calls 𝓤 H) (Λ : Loops 𝓤 H) (fm : FmC 𝓤 H (W .laws) C₀)
         (known : Triple 𝓤 (C₀ #recv-acks·write-list) (WriteList 𝓤 H A mem run)) where
-      walk : ent 𝓤 (onEntry 𝓤 H A f.signature (κ₀, (κ₁, tt)) (q₀, (q₁, tt)) (x, (j, tt)) (vptr b o ∷ [], (vj ∷ [], tt)))
-          (WpFn 𝓤 H C₀ Λ code.function (vptr b o ∷ vj ∷ []) Post)
-      walk =
-          qed W ((‵ (flft κ₀ q₀) ⊛ (‵ (flft κ₁ q₁) ⊛ ‵ ftrue))
-          ∷ ‵ (owns (ShrRef (named 0) κ₀ T.the-row ∷ MutSlice (named 1) κ₁ u8 ∷ []) (x, (j, tt)) (vptr b o ∷ [], (vj ∷ [], tt))) ∷ [])
-          ∵
-          enter ! C₀ Λ code.function (vptr b o ∷ vj ∷ []) _ $
-          alloc1 ! (λ l₀. alloc1 !
-          (λ l₁. alloc1 ! (λ l₂. alloc1 ! (λ l₃. alloc1 ! (λ l₄. alloc0 ! $ params1 ! $ pass1 ! (init ! 6 refl (tt, tt)) $
-          pass1 ! (init ! 4 refl (tt, (tt, (record { fits = room .0 }, tt)))) $ pass0 ! $
-          move ! (11 ∷ []) $ fsplit ! $ move ! (1 ∷ []) $ fsplit ! $ move ! (13 ∷ []) $ split ! $ move ! (1 ∷ []) $ split ! $
-          keep ! (5 ∷ 2 ∷ 3 ∷ 0 ∷ entry 6 5) $
+      walk : Begins (Go {0}) W f.signature (Bound .0) C₀ Λ code.function Post
+      walk = begins ! (keep ! (0 ∷ 2 ∷ 1 ∷ 3 ∷ []))
+          ((tt, tt) & (tt, (tt, (record { fits = room .0 }, tt))) & tt)
+          (λ l₀ l₁ l₂ l₃ l₄.
           -- 4: [the reference; [κ₀]; output; [κ₁]]
-          assigns ! (addr ! (from ! (fld ! refl (hop ! (look-in ! (4 + 2) (sub ! 0 refl (whole !))) (stop !))))) (from ! (stop !))
-          (init ! (4 + 3) refl (tt, tt)) $
-          assigns ! (agg ! (and-then ! (var ! (4 + 3) refl) (and-then !
-          (load ! (from ! (fld ! refl (stop !))) (look-in ! (4 + 2) (sub ! 1 refl (whole !)))) (no-more !)))) (from ! (stop !))
-          (init ! (4 + 4) refl (tt, (tt, (record { fits = room .0 }, tt)))) $
+          relends ! (4 + 2) (4 + 3) (4 + 4) refl refl (room .0) $
           move ! (1 ∷ 3 ∷ 0 ∷ 2 ∷ []) $ calls-write-list 𝓤 H A W mem run κ₀ κ₁ q₀ q₁ x true j (vptr b o) vj ! fm known
           (and-then ! (var ! (1 + 1) refl) (and-then ! (true-lit !) (and-then ! (var ! (1 + 4) refl) (no-more !)))) (λ v a l e.
           -- 4: [the answer; the output's last value; [κ₁]; [κ₀]]
           peeks ! R.the-row (Is R.the-row) (shows 𝓤 H A R.the-row) a (v ∷ []) (λ is.
           land ! (from ! (stop !)) (init ! (4 + 0) refl (EL.lawful R.the-type R′.the-laws 𝓤 H A W tt .typed a _ is .0)) $
           move ! (3 ∷ 0 ∷ 1 ∷ 2 ∷ []) $
-          returns ! (look ! 4 refl) $ gone ! 4 refl $ by ! (exits v a l (e .0) (missing-said a l h js (e .1))))))))))
+          returns ! (look ! 4 refl) $ gone ! 4 refl $ by ! (exits v a l (e .0) (missing-said a l h js (e .1))))))
 
 module _ {M : Type 1} (𝓤 : URA M) (H : Heap 𝓤) (A : Atoms 𝓤) (W : Given 𝓤 H A) (mem : Memory → SProp 𝓤) (run : Routine → Fun 𝓤)
     (𝓣 : Tables 𝓤 H) (known : Triple 𝓤 (𝓣 .C #recv-acks·write-list) (WriteList 𝓤 H A mem run)) where
-  here-walks : Walks 𝓤 H A f.ended stayed (WpFn 𝓤 H (𝓣 .C) (𝓣 .Λ) code.function) (f.clauses 𝓤 H A mem run)
-  here-walks = walked 𝓤 H A f.ended stayed (f.clauses 𝓤 H A mem run) (WpFn 𝓤 H (𝓣 .C) (𝓣 .Λ) code.function)
-      (λ κs. (ptr-vals, (slice-vals, tt))) (λ κs. (
-        shr-tells (named 0) (κs .0) T.the-row,
-        (mut-slice-tells (named 1) (κs .1 .0) u8, tt),
-      ))
+  here-meets : Meets 𝓤 H A f.signature (WpFn 𝓤 H (𝓣 .C) (𝓣 .Λ) code.function) (f.spec 𝓤 H A mem run)
+  here-meets = meets f.ended ways 𝓤 H A W 𝓣 code.function (f.clauses 𝓤 H A mem run)
       (λ κs qs bounds a _ are. via 𝓤 _ (fst∗ 𝓤 _ (emp 𝓤)) (walk 𝓤 H A W mem run (κs .0) (κs .1 .0) (qs .0) (qs .1 .0) (a .0 .ptr .0)
       (a .0 .ptr .1) (a .0 .name) (a .0 .now) (a .1 .0 .ptr .0) (a .1 .0 .ptr .1) (a .1 .0 .name) (a .1 .0 .now) (are .1 .0 .0 .1)
-      (𝓣 .C) (𝓣 .Λ) (fmOf 𝓤 H (W .laws) 𝓣) known))
-
-  here-meets : Meets 𝓤 H A f.signature (WpFn 𝓤 H (𝓣 .C) (𝓣 .Λ) code.function) (f.spec 𝓤 H A mem run)
-  here-meets = walk-meets 𝓤 H A f.ended stayed W (
-    goes-dropped 𝓤 H A W 2 (shrRefTo (0 ∷ []) tt (plain (λ _. T.the-row))) yes
-        (λ κs x g. refl),
-    (goes-gave-slice 𝓤 H A W 2 1 tt (plain (λ _. u8)), tt),
-  )
-      (f.clauses 𝓤 H A mem run) (WpFn 𝓤 H (𝓣 .C) (𝓣 .Λ) code.function) (WpFn-mono 𝓤 H (W .laws) 𝓣 code.function) here-walks
+      (𝓣 .C) (𝓣 .Λ) (fmOf 𝓤 H (W .laws) 𝓣) known .go))
 
 pub write-missing-spec : {M : Type 1} → stated.statement M
 unfolding code.routine tablesOf

@@ -1,23 +1,13 @@
 -- `recv_acks::write_unsent` meets its contract: a walk of its MIR, by hand. The receiver is lent as a `&` to `write_list`, to which the
 -- output is given up; then `pending` is loaded, and what `pending_after` makes of it is stored.
 -- Assumes nothing.
-use Rattle.walks.proofs.Walk.{_≡_, refl, ℕ, _+_, _<_, _^_, length, [], _∷_, List, URA, fullShare, named, Val, vptr, SProp, ent, emp}
-use Rattle.walks.proofs.Walk.{via}
-use Rattle.walks.proofs.Walk.{fst∗, GName, Lft, Share, ftrue, flft, fobs, fbor, Memory, Routine, Heap, Calls, Loops, WpFn, Tables}
-use Rattle.walks.proofs.Walk.{Atoms}
-use Rattle.walks.proofs.Walk.{Fun, givenOf, tables, tablesOf, Given, Item, ‵, _⊛_, ⋆, _$_, _∵_, !, qed, by, move, keep, split, join}
-use Rattle.walks.proofs.Walk.{fsplit}
-use Rattle.walks.proofs.Walk.{fjoin, drop, fsplit3, fjoin3, feqI, suffices, frame, done, look, init, stop, hop, fld, from, load}
-use Rattle.walks.proofs.Walk.{of-opd}
-use Rattle.walks.proofs.Walk.{addr}
-use Rattle.walks.proofs.Walk.{and-then, no-more, land, assigns, returns, enter, alloc1, alloc0, params1, pass1, pass0, agg}
-use Rattle.walks.proofs.Walk.{whole}
-use Rattle.walks.proofs.Walk.{sub, look-in, FmC, fmOf, WpFn-mono, owns, Is, shows, u8, RefT, MutRef, ptr-vals, mut-tells, sliceVal}
-use Rattle.walks.proofs.Walk.{MutSlice, Room, finally, slice-vals, mut-slice-tells, plain, opens, closes, owned, peeks, nothing}
-use Rattle.walks.proofs.Walk.{spelt}
-use Rattle.walks.proofs.Walk.{onEntry, Triple, Meets, tripleOf, entered, cited, says, Stays, stay-ref, gave-slice, walkOf, goes-ref}
-use Rattle.walks.proofs.Walk.{goes-gave-slice}
-use Rattle.walks.proofs.Walk.{Walks, ends-at, walked, walk-meets, false}
+use Rattle.walks.proofs.Walk.{_≡_, refl, ℕ, _+_, _<_, _^_, length, [], _∷_, List, URA, fullShare, Val, vptr, SProp, ent, emp, via, fst∗}
+use Rattle.walks.proofs.Walk.{GName, Lft, Share, flft, fobs, fbor, Memory, Routine, Heap, Calls, Loops, WpFn, Tables, Atoms, Fun, givenOf}
+use Rattle.walks.proofs.Walk.{tables, tablesOf, Given, Item, ‵, ⋆, _$_, _∵_, !, qed, by, move, keep, join, fjoin, drop, fsplit3, fjoin3}
+use Rattle.walks.proofs.Walk.{feqI, suffices, frame, done, look, init, stop, hop, fld, from, load, of-opd, addr, and-then, no-more, land}
+use Rattle.walks.proofs.Walk.{assigns, returns, whole, sub, look-in, FmC, fmOf, Is, shows, u8, RefT, sliceVal, Room, finally, plain, opens}
+use Rattle.walks.proofs.Walk.{closes, owned, peeks, nothing, spelt, Triple, Meets, tripleOf, entered, cited, says, Stays, walkOf, ends-at}
+use Rattle.walks.proofs.Walk.{false, Go}
 use types.Run.{false-lit}
 use types.Part.{store-in}
 use types.SemTy.{Body}
@@ -28,7 +18,10 @@ use Rattle.receiver.specs.declared.RecvQueue.{RecvQueue}
 use Rattle.receiver.specs.Write.{writeUnsentOf}
 use Rattle.receiver.proofs.RecvQueue as T
 use Rattle.receiver.proofs.RecvQueue.Laws as T′
-use Rattle.walks.proofs.Order.{entry, var, gone}
+use Rattle.walks.proofs.Order.{var, gone}
+use Rattle.walks.proofs.Again.{relends}
+use Rattle.walks.proofs.Begin.{Begins, begins}
+use Rattle.walks.proofs.Ways.{_&_, Ways, had-at-exit, meets, given-slice, kept-ref}
 use Rattle.walks.proofs.Behind.{sharing-ref, unshared-ref}
 use Rattle.recv_channel.proofs.Receiver.{valsOf, pending-fits}
 use Rattle.recv_acks.specs.declared.WriteQueue.{WriteQueue}
@@ -49,8 +42,11 @@ use Rattle.recv_acks.proofs.write_unsent.Statement as stated
 use Rattle.recv_acks.proofs.write_unsent.Code as code
 
 -- what the walk still has of each parameter at exit: the receiver all, the output only its last value
+abbrev ways : Ways (f.ended .signature .params) (f.ended .kept)
+ways = kept-ref 0 tt (plain (λ _. T.the-row)) & given-slice 1 tt (plain (λ _. u8)) & tt
+
 abbrev stayed : Stays (f.ended .signature .params) (f.ended .kept)
-stayed = (stay-ref (0 ∷ []) tt (plain (λ _. T.the-row)), (gave-slice (1 ∷ []) tt (plain (λ _. u8)), tt))
+stayed = had-at-exit f.ended ways
 
 module _ {M : Type 1} (𝓤 : URA M) (H : Heap 𝓤) (A : Atoms 𝓤) (W : Given 𝓤 H A) (mem : Memory → SProp 𝓤) (run : Routine → Fun 𝓤)
     (κ₀ κ₁ : Lft) (q₀ q₁ : Share) (b o : ℕ) (γ : GName) (h : RecvQueue) (b₁ o₁ : ℕ) (γ₁ : GName) (js : List ℕ)
@@ -103,31 +99,15 @@ module _ {M : Type 1} (𝓤 : URA M) (H : Heap 𝓤) (A : Atoms 𝓤) (W : Given
     module _ (C₀ : Calls 𝓤 H) (Λ : Loops 𝓤 H) (fm : FmC 𝓤 H (W .laws) C₀)
         (known : Triple 𝓤 (C₀ #recv-acks·write-list) (WriteList 𝓤 H A mem run))
         (known-after : Triple 𝓤 (C₀ #recv-acks·pending-after) (PendingAfter 𝓤 H A mem run)) where
-      walk : ent 𝓤 (onEntry 𝓤 H A f.signature (κ₀, (κ₁, tt)) (q₀, (q₁, tt)) (x, (j, tt)) (vptr b o ∷ [], (vj ∷ [], tt)))
-          (WpFn 𝓤 H C₀ Λ code.function (vptr b o ∷ vj ∷ []) Post)
-      walk =
-          qed W ((‵ (flft κ₀ q₀) ⊛ (‵ (flft κ₁ q₁) ⊛ ‵ ftrue))
-          ∷ ‵ (owns (MutRef (named 0) κ₀ T.the-row ∷ MutSlice (named 1) κ₁ u8 ∷ []) (x, (j, tt)) (vptr b o ∷ [], (vj ∷ [], tt))) ∷ [])
-          ∵
-          enter ! C₀ Λ code.function (vptr b o ∷ vj ∷ []) _ $
-          alloc1 ! (λ l₀. alloc1 !
-          (λ l₁. alloc1 !
-          (λ l₂. alloc1 !
-          (λ l₃. alloc1 !
-          (λ l₄. alloc1 !
-          (λ l₅. alloc1 ! (λ l₆. alloc1 ! (λ l₇. alloc1 ! (λ l₈. alloc0 ! $ params1 ! $ pass1 ! (init ! 14 refl (tt, tt)) $
-          pass1 ! (init ! 12 refl (tt, (tt, (record { fits = room .0 }, tt)))) $ pass0 ! $
-          move ! (19 ∷ []) $ fsplit ! $ move ! (1 ∷ []) $ fsplit ! $ move ! (21 ∷ []) $ split ! $ move ! (1 ∷ []) $ split ! $
-          keep ! (5 ∷ 2 ∷ 3 ∷ 0 ∷ entry 6 9) $
+      walk : Begins (Go {0}) W f.signature (Bound .0) C₀ Λ code.function Post
+      walk = begins ! (keep ! (0 ∷ 2 ∷ 1 ∷ 3 ∷ []))
+          ((tt, tt) & (tt, (tt, (record { fits = room .0 }, tt))) & tt)
+          (λ l₀ l₁ l₂ l₃ l₄ l₅ l₆ l₇ l₈.
           -- 4: [the reference; [κ₀]; output; [κ₁]]: it is lent as a `&`
           sharing-ref T.the-row κ₀ q₀ x ! tt (λ α δ.
           -- 8: [the `&`; lent for α; [α]; the open borrow; obs; auth; output; [κ₁]]
           assigns ! (addr ! (from ! (hop ! (look ! (8 + 1) refl) (stop !)))) (from ! (stop !)) (init ! (8 + 5) refl (tt, tt)) $
-          assigns ! (addr ! (from ! (fld ! refl (hop ! (look-in ! (8 + 2) (sub ! 0 refl (whole !))) (stop !))))) (from ! (stop !))
-          (init ! (8 + 6) refl (tt, tt)) $
-          assigns ! (agg ! (and-then ! (var ! (8 + 6) refl) (and-then !
-          (load ! (from ! (fld ! refl (stop !))) (look-in ! (8 + 2) (sub ! 1 refl (whole !)))) (no-more !)))) (from ! (stop !))
-          (init ! (8 + 7) refl (tt, (tt, (record { fits = room .0 }, tt)))) $
+          relends ! (8 + 2) (8 + 6) (8 + 7) refl refl (room .0) $
           move ! (2 ∷ 7 ∷ 0 ∷ 6 ∷ []) $ calls-write-list 𝓤 H A W mem run (α ∷ []) κ₁ fullShare q₁
           (record { ptr = (b, o); name = δ; now = h })
           false j (vptr b o) vj ! fm known (and-then ! (var ! (5 + 5) refl)
@@ -155,27 +135,16 @@ module _ {M : Type 1} (𝓤 : URA M) (H : Heap 𝓤) (A : Atoms 𝓤) (W : Given
           move ! (1 ∷ []) $ drop ! $ owned ! T.the-row (Is T.the-row) (LL.makes T.the-type T′.the-plain 𝓤 H A) (h₁ a) (valsOf (h₁ a))
           (made a fits was) $ move ! (1 ∷ 0 ∷ []) $ closes ! tt T.the-row (h₁ a) (valsOf (h₁ a)) b o $
           -- 6: [obs; the borrow; [κ₀]; the answer; the output's last value; [κ₁]]
-          returns ! (look ! 6 refl) $ gone ! 6 refl $ by ! (exits v a l (e .0) (unsent-said a l h js (e .1))))))))))))))))))
+          returns ! (look ! 6 refl) $ gone ! 6 refl $ by ! (exits v a l (e .0) (unsent-said a l h js (e .1))))))))))
 
 module _ {M : Type 1} (𝓤 : URA M) (H : Heap 𝓤) (A : Atoms 𝓤) (W : Given 𝓤 H A) (mem : Memory → SProp 𝓤) (run : Routine → Fun 𝓤)
     (𝓣 : Tables 𝓤 H) (known : Triple 𝓤 (𝓣 .C #recv-acks·write-list) (WriteList 𝓤 H A mem run))
     (known-after : Triple 𝓤 (𝓣 .C #recv-acks·pending-after) (PendingAfter 𝓤 H A mem run)) where
-  here-walks : Walks 𝓤 H A f.ended stayed (WpFn 𝓤 H (𝓣 .C) (𝓣 .Λ) code.function) (f.clauses 𝓤 H A mem run)
-  here-walks = walked 𝓤 H A f.ended stayed (f.clauses 𝓤 H A mem run) (WpFn 𝓤 H (𝓣 .C) (𝓣 .Λ) code.function)
-      (λ κs. (ptr-vals, (slice-vals, tt))) (λ κs. (
-        mut-tells (named 0) (κs .0) T.the-row,
-        (mut-slice-tells (named 1) (κs .1 .0) u8, tt),
-      ))
+  here-meets : Meets 𝓤 H A f.signature (WpFn 𝓤 H (𝓣 .C) (𝓣 .Λ) code.function) (f.spec 𝓤 H A mem run)
+  here-meets = meets f.ended ways 𝓤 H A W 𝓣 code.function (f.clauses 𝓤 H A mem run)
       (λ κs qs bounds a _ are. via 𝓤 _ (fst∗ 𝓤 _ (emp 𝓤)) (walk 𝓤 H A W mem run (κs .0) (κs .1 .0) (qs .0) (qs .1 .0) (a .0 .ptr .0)
       (a .0 .ptr .1) (a .0 .name) (a .0 .now) (a .1 .0 .ptr .0) (a .1 .0 .ptr .1) (a .1 .0 .name) (a .1 .0 .now) (are .1 .0 .0 .1)
-      (𝓣 .C) (𝓣 .Λ) (fmOf 𝓤 H (W .laws) 𝓣) known known-after))
-
-  here-meets : Meets 𝓤 H A f.signature (WpFn 𝓤 H (𝓣 .C) (𝓣 .Λ) code.function) (f.spec 𝓤 H A mem run)
-  here-meets = walk-meets 𝓤 H A f.ended stayed W (
-    goes-ref 𝓤 H A W 2 0 tt (plain (λ _. T.the-row)),
-    (goes-gave-slice 𝓤 H A W 2 1 tt (plain (λ _. u8)), tt),
-  )
-      (f.clauses 𝓤 H A mem run) (WpFn 𝓤 H (𝓣 .C) (𝓣 .Λ) code.function) (WpFn-mono 𝓤 H (W .laws) 𝓣 code.function) here-walks
+      (𝓣 .C) (𝓣 .Λ) (fmOf 𝓤 H (W .laws) 𝓣) known known-after .go))
 
 pub write-unsent-spec : {M : Type 1} → stated.statement M
 unfolding code.routine tablesOf

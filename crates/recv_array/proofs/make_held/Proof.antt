@@ -2,21 +2,19 @@
 -- the receiver are lent to `make_new`, for lifetimes that the walk makes, and `made_with` puts the answer beside them as they come back.
 -- Assumes nothing.
 use Rattle.walks.proofs.Walk.{min, min-le-right, _++_, take, T, _≡_, refl, sym, subst, ℕ, _+_, _<_, _^_, List, [], _∷_, length, lit<, URA}
-use Rattle.walks.proofs.Walk.{fullShare, named, w64, tyInt, tyArray, Val, vint, vptr, hasTy, WT, SProp, ent, emp, id⊢, via, fst∗, Lft}
-use Rattle.walks.proofs.Walk.{GName, Share, ftrue, fat, flft, Memory, Routine, Heap, Calls, Loops, WpFn, Tables, Atoms, FmC, fmOf}
-use Rattle.walks.proofs.Walk.{WpFn-mono, Fun, fact, givenOf, tables, tablesOf, Given, Item, ‵, raw, _⊛_, some, later, mean, ⋆, _$_, _∵_, ! }
-use Rattle.walks.proofs.Walk.{qed, by, move}
-use Rattle.walks.proofs.Walk.{keep, drop, use1, use3, split, join, pick, rewrite, fsplit, fjoin, suffices, frame, await, updating, at-once}
-use Rattle.walks.proofs.Walk.{done, agg, look, init, stop, from, of-opd, addr, and-then, no-more, land, assigns, returns, enter, alloc1}
-use Rattle.walks.proofs.Walk.{alloc0, params1, pass1, pass0, yes, RattleType, owns, Is, shows, uint-vals, uint-tells, Array}
-use Rattle.walks.proofs.Walk.{array-vals, array-tells, array-lawful, ArrayOf, u8, usize, RefT, sliceVal, ShrSlice, Room, slice-vals}
-use Rattle.walks.proofs.Walk.{shr-slice-tells}
-use Rattle.walks.proofs.Walk.{plain, shrSliceOf, only, peeks, heard, nothing, onEntry, Contract, Triple, calls-at, Meets, tripleOf, entered}
-use Rattle.walks.proofs.Walk.{cited, Lasts, lasts, says, Stays, stay-dropped, walkOf, Walks, ends-at, walked, goes-dropped, walk-meets}
+use Rattle.walks.proofs.Walk.{fullShare, w64, tyInt, tyArray, Val, vint, vptr, hasTy, WT, SProp, ent, emp, id⊢, via, fst∗, Lft, GName}
+use Rattle.walks.proofs.Walk.{Share, ftrue, fat, flft, Memory, Routine, Heap, Calls, Loops, WpFn, Tables, Atoms, FmC, fmOf, Fun, fact}
+use Rattle.walks.proofs.Walk.{givenOf, tables, tablesOf, Given, Item, ‵, raw, _⊛_, some, later, mean, ⋆, _$_, _∵_, !, qed, by, move, keep}
+use Rattle.walks.proofs.Walk.{drop, use1, use3, split, join, pick, rewrite, fjoin, suffices, frame, await, updating, at-once, done, agg}
+use Rattle.walks.proofs.Walk.{look, init, stop, from, of-opd, addr, and-then, no-more, land, assigns, returns, RattleType, Is, shows, Array}
+use Rattle.walks.proofs.Walk.{array-vals, array-tells, array-lawful, ArrayOf, u8, RefT, sliceVal, Room, plain, only, peeks, heard, nothing}
+use Rattle.walks.proofs.Walk.{Contract, Triple, calls-at, Meets, tripleOf, entered, cited, Lasts, lasts, says, Stays, walkOf, ends-at, Go}
 use lib.ListN.{drop as drop-list}
 use denote.Struct.Laws as LL
 use denote.Enum.Laws as EL
 use Rattle.walks.proofs.Order.{var, gone}
+use Rattle.walks.proofs.Begin.{Begins, begins}
+use Rattle.walks.proofs.Ways.{_&_, Ways, had-at-exit, meets, read-slice, uint, value}
 use Rattle.cells.specs.declared.CellRecord.{CellRecord}
 use Rattle.cells.proofs.CellRecord as C
 use Rattle.cells.proofs.CellRecord.Laws as C′
@@ -51,14 +49,14 @@ use Rattle.recv_array.proofs.make_held.Statement as stated
 use Rattle.recv_array.proofs.make_held.Code as code
 
 -- what the walk still has of each parameter at exit: of a `&mut` its last value
+abbrev ways : Ways (here.ended .signature .params) (here.ended .kept)
+ways = value (plain (λ _. Q.the-row)) (λ κs. LL.vals Q.the-type Q′.the-laws) (λ κs. LL.tells Q.the-type Q′.the-laws) (λ κs x f. refl)
+    & value (ArrayOf (plain (λ _. C.the-row)) (λ _. tt) 256) (λ κs. array-vals (LL.vals C.the-type C′.the-laws))
+    (λ κs. array-tells C.the-row (LL.vals C.the-type C′.the-laws) (LL.tells C.the-type C′.the-laws) 256) (λ κs x f. refl)
+    & uint w64 & read-slice 0 tt (plain (λ _. u8)) & tt
+
 abbrev stayed : Stays (here.ended .signature .params) (here.ended .kept)
-stayed = (
-  stay-dropped (plain (λ _. Q.the-row)) yes,
-  (
-    stay-dropped (ArrayOf (plain (λ _. C.the-row)) (λ _. tt) 256) yes,
-    (stay-dropped (plain (λ _. usize)) yes, (stay-dropped (shrSliceOf (0 ∷ []) tt (plain (λ _. u8))) yes, tt)),
-  ),
-)
+stayed = had-at-exit here.ended ways
 
 room : Room C.the-row 256
 room = (lit< tt, lit< tt)
@@ -150,31 +148,12 @@ module _ {M : Type 1} (𝓤 : URA M) (H : Heap 𝓤) (A : Atoms 𝓤) (W : Given
 
   module _ (C″ : Calls 𝓤 H) (Λ : Loops 𝓤 H) (fm : FmC 𝓤 H (W .laws) C″) (known-use : Triple 𝓤 (C″ #use) (InUse 𝓤 H A mem run))
       (known : Triple 𝓤 (C″ #call) (Make 𝓤 H A mem run)) (known-with : Triple 𝓤 (C″ #with) (With 𝓤 H A mem run)) where
-    walk : ent 𝓤 (onEntry 𝓤 H A here.signature (κ₀, tt) (q₀, tt) (h, (rs, (n, (d, tt))))
-        (vq ∷ [], (valOf rs ∷ [], (vint w64 n ∷ [], (vd ∷ [], tt))))) (WpFn 𝓤 H C″ Λ code.function (vq ∷ valOf rs ∷ vint w64 n ∷ vd ∷ [])
-        Post)
-    walk =
-        qed W ((‵ (flft κ₀ q₀) ⊛ ‵ ftrue) ∷ ‵ (owns (Q.the-row ∷ Cells ∷ usize ∷ ShrSlice (named 0) κ₀ u8 ∷ []) (h, (rs, (n, (d, tt))))
-        (vq ∷ [], (valOf rs ∷ [], (vint w64 n ∷ [], (vd ∷ [], tt))))) ∷ []) ∵
-        enter ! C″ Λ code.function (vq ∷ valOf rs ∷ vint w64 n ∷ vd ∷ []) _ $
-        alloc1 ! (λ l₀. alloc1 !
-        (λ l₁. alloc1 !
-        (λ l₂. alloc1 !
-        (λ l₃. alloc1 !
-        (λ l₄. alloc1 !
-        (λ l₅. alloc1 !
-        (λ l₆. alloc1 !
-        (λ l₇. alloc1 !
-        (λ l₈. alloc1 ! (λ l₉. alloc1 ! (λ l₁₀. alloc1 ! (λ l₁₁. alloc1 ! (λ l₁₂. alloc1 ! (λ l₁₃. alloc0 ! $ params1 ! $
-        pass1 ! (init ! 24 refl (LL.lawful Q.the-type Q′.the-laws 𝓤 H A W .typed h _ isq .0)) $
-        pass1 ! (init ! 22 refl (typed rs (valOf rs) isr)) $ pass1 ! (init ! 20 refl (tt, record { fits = small })) $
-        pass1 ! (init ! 18 refl (tt, (tt, (record { fits = room₀ .0 }, tt)))) $ pass0 ! $
-        move ! (29 ∷ []) $ fsplit ! $ move ! (1 ∷ []) $ fsplit ! $ move ! (1 ∷ []) $ fsplit ! $ move ! (1 ∷ []) $ fsplit ! $
-        move ! (33 ∷ []) $ split ! $
-        -- from here on what is owned stands first, with the locals that are lent, then the other locals, then that each dies: with k things
-        -- before them, local i is at k + i, past the lent ones at k + i less their number
-        keep ! (0 ∷ 2 ∷ 6 ∷ 23 ∷ 5 ∷ 21 ∷ 33 ∷ 31 ∷ 29 ∷ 27 ∷ 25 ∷ 19 ∷ 17 ∷ 15 ∷ 13 ∷ 11 ∷ 9 ∷ 7 ∷ 34 ∷ 32 ∷ 30 ∷ 28 ∷ 26 ∷ 24 ∷ 22 ∷ 20
-        ∷ 18 ∷ 16 ∷ 14 ∷ 12 ∷ 10 ∷ 8 ∷ []) $
+    walk : Begins (Go {0}) W here.signature (Passed .0) C″ Λ code.function Post
+    walk = begins ! (keep ! (4 ∷ 3 ∷ 0 ∷ 1 ∷ []))
+        ((LL.lawful Q.the-type Q′.the-laws 𝓤 H A W .typed h _ isq .0) & (typed rs (valOf rs) isr) & (tt, record { fits = small })
+        & (tt, (tt, (record { fits = room₀ .0 }, tt))) & tt)
+        (λ l₀ l₁ l₂ l₃ l₄ l₅ l₆ l₇ l₈ l₉ l₁₀ l₁₁ l₁₂ l₁₃. keep ! (0 ∷ 1 ∷ 2 ∷ 9 ∷ 3 ∷ 10 ∷ 4 ∷ 5 ∷ 6 ∷ 7 ∷ 8 ∷ 11 ∷ 12 ∷ 13 ∷ 14 ∷ 15
+        ∷ 16 ∷ 17 ∷ 18 ∷ 19 ∷ 20 ∷ 21 ∷ 22 ∷ 23 ∷ 24 ∷ 25 ∷ 26 ∷ 27 ∷ 28 ∷ 29 ∷ 30 ∷ 31 ∷ []) $
         -- 6: [the tokens; the parameters by reference; the receiver and its local; the records and their local]
         assigns ! (of-opd ! (var ! (6 + 1) refl)) (from ! (stop !))
         (init ! 3 refl (LL.lawful Q.the-type Q′.the-laws 𝓤 H A W .typed h _ isq .0)) $
@@ -210,39 +189,17 @@ module _ {M : Type 1} (𝓤 : URA M) (H : Heap 𝓤) (A : Atoms 𝓤) (W : Given
         peeks ! Z.the-row (Is Z.the-row) (shows 𝓤 H A Z.the-row) (madeWith a h′ (new l)) (u ∷ []) (λ isz.
         land ! (from ! (stop !)) (init ! 4 refl (LL.lawful Z.the-type Z′.the-laws 𝓤 H A W .typed (madeWith a h′ (new l)) _ isz .0)) $
         returns ! (look ! 4 refl) $ move ! (0 ∷ 3 ∷ 4 ∷ 5 ∷ 6 ∷ 7 ∷ 8 ∷ 2 ∷ []) $ gone ! 2 refl $
-        by ! (exits u a h′ l (is .1) (is .0)))))))))))))))))))))))))))
+        by ! (exits u a h′ l (is .1) (is .0))))))))))))))
 
 module _ {M : Type 1} (𝓤 : URA M) (H : Heap 𝓤) (A : Atoms 𝓤) (W : Given 𝓤 H A) (mem : Memory → SProp 𝓤) (run : Routine → Fun 𝓤)
     (𝓣 : Tables 𝓤 H) (known-use : Triple 𝓤 (𝓣 .C #use) (InUse 𝓤 H A mem run)) (known : Triple 𝓤 (𝓣 .C #call) (Make 𝓤 H A mem run))
     (known-with : Triple 𝓤 (𝓣 .C #with) (With 𝓤 H A mem run)) where
-  here-walks : Walks 𝓤 H A here.ended stayed (WpFn 𝓤 H (𝓣 .C) (𝓣 .Λ) code.function) (here.clauses 𝓤 H A mem run)
-  here-walks = walked 𝓤 H A here.ended stayed (here.clauses 𝓤 H A mem run) (WpFn 𝓤 H (𝓣 .C) (𝓣 .Λ) code.function)
-      (λ κs. (LL.vals Q.the-type Q′.the-laws, (array-vals (LL.vals C.the-type C′.the-laws), (uint-vals w64, (slice-vals, tt)))))
-      (λ κs. (
-        LL.tells Q.the-type Q′.the-laws,
-        (
-          array-tells C.the-row (LL.vals C.the-type C′.the-laws) (LL.tells C.the-type C′.the-laws)
-              256,
-          (uint-tells w64, (shr-slice-tells (named 0) (κs .0) u8, tt)),
-        ),
-      ))
+  here-meets : Meets 𝓤 H A here.signature (WpFn 𝓤 H (𝓣 .C) (𝓣 .Λ) code.function) (here.spec 𝓤 H A mem run)
+  here-meets = meets here.ended ways 𝓤 H A W 𝓣 code.function (here.clauses 𝓤 H A mem run)
       (λ κs qs bounds a g are. via 𝓤 _ (fst∗ 𝓤 _ (emp 𝓤))
       (walk 𝓤 H A W mem run (κs .0) (qs .0) (a .0) (a .1 .0) (a .1 .1 .0) (a .1 .1 .1 .0 .ptr .0) (a .1 .1 .1 .0 .ptr .1)
       (a .1 .1 .1 .0 .name) (a .1 .1 .1 .0 .now)
-      (are .0) (are .1 .0) (are .1 .1 .0 .1) (are .1 .1 .1 .0 .0 .1) (𝓣 .C) (𝓣 .Λ) (fmOf 𝓤 H (W .laws) 𝓣) known-use known known-with))
-
-  here-meets : Meets 𝓤 H A here.signature (WpFn 𝓤 H (𝓣 .C) (𝓣 .Λ) code.function) (here.spec 𝓤 H A mem run)
-  here-meets = walk-meets 𝓤 H A here.ended stayed W (
-    goes-dropped 𝓤 H A W 1 (plain (λ _. Q.the-row)) yes (λ κs x f. refl),
-    (
-      goes-dropped 𝓤 H A W 1 (ArrayOf (plain (λ _. C.the-row)) (λ _. tt) 256) yes (λ κs x f. refl),
-      (
-        goes-dropped 𝓤 H A W 1 (plain (λ _. usize)) yes (λ κs x f. refl),
-        (goes-dropped 𝓤 H A W 1 (shrSliceOf (0 ∷ []) tt (plain (λ _. u8))) yes (λ κs x f. refl), tt),
-      ),
-    ),
-  )
-      (here.clauses 𝓤 H A mem run) (WpFn 𝓤 H (𝓣 .C) (𝓣 .Λ) code.function) (WpFn-mono 𝓤 H (W .laws) 𝓣 code.function) here-walks
+      (are .0) (are .1 .0) (are .1 .1 .0 .1) (are .1 .1 .1 .0 .0 .1) (𝓣 .C) (𝓣 .Λ) (fmOf 𝓤 H (W .laws) 𝓣) known-use known known-with .go))
 
 pub make-held-spec : {M : Type 1} → stated.statement M
 unfolding code.routine tablesOf

@@ -3,22 +3,21 @@
 -- back.
 -- Assumes nothing.
 use Rattle.walks.proofs.Walk.{min, min-le-right, _++_, take, T, _≡_, refl, sym, subst, ℕ, _+_, _<_, _^_, List, [], _∷_, length, lit<, URA}
-use Rattle.walks.proofs.Walk.{fullShare, named, w64, tyInt, tyArray, Val, vint, vptr, hasTy, WT, SProp, ent, emp, id⊢, via, fst∗, Lft}
-use Rattle.walks.proofs.Walk.{GName, Share, ftrue, fat, flft, Memory, Routine, Heap, Calls, Loops, WpFn, Tables, Atoms, FmC, fmOf}
-use Rattle.walks.proofs.Walk.{WpFn-mono, Fun, fact, givenOf, tables, tablesOf, Given, Item, ‵, raw, _⊛_, some, later, mean, ⋆, _$_, _∵_, ! }
-use Rattle.walks.proofs.Walk.{qed, by, move}
-use Rattle.walks.proofs.Walk.{keep, drop, use1, use3, split, join, pick, rewrite, fsplit, fjoin, suffices, frame, await, updating, at-once}
-use Rattle.walks.proofs.Walk.{done, agg, whole, sub, look-in, look, init, stop, hop, fld, from, load, of-opd, addr, and-then, no-more, land}
-use Rattle.walks.proofs.Walk.{assigns, returns, enter, alloc1, alloc0, params1, pass1, pass0, yes, RattleType, owns, Is, shows}
-use Rattle.walks.proofs.Walk.{uint-vals, uint-tells, Array, array-vals, array-tells, array-lawful, ArrayOf, u8, usize, RefT, sliceVal}
-use Rattle.walks.proofs.Walk.{MutSlice}
-use Rattle.walks.proofs.Walk.{ShrSlice, Room, finally, slice-vals, mut-slice-tells, shr-slice-tells, plain, shrSliceOf, only, peeks, heard}
-use Rattle.walks.proofs.Walk.{nothing, onEntry, Contract, Triple, calls-at, Meets, tripleOf, entered, cited, Lasts, lasts, says, Stays}
-use Rattle.walks.proofs.Walk.{stay-dropped, gave-slice, walkOf, Walks, ends-at, walked, goes-dropped, goes-gave-slice, walk-meets}
+use Rattle.walks.proofs.Walk.{fullShare, w64, tyInt, tyArray, Val, vint, vptr, hasTy, WT, SProp, ent, emp, id⊢, via, fst∗, Lft, GName}
+use Rattle.walks.proofs.Walk.{Share, ftrue, fat, flft, Memory, Routine, Heap, Calls, Loops, WpFn, Tables, Atoms, FmC, fmOf, Fun, fact}
+use Rattle.walks.proofs.Walk.{givenOf, tables, tablesOf, Given, Item, ‵, raw, _⊛_, some, later, mean, ⋆, _$_, _∵_, !, qed, by, move, keep}
+use Rattle.walks.proofs.Walk.{drop, use1, use3, split, join, pick, rewrite, fjoin, suffices, frame, await, updating, at-once, done, agg}
+use Rattle.walks.proofs.Walk.{look, init, stop, from, of-opd, addr, and-then, no-more, land, assigns, returns, RattleType, Is, shows, Array}
+use Rattle.walks.proofs.Walk.{array-vals, array-tells, array-lawful, ArrayOf, u8, RefT, sliceVal, Room, finally, plain, only, peeks, heard}
+use Rattle.walks.proofs.Walk.{nothing, Contract, Triple, calls-at, Meets, tripleOf, entered, cited, Lasts, lasts, says, Stays, walkOf}
+use Rattle.walks.proofs.Walk.{ends-at, Go}
 use lib.ListN.{drop as drop-list}
 use denote.Struct.Laws as LL
 use denote.Enum.Laws as EL
 use Rattle.walks.proofs.Order.{var, gone}
+use Rattle.walks.proofs.Again.{relends}
+use Rattle.walks.proofs.Begin.{Begins, begins}
+use Rattle.walks.proofs.Ways.{_&_, Ways, had-at-exit, meets, given-slice, read-slice, uint, value}
 use Rattle.cells.specs.declared.CellRecord.{CellRecord}
 use Rattle.cells.proofs.CellRecord as C
 use Rattle.cells.proofs.CellRecord.Laws as C′
@@ -54,20 +53,14 @@ use Rattle.recv_array.proofs.receive_held.Statement as stated
 use Rattle.recv_array.proofs.receive_held.Code as code
 
 -- what the walk still has of each parameter at exit: of a `&mut` its last value
+abbrev ways : Ways (here.ended .signature .params) (here.ended .kept)
+ways = value (plain (λ _. Q.the-row)) (λ κs. LL.vals Q.the-type Q′.the-laws) (λ κs. LL.tells Q.the-type Q′.the-laws) (λ κs x f. refl)
+    & value (ArrayOf (plain (λ _. C.the-row)) (λ _. tt) 256) (λ κs. array-vals (LL.vals C.the-type C′.the-laws))
+    (λ κs. array-tells C.the-row (LL.vals C.the-type C′.the-laws) (LL.tells C.the-type C′.the-laws) 256) (λ κs x f. refl)
+    & uint w64 & given-slice 0 tt (plain (λ _. u8)) & read-slice 1 tt (plain (λ _. u8)) & tt
+
 abbrev stayed : Stays (here.ended .signature .params) (here.ended .kept)
-stayed = (
-  stay-dropped (plain (λ _. Q.the-row)) yes,
-  (
-    stay-dropped (ArrayOf (plain (λ _. C.the-row)) (λ _. tt) 256) yes,
-    (
-      stay-dropped (plain (λ _. usize)) yes,
-      (
-        gave-slice (0 ∷ []) tt (plain (λ _. u8)),
-        (stay-dropped (shrSliceOf (1 ∷ []) tt (plain (λ _. u8))) yes, tt),
-      ),
-    ),
-  ),
-)
+stayed = had-at-exit here.ended ways
 
 room : Room C.the-row 256
 room = (lit< tt, lit< tt)
@@ -176,34 +169,13 @@ module _ {M : Type 1} (𝓤 : URA M) (H : Heap 𝓤) (A : Atoms 𝓤) (W : Given
 
   module _ (C″ : Calls 𝓤 H) (Λ : Loops 𝓤 H) (fm : FmC 𝓤 H (W .laws) C″) (known-use : Triple 𝓤 (C″ #use) (InUse 𝓤 H A mem run))
       (known : Triple 𝓤 (C″ #call) (Receives 𝓤 H A mem run)) (known-with : Triple 𝓤 (C″ #with) (With 𝓤 H A mem run)) where
-    walk : ent 𝓤 (onEntry 𝓤 H A here.signature (κ₀, (κ₁, tt)) (q₀, (q₁, tt)) (h, (rs, (n, (s, (d, tt)))))
-        (vq ∷ [], (valOf rs ∷ [], (vint w64 n ∷ [], (vs ∷ [], (vd ∷ [], tt))))))
-        (WpFn 𝓤 H C″ Λ code.function (vq ∷ valOf rs ∷ vint w64 n ∷ vs ∷ vd ∷ []) Post)
-    walk =
-        qed W ((‵ (flft κ₀ q₀) ⊛ (‵ (flft κ₁ q₁) ⊛ ‵ ftrue))
-        ∷ ‵ (owns (Q.the-row ∷ Cells ∷ usize ∷ MutSlice (named 0) κ₀ u8 ∷ ShrSlice (named 1) κ₁ u8 ∷ []) (h, (rs, (n, (s, (d, tt)))))
-        (vq ∷ [], (valOf rs ∷ [], (vint w64 n ∷ [], (vs ∷ [], (vd ∷ [], tt)))))) ∷ []) ∵
-        enter ! C″ Λ code.function (vq ∷ valOf rs ∷ vint w64 n ∷ vs ∷ vd ∷ []) _ $
-        alloc1 ! (λ l₀. alloc1 !
-        (λ l₁. alloc1 !
-        (λ l₂. alloc1 !
-        (λ l₃. alloc1 !
-        (λ l₄. alloc1 !
-        (λ l₅. alloc1 !
-        (λ l₆. alloc1 !
-        (λ l₇. alloc1 !
-        (λ l₈. alloc1 ! (λ l₉. alloc1 ! (λ l₁₀. alloc1 !
-        (λ l₁₁. alloc1 ! (λ l₁₂. alloc1 ! (λ l₁₃. alloc1 ! (λ l₁₄. alloc1 ! (λ l₁₅. alloc1 ! (λ l₁₆. alloc0 ! $ params1 ! $
-        pass1 ! (init ! 30 refl (LL.lawful Q.the-type Q′.the-laws 𝓤 H A W .typed h _ isq .0)) $
-        pass1 ! (init ! 28 refl (typed rs (valOf rs) isr)) $ pass1 ! (init ! 26 refl (tt, record { fits = small })) $
-        pass1 ! (init ! 24 refl (tt, (tt, (record { fits = room₀ .0 }, tt)))) $
-        pass1 ! (init ! 22 refl (tt, (tt, (record { fits = room₁ .0 }, tt)))) $ pass0 ! $
-        move ! (35 ∷ []) $ fsplit ! $ move ! (1 ∷ []) $ fsplit ! $ move ! (1 ∷ []) $ fsplit ! $ move ! (1 ∷ []) $ fsplit ! $ move ! (1 ∷ [])
-        $ fsplit ! $ move ! (40 ∷ []) $ split ! $ move ! (1 ∷ []) $ split ! $
-        -- from here on what is owned stands first, with the locals that are lent, then the other locals, then that each dies: with k things
-        -- before them, local i is at k + i, past the lent ones at k + i less their number
-        keep ! (2 ∷ 0 ∷ 5 ∷ 3 ∷ 8 ∷ 29 ∷ 7 ∷ 27 ∷ 41 ∷ 39 ∷ 37 ∷ 35 ∷ 33 ∷ 31 ∷ 25 ∷ 23 ∷ 21 ∷ 19 ∷ 17 ∷ 15 ∷ 13 ∷ 11 ∷ 9 ∷ 42 ∷ 40 ∷ 38
-        ∷ 36 ∷ 34 ∷ 32 ∷ 30 ∷ 28 ∷ 26 ∷ 24 ∷ 22 ∷ 20 ∷ 18 ∷ 16 ∷ 14 ∷ 12 ∷ 10 ∷ []) $
+    walk : Begins (Go {0}) W here.signature (Passed .0) C″ Λ code.function Post
+    walk = begins ! (keep ! (5 ∷ 6 ∷ 3 ∷ 4 ∷ 0 ∷ 1 ∷ []))
+        ((LL.lawful Q.the-type Q′.the-laws 𝓤 H A W .typed h _ isq .0) & (typed rs (valOf rs) isr) & (tt, record { fits = small })
+        & (tt, (tt, (record { fits = room₀ .0 }, tt))) & (tt, (tt, (record { fits = room₁ .0 }, tt))) & tt)
+        (λ l₀ l₁ l₂ l₃ l₄ l₅ l₆ l₇ l₈ l₉ l₁₀ l₁₁ l₁₂ l₁₃ l₁₄ l₁₅ l₁₆. keep ! (0 ∷ 1 ∷ 2 ∷ 3 ∷ 4 ∷ 12 ∷ 5 ∷ 13 ∷ 6 ∷ 7 ∷ 8 ∷ 9 ∷ 10 ∷ 11
+        ∷ 14 ∷ 15 ∷ 16 ∷ 17 ∷ 18 ∷ 19 ∷ 20 ∷ 21 ∷ 22 ∷ 23 ∷ 24 ∷ 25 ∷ 26 ∷ 27 ∷ 28 ∷ 29 ∷ 30 ∷ 31 ∷ 32 ∷ 33 ∷ 34 ∷ 35 ∷ 36 ∷ 37 ∷ 38
+        ∷ 39 ∷ []) $
         -- 8: [the tokens; the parameters by reference; the receiver and its local; the records and their local]
         assigns ! (of-opd ! (var ! (8 + 1) refl)) (from ! (stop !))
         (init ! 5 refl (LL.lawful Q.the-type Q′.the-laws 𝓤 H A W .typed h _ isq .0)) $
@@ -218,11 +190,7 @@ module _ {M : Type 1} (𝓤 : URA M) (H : Heap 𝓤) (A : Atoms 𝓤) (W : Given
         assigns ! (addr ! (from ! (stop !))) (from ! (stop !)) (init ! (8 + 11) refl (tt, tt)) $
         assigns ! (agg ! (and-then ! (var ! (8 + 11) refl) (and-then ! (var ! (8 + 8) refl) (no-more !)))) (from ! (stop !))
         (init ! (8 + 12) refl (tt, (tt, (record { fits = g .1 }, tt)))) $
-        assigns ! (addr ! (from ! (fld ! refl (hop ! (look-in ! (10 + 4) (sub ! 0 refl (whole !))) (stop !))))) (from ! (stop !))
-        (init ! (8 + 13) refl (tt, tt)) $
-        assigns ! (agg ! (and-then ! (var ! (8 + 13) refl) (and-then !
-        (load ! (from ! (fld ! refl (stop !))) (look-in ! (10 + 4) (sub ! 1 refl (whole !)))) (no-more !)))) (from ! (stop !))
-        (init ! (8 + 14) refl (tt, (tt, (record { fits = room₀ .0 }, tt)))) $
+        relends ! (10 + 4) (8 + 13) (8 + 14) refl refl (room₀ .0) $
         move ! (2 ∷ 5 ∷ 6 ∷ 7 ∷ 0 ∷ 3 ∷ 8 ∷ 9 ∷ []) $ calls-receive 𝓤 H A W mem run (β ∷ []) (α ∷ []) κ₀ κ₁ fullShare fullShare q₀ q₁
         (y l₆ ε h) (x l₇ δ) s d (vptr l₆ 0) (vx l₇) vs vd ! fm known
         (and-then ! (var ! (1 + 10) refl) (and-then ! (var ! (1 + 12) refl)
@@ -246,50 +214,19 @@ module _ {M : Type 1} (𝓤 : URA M) (H : Heap 𝓤) (A : Atoms 𝓤) (W : Given
         land ! (from ! (stop !)) (init ! 6 refl (LL.lawful Z.the-type Z′.the-laws 𝓤 H A W .typed (heldReceivedWith a h′ (new l)) _ isz .0))
         $
         returns ! (look ! 6 refl) $ move ! (0 ∷ 3 ∷ 4 ∷ 5 ∷ 6 ∷ 7 ∷ 8 ∷ 9 ∷ 10 ∷ 11 ∷ 2 ∷ []) $ gone ! 4 refl $
-        by ! (exits u a h′ l w (is .2) (is .0) (is .1))))))))))))))))))))))))))))))
+        by ! (exits u a h′ l w (is .2) (is .0) (is .1))))))))))))))
 
 module _ {M : Type 1} (𝓤 : URA M) (H : Heap 𝓤) (A : Atoms 𝓤) (W : Given 𝓤 H A) (mem : Memory → SProp 𝓤) (run : Routine → Fun 𝓤)
     (𝓣 : Tables 𝓤 H) (known-use : Triple 𝓤 (𝓣 .C #use) (InUse 𝓤 H A mem run)) (known : Triple 𝓤 (𝓣 .C #call) (Receives 𝓤 H A mem run))
     (known-with : Triple 𝓤 (𝓣 .C #with) (With 𝓤 H A mem run)) where
-  here-walks : Walks 𝓤 H A here.ended stayed (WpFn 𝓤 H (𝓣 .C) (𝓣 .Λ) code.function) (here.clauses 𝓤 H A mem run)
-  here-walks = walked 𝓤 H A here.ended stayed (here.clauses 𝓤 H A mem run) (WpFn 𝓤 H (𝓣 .C) (𝓣 .Λ) code.function)
-      (λ κs. (
-        LL.vals Q.the-type Q′.the-laws,
-        (
-          array-vals (LL.vals C.the-type C′.the-laws),
-          (uint-vals w64, (slice-vals, (slice-vals, tt))),
-        ),
-      ))
-      (λ κs. (
-        LL.tells Q.the-type Q′.the-laws,
-        (
-          array-tells C.the-row (LL.vals C.the-type C′.the-laws) (LL.tells C.the-type C′.the-laws)
-              256,
-          (uint-tells w64, (mut-slice-tells (named 0) (κs .0) u8, (shr-slice-tells (named 1) (κs .1 .0) u8, tt))),
-        ),
-      ))
+  here-meets : Meets 𝓤 H A here.signature (WpFn 𝓤 H (𝓣 .C) (𝓣 .Λ) code.function) (here.spec 𝓤 H A mem run)
+  here-meets = meets here.ended ways 𝓤 H A W 𝓣 code.function (here.clauses 𝓤 H A mem run)
       (λ κs qs bounds a g are. via 𝓤 _ (fst∗ 𝓤 _ (emp 𝓤))
       (walk 𝓤 H A W mem run (κs .0) (κs .1 .0) (qs .0) (qs .1 .0) (a .0) (a .1 .0) (a .1 .1 .0) (a .1 .1 .1 .0 .ptr .0)
       (a .1 .1 .1 .0 .ptr .1) (a .1 .1 .1 .0 .name) (a .1 .1 .1 .0 .now) (a .1 .1 .1 .1 .0 .ptr .0) (a .1 .1 .1 .1 .0 .ptr .1)
       (a .1 .1 .1 .1 .0 .name) (a .1 .1 .1 .1 .0 .now)
       (are .0) (are .1 .0) (are .1 .1 .0 .1) (are .1 .1 .1 .0 .0 .1) (are .1 .1 .1 .1 .0 .0 .1) (𝓣 .C) (𝓣 .Λ) (fmOf 𝓤 H (W .laws) 𝓣)
-      known-use known known-with))
-
-  here-meets : Meets 𝓤 H A here.signature (WpFn 𝓤 H (𝓣 .C) (𝓣 .Λ) code.function) (here.spec 𝓤 H A mem run)
-  here-meets = walk-meets 𝓤 H A here.ended stayed W (
-    goes-dropped 𝓤 H A W 2 (plain (λ _. Q.the-row)) yes (λ κs x f. refl),
-    (
-      goes-dropped 𝓤 H A W 2 (ArrayOf (plain (λ _. C.the-row)) (λ _. tt) 256) yes (λ κs x f. refl),
-      (
-        goes-dropped 𝓤 H A W 2 (plain (λ _. usize)) yes (λ κs x f. refl),
-        (
-          goes-gave-slice 𝓤 H A W 2 0 tt (plain (λ _. u8)),
-          (goes-dropped 𝓤 H A W 2 (shrSliceOf (1 ∷ []) tt (plain (λ _. u8))) yes (λ κs x f. refl), tt),
-        ),
-      ),
-    ),
-  )
-      (here.clauses 𝓤 H A mem run) (WpFn 𝓤 H (𝓣 .C) (𝓣 .Λ) code.function) (WpFn-mono 𝓤 H (W .laws) 𝓣 code.function) here-walks
+      known-use known known-with .go))
 
 pub receive-held-spec : {M : Type 1} → stated.statement M
 unfolding code.routine tablesOf

@@ -1,22 +1,21 @@
 -- `recv_channel::advance` meets its contract: a walk of its MIR, by hand. The borrow is opened, the record is copied out, the covered
 -- function `advanced` is called on the copy, the result is stored, and the borrow is closed at it.
 -- Assumes nothing.
-use Rattle.walks.proofs.Walk.{refl, ℕ, _+_, _<_, _^_, [], _∷_, List, URA, fullShare, named, w32, Val, vint, vunit, vptr, SProp, ent, emp}
-use Rattle.walks.proofs.Walk.{via, fst∗, GName, Lft, Share, ftrue, flft, fobs, fbor, Memory, Routine, Heap, Calls, Loops, WpFn, Tables}
-use Rattle.walks.proofs.Walk.{Atoms, Fun, givenOf, tables, tablesOf, Given, ‵, _⊛_, ⋆, _$_, _∵_, !, qed, by, move, keep, drop, split, join}
-use Rattle.walks.proofs.Walk.{fsplit, fsplit3, fjoin, fjoin3, feqI, suffices, frame, done, look, init, stop, hop, from, load, unit-lit}
-use Rattle.walks.proofs.Walk.{and-then, no-more, land, peeks}
-use Rattle.walks.proofs.Walk.{of-opd, assigns, returns, enter, alloc1, alloc0, params1, pass1, pass0, FmC, fmOf, WpFn-mono, yes}
-use Rattle.walks.proofs.Walk.{owns, Is, shows, mem, uint-vals, uint-tells, u32, RefT, MutRef, ptr-vals, mut-tells, plain, opens, closes}
-use Rattle.walks.proofs.Walk.{nothing, spelt, onEntry, Meets, Triple, tripleOf, entered, cited, says, Stays, stay-ref, stay-dropped, walkOf}
-use Rattle.walks.proofs.Walk.{goes-ref, goes-dropped, Walks, ends-at, walked, walk-meets}
+use Rattle.walks.proofs.Walk.{refl, ℕ, _+_, _<_, _^_, [], _∷_, List, URA, fullShare, w32, Val, vint, vunit, vptr, SProp, ent, emp, via}
+use Rattle.walks.proofs.Walk.{fst∗, GName, Lft, Share, flft, fobs, fbor, Memory, Routine, Heap, Calls, Loops, WpFn, Tables, Atoms, Fun}
+use Rattle.walks.proofs.Walk.{givenOf, tables, tablesOf, Given, ‵, ⋆, _$_, _∵_, !, qed, by, move, keep, drop, join, fsplit3, fjoin, fjoin3}
+use Rattle.walks.proofs.Walk.{feqI, suffices, frame, done, look, init, stop, hop, from, load, unit-lit, and-then, no-more, land, peeks}
+use Rattle.walks.proofs.Walk.{of-opd, assigns, returns, FmC, fmOf, Is, shows, mem, RefT, plain, opens, closes, nothing, spelt, Meets}
+use Rattle.walks.proofs.Walk.{Triple, tripleOf, entered, cited, says, Stays, walkOf, ends-at, Go, step}
 use types.Run.{look-raw, store-raw}
 use types.SemTy.{Body}
 use denote.Struct.Laws as LL
 use Rattle.receiver.specs.declared.Channel.{Channel}
 use Rattle.receiver.proofs.Channel as T
 use Rattle.receiver.proofs.Channel.Laws as T′
-use Rattle.walks.proofs.Order.{entry, var, gone}
+use Rattle.walks.proofs.Order.{var, gone}
+use Rattle.walks.proofs.Begin.{Begins, begins}
+use Rattle.walks.proofs.Ways.{_&_, Ways, had-at-exit, meets, kept-ref, uint}
 use Rattle.receiver.specs.Parts.{channelOf}
 use Rattle.recv_channel.proofs.Calls.{Advanced, calls-advanced}
 use Rattle.recv_channel.proofs.advanced.Symbol as advanced-def
@@ -27,8 +26,11 @@ use Rattle.recv_channel.proofs.advance as f
 use Rattle.recv_channel.proofs.advance.Statement as stated
 use Rattle.recv_channel.proofs.advance.Code as code
 
+abbrev ways : Ways (f.ended .signature .params) (f.ended .kept)
+ways = kept-ref 0 tt (plain (λ _. T.the-row)) & uint w32 & tt
+
 abbrev stayed : Stays (f.ended .signature .params) (f.ended .kept)
-stayed = (stay-ref (0 ∷ []) tt (plain (λ _. T.the-row)), (stay-dropped (plain (λ _. u32)) yes, tt))
+stayed = had-at-exit f.ended ways
 
 module _ {M : Type 1} (𝓤 : URA M) (H : Heap 𝓤) (A : Atoms 𝓤) (W : Given 𝓤 H A) (at-mem : Memory → SProp 𝓤) (run : Routine → Fun 𝓤) (κ : Lft)
     (q : Share) (b o : ℕ) (γ : GName) (h : Channel) (n : ℕ) (fits : n < 2 ^ 32) where
@@ -56,16 +58,10 @@ module _ {M : Type 1} (𝓤 : URA M) (H : Heap 𝓤) (A : Atoms 𝓤) (W : Given
 
   module _ (C : Calls 𝓤 H) (Λ : Loops 𝓤 H) (fm : FmC 𝓤 H (W .laws) C)
       (known : Triple 𝓤 (C #recv-channel·advanced) (Advanced 𝓤 H A at-mem run)) where
-    walk : ent 𝓤 (onEntry 𝓤 H A f.signature (κ, tt) (q, tt) (x, (n, tt)) (vptr b o ∷ [], (vint w32 n ∷ [], tt)))
-        (WpFn 𝓤 H C Λ code.function (vptr b o ∷ vint w32 n ∷ []) Post)
-    walk =
-        qed W ((‵ (flft κ q) ⊛ ‵ ftrue) ∷ ‵ (owns (MutRef (named 0) κ T.the-row ∷ u32 ∷ []) (x, (n, tt))
-        (vptr b o ∷ [], (vint w32 n ∷ [], tt))) ∷ []) ∵ enter ! C Λ code.function (vptr b o ∷ vint w32 n ∷ []) _ $
-        alloc1 ! (λ l₀. alloc1 !
-        (λ l₁. alloc1 ! (λ l₂. alloc1 ! (λ l₃. alloc1 ! (λ l₄. alloc0 ! $ params1 ! $ pass1 ! (init ! 6 refl (tt, tt)) $
-        pass1 ! (init ! 4 refl (tt, record { fits = fits })) $ pass0 ! $
-        -- [_4; …; …; _0; …; [κ] and true; what the parameters own], then 3: [obs; the borrow; [κ]]
-        move ! (11 ∷ []) $ fsplit ! $ fsplit3 ! $ drop ! $ move ! (13 ∷ []) $ split ! $ keep ! (2 ∷ 3 ∷ 0 ∷ entry 5 5) $
+    walk : Begins (Go {0}) W f.signature (Bound .0) C Λ code.function Post
+    walk = begins ! (step (λ z. keep ! (0 ∷ 2 ∷ []) $ fsplit3 ! $ drop ! $ z))
+        ((tt, tt) & (tt, record { fits = fits }) & tt)
+        (λ l₀ l₁ l₂ l₃ l₄.
         opens ! tt T.the-row {h = h} b o (λ vs. spelt ! T.the-row (Is T.the-row) (shows 𝓤 H A T.the-row) valsOf
         (LL.tells T.the-type T′.the-laws) fullShare h vs b o $
         -- 5: [what the record owns; its cell; the open borrow; obs; auth]
@@ -82,22 +78,14 @@ module _ {M : Type 1} (𝓤 : URA M) (H : Heap 𝓤) (A : Atoms 𝓤) (W : Given
         move ! (1 ∷ 0 ∷ []) $ closes ! tt T.the-row (channelOf n) (v ∷ []) b o $
         -- 3: [obs; the borrow; [κ]]
         assigns ! (of-opd ! (unit-lit !)) (from ! (stop !)) (init ! (3 + 0) refl (tt, tt)) $
-        returns ! (look ! 3 refl) $ gone ! 3 refl $ by ! exits)))))))))
+        returns ! (look ! 3 refl) $ gone ! 3 refl $ by ! exits)))))
 
 module _ {M : Type 1} (𝓤 : URA M) (H : Heap 𝓤) (A : Atoms 𝓤) (W : Given 𝓤 H A) (at-mem : Memory → SProp 𝓤) (run : Routine → Fun 𝓤)
     (𝓣 : Tables 𝓤 H) (known : Triple 𝓤 (𝓣 .C #recv-channel·advanced) (Advanced 𝓤 H A at-mem run)) where
-  here-walks : Walks 𝓤 H A f.ended stayed (WpFn 𝓤 H (𝓣 .C) (𝓣 .Λ) code.function) (f.clauses 𝓤 H A at-mem run)
-  here-walks = walked 𝓤 H A f.ended stayed (f.clauses 𝓤 H A at-mem run) (WpFn 𝓤 H (𝓣 .C) (𝓣 .Λ) code.function)
-      (λ κs. (ptr-vals, (uint-vals w32, tt))) (λ κs. (mut-tells (named 0) (κs .0) T.the-row, (uint-tells w32, tt)))
-      (λ κs qs bounds a _ are. via 𝓤 _ (fst∗ 𝓤 _ (emp 𝓤)) (walk 𝓤 H A W at-mem run (κs .0) (qs .0) (a .0 .ptr .0) (a .0 .ptr .1)
-      (a .0 .name) (a .0 .now) (a .1 .0) (are .1 .0 .1) (𝓣 .C) (𝓣 .Λ) (fmOf 𝓤 H (W .laws) 𝓣) known))
-
   here-meets : Meets 𝓤 H A f.signature (WpFn 𝓤 H (𝓣 .C) (𝓣 .Λ) code.function) (f.spec 𝓤 H A at-mem run)
-  here-meets = walk-meets 𝓤 H A f.ended stayed W (
-    goes-ref 𝓤 H A W 1 0 tt (plain (λ _. T.the-row)),
-    (goes-dropped 𝓤 H A W 1 (plain (λ _. u32)) yes (λ κs x g. refl), tt),
-  )
-      (f.clauses 𝓤 H A at-mem run) (WpFn 𝓤 H (𝓣 .C) (𝓣 .Λ) code.function) (WpFn-mono 𝓤 H (W .laws) 𝓣 code.function) here-walks
+  here-meets = meets f.ended ways 𝓤 H A W 𝓣 code.function (f.clauses 𝓤 H A at-mem run)
+      (λ κs qs bounds a _ are. via 𝓤 _ (fst∗ 𝓤 _ (emp 𝓤)) (walk 𝓤 H A W at-mem run (κs .0) (qs .0) (a .0 .ptr .0) (a .0 .ptr .1)
+      (a .0 .name) (a .0 .now) (a .1 .0) (are .1 .0 .1) (𝓣 .C) (𝓣 .Λ) (fmOf 𝓤 H (W .laws) 𝓣) known .go))
 
 pub advance-spec : {M : Type 1} → stated.statement M
 unfolding code.routine tablesOf

@@ -1,22 +1,21 @@
 -- `recv_channel::advance_all` meets its contract: a walk of its MIR, by hand, a loop of two calls. The slice of numbers is Copy: each turn
 -- passes a copy of it on. The receiver's reference is lent again in each turn, for a lifetime that the turn makes and ends.
 -- Assumes nothing.
-use Rattle.walks.proofs.Walk.{_≡_, refl, sym, subst, ℕ, suc, _+_, _<_, _^_, add-one, arith, Bool, List, [], _∷_, length, lit<, URA}
-use Rattle.walks.proofs.Walk.{fullShare, Ty, named, erased, imm, mut, w32, w64, tyInt, tyBool, tyUnit, tyRef, Val, vunit, vbool, vint, vptr}
-use Rattle.walks.proofs.Walk.{hasTy, WT, SProp, ent, emp, via, fst∗, Lft, GName, Share, Fml, ftrue, fat, froom, fdies, flft, Memory}
-use Rattle.walks.proofs.Walk.{Routine, Heap, Out, Env, afterSeq, afterBlock, afterTurn, Wp, atReturn, WpFn, Tables, Atoms, FmC, fmOf}
-use Rattle.walks.proofs.Walk.{WpFn-mono, Fun}
-use Rattle.walks.proofs.Walk.{givenOf, tables, tablesOf, Given, Item, ‵, _⊛_, ⋆, anyQ, atRet, _$_, _∵_, !, qed, by, move, keep, drop, use1}
-use Rattle.walks.proofs.Walk.{split, join, rewrite, fsplit, fjoin, feqI, suffices, frame, done, look, store, init, forget, stop, hop, from}
-use Rattle.walks.proofs.Walk.{lit, unit-lit, of-opd, bin, addr, and-then, no-more, land, assigns, assigns-last, stays, leaves-loop, returns}
-use Rattle.walks.proofs.Walk.{enter, alloc1, alloc0, params1, pass1, pass0, exec, yes, owns, pointee, u32, RefT, MutRef}
-use Rattle.walks.proofs.Walk.{ptr-vals, mut-tells, sliceTy, sliceVal, ShrSlice, Room, slice-vals, shr-slice-tells, shr-slice-copy, plain}
-use Rattle.walks.proofs.Walk.{shrSliceOf, nothing, onEntry, Triple, Meets, tripleOf, entered, cited, says, Stays, stay-ref, stay-dropped}
-use Rattle.walks.proofs.Walk.{walkOf, Walks, ends-at, walked, goes-ref, goes-dropped, walk-meets}
+use Rattle.walks.proofs.Walk.{refl, sym, subst, ℕ, suc, _+_, _<_, _^_, add-one, arith, Bool, List, [], _∷_, length, lit<, URA, fullShare}
+use Rattle.walks.proofs.Walk.{Ty, named, erased, imm, mut, w32, w64, tyInt, tyBool, tyUnit, tyRef, Val, vunit, vbool, vint, vptr, hasTy, WT}
+use Rattle.walks.proofs.Walk.{SProp, ent, emp, via, fst∗, Lft, GName, Share, Fml, fat, froom, fdies, flft, Memory, Routine, Heap, Out, Env}
+use Rattle.walks.proofs.Walk.{afterSeq, afterBlock, afterTurn, Wp, atReturn, WpFn, Tables, Atoms, FmC, fmOf, Fun, givenOf, tables, tablesOf}
+use Rattle.walks.proofs.Walk.{Given, Item, ‵, _⊛_, ⋆, anyQ, atRet, _$_, _∵_, !, qed, by, move, keep, drop, use1, split, join, rewrite}
+use Rattle.walks.proofs.Walk.{fjoin, feqI, suffices, frame, done, look, store, init, forget, stop, hop, from, lit, unit-lit, of-opd, bin}
+use Rattle.walks.proofs.Walk.{addr, and-then, no-more, land, assigns, assigns-last, stays, leaves-loop, returns, exec, pointee, u32, RefT}
+use Rattle.walks.proofs.Walk.{MutRef, sliceTy, sliceVal, ShrSlice, Room, shr-slice-copy, plain, nothing, Triple, Meets, tripleOf, entered}
+use Rattle.walks.proofs.Walk.{cited, says, Stays, walkOf, ends-at, Go}
 use lib.Dec.{T as Holds}
 use Rattle.receiver.specs.declared.RecvQueue.{RecvQueue}
 use Rattle.receiver.proofs.RecvQueue as T
-use Rattle.walks.proofs.Order.{entry, var, gone}
+use Rattle.walks.proofs.Order.{var, gone}
+use Rattle.walks.proofs.Begin.{Begins, begins}
+use Rattle.walks.proofs.Ways.{_&_, Ways, had-at-exit, meets, kept-ref, read-slice, uint}
 use Rattle.walks.proofs.Counting.{Turn, counts, holds, fails}
 use Rattle.receiver.specs.Parts.{nextAt}
 use Rattle.recv_channel.specs.Advance.{advancedTo}
@@ -51,8 +50,11 @@ slice₂ = sliceTy (tyRef (named 1) imm (tyInt w32))
 abbrev refE : Ty
 refE = tyRef erased mut (pointee (T.the-row .written))
 
+abbrev ways : Ways (f.ended .signature .params) (f.ended .kept)
+ways = kept-ref 0 tt (plain (λ _. T.the-row)) & read-slice 1 tt (plain (λ _. u32)) & tt
+
 abbrev stayed : Stays (f.ended .signature .params) (f.ended .kept)
-stayed = (stay-ref (0 ∷ []) tt (plain (λ _. T.the-row)), (stay-dropped (shrSliceOf (1 ∷ []) tt (plain (λ _. u32))) yes, tt))
+stayed = had-at-exit f.ended ways
 
 module _ {M : Type 1} (𝓤 : URA M) (H : Heap 𝓤) (A : Atoms 𝓤) (W : Given 𝓤 H A) (mem : Memory → SProp 𝓤) (run : Routine → Fun 𝓤)
     (κ₀ κ₁ : Lft) (q₀ q₁ : Share) (b₀ o₀ : ℕ) (γ₀ : GName) (h : RecvQueue) (b₁ o₁ : ℕ) (γ₁ : GName) (ns : List ℕ)
@@ -161,39 +163,25 @@ module _ {M : Type 1} (𝓤 : URA M) (H : Heap 𝓤) (A : Atoms 𝓤) (W : Given
 
   walk : (𝓣 : Tables 𝓤 H) → FmC 𝓤 H (W .laws) (𝓣 .C) → Triple 𝓤 (𝓣 .C #recv-channel·next-at) (NextAt 𝓤 H A mem run)
       → Triple 𝓤 (𝓣 .C #recv-channel·advance-at) (AdvanceAt 𝓤 H A mem run)
-      → ent 𝓤 (onEntry 𝓤 H A f.signature (κ₀, (κ₁, tt)) (q₀, (q₁, tt)) (x γ₀ h, (y, tt)) (vx ∷ [], (vy ∷ [], tt)))
-      (WpFn 𝓤 H (𝓣 .C) (𝓣 .Λ) code.function (vx ∷ vy ∷ []) Post)
-  walk 𝓣 fm known-next known-at =
-      qed W ((‵ (flft κ₀ q₀) ⊛ (‵ (flft κ₁ q₁) ⊛ ‵ ftrue)) ∷ ‵ (owns (MutRef (named 0) κ₀ T.the-row ∷ ShrSlice (named 1) κ₁ u32 ∷ [])
-      (x γ₀ h, (y, tt)) (vx ∷ [], (vy ∷ [], tt))) ∷ []) ∵ enter ! (𝓣 .C) (𝓣 .Λ) code.function (vx ∷ vy ∷ []) _ $
-      alloc1 ! (λ l₀. alloc1 !
-      (λ l₁. alloc1 ! (λ l₂. alloc1 ! (λ l₃. alloc1 ! (λ l₄. alloc1 ! (λ l₅. alloc1 ! (λ l₆. alloc1 ! (λ l₇. alloc0 ! $ params1 ! $
-      pass1 ! (init ! 12 refl (tt, tt)) $ pass1 ! (init ! 10 refl (tt, (tt, (record { fits = room₁ .0 }, tt)))) $ pass0 ! $
-      assigns ! (of-opd ! (lit ! tt)) (from ! (stop !)) (init ! 8 refl (tt, record { fits = lit< tt })) $
-      move ! (17 ∷ []) $ fsplit ! $ move ! (1 ∷ []) $ fsplit ! $ move ! (19 ∷ []) $ split ! $ move ! (1 ∷ []) $ split ! $
-      -- [[κ₁]; true; [κ₀]; numbers; true; receiver; _7; …; …; _0; …]
-      rewrite ! 5 (λ (z : RecvQueue). ‵ (Que z)) (up-none h ns) refl $ keep ! (5 ∷ 3 ∷ 2 ∷ 0 ∷ entry 6 8) $
+      → Begins (Go {0}) W f.signature (Bound .0) (𝓣 .C) (𝓣 .Λ) code.function Post
+  walk 𝓣 fm known-next known-at = begins ! (keep ! (0 ∷ 1 ∷ 2 ∷ 3 ∷ []))
+      ((tt, tt) & (tt, (tt, (record { fits = room₁ .0 }, tt))) & tt)
+      (λ l₀ l₁ l₂ l₃ l₄ l₅ l₆ l₇.
+      assigns ! (of-opd ! (lit ! tt)) (from ! (stop !)) (init ! (4 + 3) refl (tt, record { fits = lit< tt })) $
+      rewrite ! 0 (λ (z : RecvQueue). ‵ (Que z)) (up-none h ns) refl $
       by ! (counts 𝓤 H A W 𝓣 (E 𝓣 fm known-next known-at l₀ l₁ l₂ l₃ l₄ l₅ l₆ l₇) mir′.turn-1
       (Left 𝓣 fm known-next known-at l₀ l₁ l₂ l₃ l₄ l₅ l₆ l₇) 32 (λ _. Unit {0})
       (λ i. ⋆ 𝓤 H A (At 𝓣 fm known-next known-at l₀ l₁ l₂ l₃ l₄ l₅ l₆ l₇ i))
-      (more 𝓣 fm known-next known-at l₀ l₁ l₂ l₃ l₄ l₅ l₆ l₇) (ends 𝓣 fm known-next known-at l₀ l₁ l₂ l₃ l₄ l₅ l₆ l₇) tt)))))))))
+      (more 𝓣 fm known-next known-at l₀ l₁ l₂ l₃ l₄ l₅ l₆ l₇) (ends 𝓣 fm known-next known-at l₀ l₁ l₂ l₃ l₄ l₅ l₆ l₇) tt))
 
 module _ {M : Type 1} (𝓤 : URA M) (H : Heap 𝓤) (A : Atoms 𝓤) (W : Given 𝓤 H A) (mem : Memory → SProp 𝓤) (run : Routine → Fun 𝓤)
     (𝓣 : Tables 𝓤 H) (known-next : Triple 𝓤 (𝓣 .C #recv-channel·next-at) (NextAt 𝓤 H A mem run))
     (known-at : Triple 𝓤 (𝓣 .C #recv-channel·advance-at) (AdvanceAt 𝓤 H A mem run)) where
-  here-walks : Walks 𝓤 H A f.ended stayed (WpFn 𝓤 H (𝓣 .C) (𝓣 .Λ) code.function) (f.clauses 𝓤 H A mem run)
-  here-walks = walked 𝓤 H A f.ended stayed (f.clauses 𝓤 H A mem run) (WpFn 𝓤 H (𝓣 .C) (𝓣 .Λ) code.function)
-      (λ κs. (ptr-vals, (slice-vals, tt))) (λ κs. (mut-tells (named 0) (κs .0) T.the-row, (shr-slice-tells (named 1) (κs .1 .0) u32, tt)))
+  here-meets : Meets 𝓤 H A f.signature (WpFn 𝓤 H (𝓣 .C) (𝓣 .Λ) code.function) (f.spec 𝓤 H A mem run)
+  here-meets = meets f.ended ways 𝓤 H A W 𝓣 code.function (f.clauses 𝓤 H A mem run)
       (λ κs qs bounds a _ are. via 𝓤 _ (fst∗ 𝓤 _ (emp 𝓤))
       (walk 𝓤 H A W mem run (κs .0) (κs .1 .0) (qs .0) (qs .1 .0) (a .0 .ptr .0) (a .0 .ptr .1) (a .0 .name) (a .0 .now) (a .1 .0 .ptr .0)
-      (a .1 .0 .ptr .1) (a .1 .0 .name) (a .1 .0 .now) (are .1 .0 .0 .1) 𝓣 (fmOf 𝓤 H (W .laws) 𝓣) known-next known-at))
-
-  here-meets : Meets 𝓤 H A f.signature (WpFn 𝓤 H (𝓣 .C) (𝓣 .Λ) code.function) (f.spec 𝓤 H A mem run)
-  here-meets = walk-meets 𝓤 H A f.ended stayed W (
-    goes-ref 𝓤 H A W 2 0 tt (plain (λ _. T.the-row)),
-    (goes-dropped 𝓤 H A W 2 (shrSliceOf (1 ∷ []) tt (plain (λ _. u32))) yes (λ κs x g. refl), tt),
-  )
-      (f.clauses 𝓤 H A mem run) (WpFn 𝓤 H (𝓣 .C) (𝓣 .Λ) code.function) (WpFn-mono 𝓤 H (W .laws) 𝓣 code.function) here-walks
+      (a .1 .0 .ptr .1) (a .1 .0 .name) (a .1 .0 .now) (are .1 .0 .0 .1) 𝓣 (fmOf 𝓤 H (W .laws) 𝓣) known-next known-at .go))
 
 pub advance-all-spec : {M : Type 1} → stated.statement M
 unfolding code.routine tablesOf

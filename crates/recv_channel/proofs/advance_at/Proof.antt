@@ -1,17 +1,13 @@
 -- `recv_channel::advance_at` meets its contract: a walk of its MIR, by hand. The borrow is opened, the field `channels` is cut out, its
 -- element c is lent to `advance` where it lies, comes back, the field goes back, and the borrow is closed at the new receiver.
 -- Assumes nothing.
-use Rattle.walks.proofs.Walk.{_≡_, refl, sym, subst, ℕ, _+_, _*_, _<_, _^_, arith, [], _∷_, List, set, getD, URA, fullShare, named, w32}
-use Rattle.walks.proofs.Walk.{w64, tyUnit, Val, vint, vunit, vptr, hasTy, WT, SProp, ent, sep, wand, GName, Lft, Share, ftrue, fat, flft}
-use Rattle.walks.proofs.Walk.{fobs, fbor, Memory, Routine, Heap, Calls, Loops, WpFn, Tables, Atoms, sem, Fun, givenOf, tables, tablesOf}
-use Rattle.walks.proofs.Walk.{Given, ‵, raw, _⊛_, ⋆, _$_, _∵_, !, qed, by, move, keep, drop, use1, use2, split, join, rewrite, fsplit}
-use Rattle.walks.proofs.Walk.{fsplit3}
-use Rattle.walks.proofs.Walk.{fjoin, fjoin3, feqI, suffices, frame, done, look, init, stop, hop, fld, from, lit, unit-lit, of-opd, addr}
-use Rattle.walks.proofs.Walk.{bin, and-then, no-more, land, assigns, returns, enter, alloc1, alloc0, params1, pass1, pass0, FmC}
-use Rattle.walks.proofs.Walk.{fmOf, WpFn-mono, yes, owns, mem, partAt, uint-vals, uint-tells, Array, u32, usize, RefT, MutRef, ptr-vals}
-use Rattle.walks.proofs.Walk.{mut-tells, plain, nothing, onEntry, Triple, Meets, tripleOf, entered, cited, says, Stays, stay-ref}
-use Rattle.walks.proofs.Walk.{stay-dropped, walkOf}
-use Rattle.walks.proofs.Walk.{goes-ref, goes-dropped, Walks, ends-at, walked, walk-meets}
+use Rattle.walks.proofs.Walk.{_≡_, refl, sym, subst, ℕ, _+_, _*_, _<_, _^_, arith, [], _∷_, List, set, getD, URA, fullShare, w32, w64}
+use Rattle.walks.proofs.Walk.{tyUnit, Val, vint, vunit, vptr, hasTy, WT, SProp, ent, wand, GName, Lft, Share, fat, flft, fobs, fbor, Memory}
+use Rattle.walks.proofs.Walk.{Routine, Heap, Calls, Loops, WpFn, Tables, Atoms, sem, Fun, givenOf, tables, tablesOf, Given, ‵, raw, _⊛_, ⋆}
+use Rattle.walks.proofs.Walk.{_$_, _∵_, !, qed, by, move, keep, drop, use1, use2, split, join, rewrite, fsplit3, fjoin, fjoin3, feqI}
+use Rattle.walks.proofs.Walk.{suffices, frame, done, look, init, stop, hop, fld, from, lit, unit-lit, of-opd, addr, bin, and-then, no-more}
+use Rattle.walks.proofs.Walk.{land, assigns, returns, FmC, fmOf, mem, partAt, Array, RefT, plain, nothing, Triple, Meets, tripleOf, entered}
+use Rattle.walks.proofs.Walk.{cited, says, Stays, walkOf, ends-at, Go, step}
 use lib.Dec.{T as Holds}
 use mir.Syntax.{tyPtr}
 use base.Logic.{apply∗}
@@ -27,7 +23,9 @@ use Rattle.receiver.specs.declared.RecvQueue.{RecvQueue}
 use Rattle.receiver.proofs.Channel as C
 use Rattle.receiver.proofs.RecvQueue as T
 use Rattle.receiver.proofs.RecvQueue.Laws as T′
-use Rattle.walks.proofs.Order.{entry, var, gone}
+use Rattle.walks.proofs.Order.{var, gone}
+use Rattle.walks.proofs.Begin.{Begins, begins}
+use Rattle.walks.proofs.Ways.{_&_, Ways, had-at-exit, meets, kept-ref, uint}
 use Rattle.receiver.specs.Parts.{channelOf}
 use Rattle.recv_channel.specs.Advance.{withChannels, advancedTo}
 use Rattle.walks.proofs.Parts.{lending-element, returned-element}
@@ -40,8 +38,11 @@ use Rattle.recv_channel.proofs.advance_at as f
 use Rattle.recv_channel.proofs.advance_at.Statement as stated
 use Rattle.recv_channel.proofs.advance_at.Code as code
 
+abbrev ways : Ways (f.ended .signature .params) (f.ended .kept)
+ways = kept-ref 0 tt (plain (λ _. T.the-row)) & uint w64 & uint w32 & tt
+
 abbrev stayed : Stays (f.ended .signature .params) (f.ended .kept)
-stayed = (stay-ref (0 ∷ []) tt (plain (λ _. T.the-row)), (stay-dropped (plain (λ _. usize)) yes, (stay-dropped (plain (λ _. u32)) yes, tt)))
+stayed = had-at-exit f.ended ways
 
 module _ {M : Type 1} (𝓤 : URA M) (H : Heap 𝓤) (A : Atoms 𝓤) (W : Given 𝓤 H A) (at-mem : Memory → SProp 𝓤) (run : Routine → Fun 𝓤) (κ : Lft)
     (q : Share) (b o : ℕ) (γ : GName) (h : RecvQueue) (c n : ℕ) (c-fits : c < 2 ^ 64) (n-fits : n < 2 ^ 32) (small : c < 32) where
@@ -93,19 +94,10 @@ module _ {M : Type 1} (𝓤 : URA M) (H : Heap 𝓤) (A : Atoms 𝓤) (W : Given
 
   module _ (C₀ : Calls 𝓤 H) (Λ : Loops 𝓤 H) (fm : FmC 𝓤 H (W .laws) C₀)
       (known : Triple 𝓤 (C₀ #recv-channel·advance) (Advance 𝓤 H A at-mem run)) where
-    walk : ent 𝓤 (onEntry 𝓤 H A f.signature (κ, tt) (q, tt) (x, (c, (n, tt))) (vptr b o ∷ [], (vint w64 c ∷ [], (vint w32 n ∷ [], tt))))
-        (WpFn 𝓤 H C₀ Λ code.function (vptr b o ∷ vint w64 c ∷ vint w32 n ∷ []) Post)
-    walk =
-        qed W ((‵ (flft κ q) ⊛ ‵ ftrue) ∷ ‵ (owns (MutRef (named 0) κ T.the-row ∷ usize ∷ u32 ∷ []) (x, (c, (n, tt)))
-        (vptr b o ∷ [], (vint w64 c ∷ [], (vint w32 n ∷ [], tt)))) ∷ []) ∵
-        enter ! C₀ Λ code.function (vptr b o ∷ vint w64 c ∷ vint w32 n ∷ []) _ $
-        alloc1 ! (λ l₀. alloc1 !
-        (λ l₁. alloc1 !
-        (λ l₂. alloc1 ! (λ l₃. alloc1 ! (λ l₄. alloc1 ! (λ l₅. alloc1 ! (λ l₆. alloc1 ! (λ l₇. alloc1 ! (λ l₈. alloc0 ! $ params1 ! $
-        pass1 ! (init ! 14 refl (tt, tt)) $ pass1 ! (init ! 12 refl (tt, record { fits = c-fits })) $
-        pass1 ! (init ! 10 refl (tt, record { fits = n-fits })) $ pass0 ! $
-        -- [_8; …; …; _0; …; [κ] and true; what the parameters own], then 3: [obs; the borrow; [κ]]
-        move ! (19 ∷ []) $ fsplit ! $ fsplit3 ! $ drop ! $ move ! (21 ∷ []) $ split ! $ keep ! (2 ∷ 3 ∷ 0 ∷ entry 5 9) $
+    walk : Begins (Go {0}) W f.signature (Bound .0) C₀ Λ code.function Post
+    walk = begins ! (step (λ z. keep ! (0 ∷ 3 ∷ []) $ fsplit3 ! $ drop ! $ z))
+        ((tt, tt) & (tt, record { fits = c-fits }) & (tt, record { fits = n-fits }) & tt)
+        (λ l₀ l₁ l₂ l₃ l₄ l₅ l₆ l₇ l₈.
         assigns ! (bin ! (var ! (3 + 2) refl) (lit ! tt) (record { fits = bytes-fit })) (from ! (stop !))
         (init ! (3 + 5) refl (tt, record { fits = bytes-fit })) $
         assigns ! (addr ! (from ! (hop ! (look ! (3 + 1) refl) (fld ! refl (stop !))))) (from ! (stop !)) (init ! (3 + 6) refl (tt, tt)) $
@@ -127,30 +119,15 @@ module _ {M : Type 1} (𝓤 : URA M) (H : Heap 𝓤) (A : Atoms 𝓤) (W : Given
         (sem 𝓤 H A (partAt T.the-row fullShare h′ b o))) $ close-ref ! tt (mem T.the-row) h′ {b = b} {o = o} $
         -- 3: [obs; the borrow; [κ]]
         assigns ! (of-opd ! (unit-lit !)) (from ! (stop !)) (init ! (3 + 0) refl (tt, tt)) $
-        returns ! (look ! 3 refl) $ gone ! 3 refl $ by ! exits)))))))))))
+        returns ! (look ! 3 refl) $ gone ! 3 refl $ by ! exits)))
 
 module _ {M : Type 1} (𝓤 : URA M) (H : Heap 𝓤) (A : Atoms 𝓤) (W : Given 𝓤 H A) (at-mem : Memory → SProp 𝓤) (run : Routine → Fun 𝓤)
     (𝓣 : Tables 𝓤 H) (known : Triple 𝓤 (𝓣 .C #recv-channel·advance) (Advance 𝓤 H A at-mem run)) where
-  here-walks : Walks 𝓤 H A f.ended stayed (WpFn 𝓤 H (𝓣 .C) (𝓣 .Λ) code.function) (f.clauses 𝓤 H A at-mem run)
-  here-walks = walked 𝓤 H A f.ended stayed (f.clauses 𝓤 H A at-mem run) (WpFn 𝓤 H (𝓣 .C) (𝓣 .Λ) code.function)
-      (λ κs. (ptr-vals, (uint-vals w64, (uint-vals w32, tt))))
-      (λ κs. (mut-tells (named 0) (κs .0) T.the-row, (uint-tells w64, (uint-tells w32, tt))))
+  here-meets : Meets 𝓤 H A f.signature (WpFn 𝓤 H (𝓣 .C) (𝓣 .Λ) code.function) (f.spec 𝓤 H A at-mem run)
+  here-meets = meets f.ended ways 𝓤 H A W 𝓣 code.function (f.clauses 𝓤 H A at-mem run)
       (λ κs qs bounds a _ are. needs 𝓤 (a .1 .0 < 32) _ (λ small.
       walk 𝓤 H A W at-mem run (κs .0) (qs .0) (a .0 .ptr .0) (a .0 .ptr .1) (a .0 .name) (a .0 .now) (a .1 .0) (a .1 .1 .0) (are .1 .0 .1)
-      (are .1 .1 .0 .1) small (𝓣 .C) (𝓣 .Λ) (fmOf 𝓤 H (W .laws) 𝓣) known))
-
-  here-meets : Meets 𝓤 H A f.signature (WpFn 𝓤 H (𝓣 .C) (𝓣 .Λ) code.function) (f.spec 𝓤 H A at-mem run)
-  here-meets = walk-meets 𝓤 H A f.ended stayed W (
-    goes-ref 𝓤 H A W 1 0 tt (plain (λ _. T.the-row)),
-    (
-      goes-dropped 𝓤 H A W 1 (plain (λ _. usize)) yes (λ κs x g. refl),
-      (
-        goes-dropped 𝓤 H A W 1 (plain (λ _. u32)) yes (λ κs x g. refl),
-        tt,
-      ),
-    ),
-  )
-      (f.clauses 𝓤 H A at-mem run) (WpFn 𝓤 H (𝓣 .C) (𝓣 .Λ) code.function) (WpFn-mono 𝓤 H (W .laws) 𝓣 code.function) here-walks
+      (are .1 .1 .0 .1) small (𝓣 .C) (𝓣 .Λ) (fmOf 𝓤 H (W .laws) 𝓣) known .go))
 
 pub advance-at-spec : {M : Type 1} → stated.statement M
 unfolding code.routine tablesOf

@@ -1,15 +1,12 @@
 -- `recv_channel::nexts_of` meets its contract: a walk of its MIR, by hand. The borrow is looked into, the field is copied out by value, the
 -- borrow is shut, and the covered function `nexts_in` makes numbers of the copy.
 -- Assumes nothing.
-use Rattle.walks.proofs.Walk.{refl, ℕ, _+_, [], _∷_, List, map, URA, named, w32, tyArray, Val, vptr, hasTy, WT, SProp, ent, emp, via, fst∗}
-use Rattle.walks.proofs.Walk.{GName, Lft, Share, ftrue, flft, Memory, Routine, Heap, Calls, Loops, WpFn, Tables, Atoms, Fun, givenOf}
-use Rattle.walks.proofs.Walk.{tables, tablesOf, Given, ‵, _⊛_, ⋆, _$_, _∵_, !, qed, by, move, keep, drop, split, join, fsplit, fsplit3}
-use Rattle.walks.proofs.Walk.{fjoin, suffices, frame, done, look, init, stop, hop, fld, from, load, of-opd, and-then, no-more, land}
-use Rattle.walks.proofs.Walk.{assigns, returns}
-use Rattle.walks.proofs.Walk.{enter, alloc1, alloc0, params1, pass1, pass0, whole, sub, look-in, FmC, fmOf, WpFn-mono, yes, owns, Is}
-use Rattle.walks.proofs.Walk.{shows, uint-lawful, Array, array-lawful, u32, RefT, ShrRef, ptr-vals, shr-tells, plain, shrRefTo, looks}
-use Rattle.walks.proofs.Walk.{shuts, owned, peeks, nothing, spelt, onEntry, Triple, Meets, tripleOf, entered, cited, says, Stays}
-use Rattle.walks.proofs.Walk.{stay-dropped, walkOf, goes-dropped, Walks, ends-at, walked, walk-meets}
+use Rattle.walks.proofs.Walk.{refl, ℕ, _+_, [], _∷_, List, map, URA, w32, tyArray, Val, vptr, hasTy, WT, SProp, ent, emp, via, fst∗, GName}
+use Rattle.walks.proofs.Walk.{Lft, Share, flft, Memory, Routine, Heap, Calls, Loops, WpFn, Tables, Atoms, Fun, givenOf, tables, tablesOf}
+use Rattle.walks.proofs.Walk.{Given, ‵, ⋆, _$_, _∵_, !, qed, by, move, keep, drop, join, fsplit3, fjoin, suffices, frame, done, look, init}
+use Rattle.walks.proofs.Walk.{stop, hop, fld, from, load, of-opd, and-then, no-more, land, assigns, returns, whole, sub, look-in, FmC, fmOf}
+use Rattle.walks.proofs.Walk.{Is, shows, uint-lawful, Array, array-lawful, u32, RefT, plain, looks, shuts, owned, peeks, nothing, spelt}
+use Rattle.walks.proofs.Walk.{Triple, Meets, tripleOf, entered, cited, says, Stays, walkOf, ends-at, Go, step}
 use lib.Dec.{T as Holds}
 use denote.Array.{array-makes}
 use denote.Struct.Laws as LL
@@ -21,7 +18,9 @@ use Rattle.receiver.proofs.Channel as C
 use Rattle.receiver.proofs.Channel.Laws as C′
 use Rattle.receiver.proofs.RecvQueue as T
 use Rattle.receiver.proofs.RecvQueue.Laws as T′
-use Rattle.walks.proofs.Order.{entry, var, gone}
+use Rattle.walks.proofs.Order.{var, gone}
+use Rattle.walks.proofs.Begin.{Begins, begins}
+use Rattle.walks.proofs.Ways.{_&_, Ways, had-at-exit, meets, read-ref}
 use Rattle.receiver.specs.Parts.{nextsOf}
 use Rattle.walks.proofs.Behind.{is-back, unraw}
 use Rattle.recv_channel.proofs.Calls.{NextsIn, calls-nexts-in}
@@ -33,8 +32,11 @@ use Rattle.recv_channel.proofs.nexts_of as f
 use Rattle.recv_channel.proofs.nexts_of.Statement as stated
 use Rattle.recv_channel.proofs.nexts_of.Code as code
 
+abbrev ways : Ways (f.ended .signature .params) (f.ended .kept)
+ways = read-ref 0 tt (plain (λ _. T.the-row)) & tt
+
 abbrev stayed : Stays (f.ended .signature .params) (f.ended .kept)
-stayed = (stay-dropped (shrRefTo (0 ∷ []) tt (plain (λ _. T.the-row))) yes, tt)
+stayed = had-at-exit f.ended ways
 
 module _ {M : Type 1} (𝓤 : URA M) (H : Heap 𝓤) (A : Atoms 𝓤) (W : Given 𝓤 H A) (mem : Memory → SProp 𝓤) (run : Routine → Fun 𝓤) (κ : Lft)
     (q : Share) (b o : ℕ) (γ : GName) (h : RecvQueue) where
@@ -71,13 +73,10 @@ module _ {M : Type 1} (𝓤 : URA M) (H : Heap 𝓤) (A : Atoms 𝓤) (W : Given
 
   module _ (C₀ : Calls 𝓤 H) (Λ : Loops 𝓤 H) (fm : FmC 𝓤 H (W .laws) C₀)
       (known : Triple 𝓤 (C₀ #recv-channel·nexts-in) (NextsIn 𝓤 H A mem run)) where
-    walk : ent 𝓤 (onEntry 𝓤 H A f.signature (κ, tt) (q, tt) (x, tt) (vptr b o ∷ [], tt)) (WpFn 𝓤 H C₀ Λ code.function (vptr b o ∷ []) Post)
-    walk =
-        qed W ((‵ (flft κ q) ⊛ ‵ ftrue) ∷ ‵ (owns (ShrRef (named 0) κ T.the-row ∷ []) (x, tt) (vptr b o ∷ [], tt)) ∷ []) ∵
-        enter ! C₀ Λ code.function (vptr b o ∷ []) _ $
-        alloc1 ! (λ l₀. alloc1 ! (λ l₁. alloc1 ! (λ l₂. alloc0 ! $ params1 ! $ pass1 ! (init ! 2 refl (tt, tt)) $ pass0 ! $
-        -- [_2; …; _1; …; _0; …; [κ] and true; what the reference owns], then 2: [the fractured borrow; [κ]]
-        move ! (7 ∷ []) $ fsplit ! $ fsplit3 ! $ drop ! $ move ! (9 ∷ []) $ split ! $ keep ! (3 ∷ 0 ∷ entry 5 3) $
+    walk : Begins (Go {0}) W f.signature (Bound .0) C₀ Λ code.function Post
+    walk = begins ! (step (λ z. keep ! (0 ∷ 1 ∷ []) $ fsplit3 ! $ keep ! (2 ∷ 3 ∷ []) $ z))
+        ((tt, tt) & tt)
+        (λ l₀ l₁ l₂.
         looks ! tt T.the-row (Is T.the-row) (shows 𝓤 H A T.the-row) valsOf (LL.tells T.the-type T′.the-laws)
         (LL.copy T.the-type T′.the-copy 𝓤 H A W) h b o (λ q′ vs.
         spelt ! T.the-row (Is T.the-row) (shows 𝓤 H A T.the-row) valsOf (LL.tells T.the-type T′.the-laws) q′ h vs b o $ move ! (1 ∷ []) $
@@ -94,23 +93,14 @@ module _ {M : Type 1} (𝓤 : URA M) (H : Heap 𝓤) (A : Atoms 𝓤) (W : Given
         -- 2: [what the numbers own; [κ]]
         land ! (from ! (stop !)) (init ! (2 + 0) refl (array-lawful 𝓤 H A W u32 (uint-lawful 𝓤 H A W w32) 32 .typed (nextsOf (h .channels))
         _ are .0)) $
-        returns ! (look ! 2 refl) $ gone ! 2 refl $ by ! (exits v))))))))
+        returns ! (look ! 2 refl) $ gone ! 2 refl $ by ! (exits v))))))
 
 module _ {M : Type 1} (𝓤 : URA M) (H : Heap 𝓤) (A : Atoms 𝓤) (W : Given 𝓤 H A) (mem : Memory → SProp 𝓤) (run : Routine → Fun 𝓤)
     (𝓣 : Tables 𝓤 H) (known : Triple 𝓤 (𝓣 .C #recv-channel·nexts-in) (NextsIn 𝓤 H A mem run)) where
-  here-walks : Walks 𝓤 H A f.ended stayed (WpFn 𝓤 H (𝓣 .C) (𝓣 .Λ) code.function) (f.clauses 𝓤 H A mem run)
-  here-walks = walked 𝓤 H A f.ended stayed (f.clauses 𝓤 H A mem run) (WpFn 𝓤 H (𝓣 .C) (𝓣 .Λ) code.function) (λ κs. (ptr-vals, tt))
-      (λ κs. (shr-tells (named 0) (κs .0) T.the-row, tt))
-      (λ κs qs bounds a _ _. via 𝓤 _ (fst∗ 𝓤 _ (emp 𝓤)) (walk 𝓤 H A W mem run (κs .0) (qs .0) (a .0 .ptr .0) (a .0 .ptr .1) (a .0 .name)
-      (a .0 .now) (𝓣 .C) (𝓣 .Λ) (fmOf 𝓤 H (W .laws) 𝓣) known))
-
   here-meets : Meets 𝓤 H A f.signature (WpFn 𝓤 H (𝓣 .C) (𝓣 .Λ) code.function) (f.spec 𝓤 H A mem run)
-  here-meets = walk-meets 𝓤 H A f.ended stayed W (
-    goes-dropped 𝓤 H A W 1 (shrRefTo (0 ∷ []) tt (plain (λ _. T.the-row))) yes
-        (λ κs x g. refl),
-    tt,
-  )
-      (f.clauses 𝓤 H A mem run) (WpFn 𝓤 H (𝓣 .C) (𝓣 .Λ) code.function) (WpFn-mono 𝓤 H (W .laws) 𝓣 code.function) here-walks
+  here-meets = meets f.ended ways 𝓤 H A W 𝓣 code.function (f.clauses 𝓤 H A mem run)
+      (λ κs qs bounds a _ _. via 𝓤 _ (fst∗ 𝓤 _ (emp 𝓤)) (walk 𝓤 H A W mem run (κs .0) (qs .0) (a .0 .ptr .0) (a .0 .ptr .1) (a .0 .name)
+      (a .0 .now) (𝓣 .C) (𝓣 .Λ) (fmOf 𝓤 H (W .laws) 𝓣) known .go))
 
 pub nexts-of-spec : {M : Type 1} → stated.statement M
 unfolding code.routine tablesOf

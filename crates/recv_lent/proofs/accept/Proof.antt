@@ -2,18 +2,14 @@
 -- then each array is cut out, lent where it lies, and comes back; at last the numbers are written, and the borrow is closed at the new
 -- receiver.
 -- Assumes nothing.
-use Rattle.walks.proofs.Walk.{_≡_, refl, ℕ, _+_, _<_, _^_, lit<, Bool, [], _∷_, List, length, URA, fullShare, named, w32, tyInt, Val, vint}
-use Rattle.walks.proofs.Walk.{vbool, vunit, vptr, SProp, ent, emp, via, fst∗, wand, GName, Lft, Share, ftrue, fat, flft, fobs, fbor, Memory}
-use Rattle.walks.proofs.Walk.{Routine, Heap, Calls, Loops, WpFn, Tables, Atoms, sem, Fun, givenOf, tables, tablesOf, Given, ‵, raw, _⊛_}
-use Rattle.walks.proofs.Walk.{some, ⋆, _$_, _∵_, !, qed, by, move, keep, drop, use1, use2, split, join, pick, rewrite, fsplit, fsplit3}
-use Rattle.walks.proofs.Walk.{fjoin}
-use Rattle.walks.proofs.Walk.{fjoin3, feqI, suffices, frame, done, look, init, stop, hop, fld, from, load, lit, unit-lit, of-opd, addr}
-use Rattle.walks.proofs.Walk.{and-then, no-more, land, assigns, returns, enter, alloc1, alloc0, params1, pass1, pass0, agg, whole}
-use Rattle.walks.proofs.Walk.{sub, look-in, FmC, fmOf, WpFn-mono, yes, owns, Is, shows, mem, partAt, uint-vals, uint-tells, Array, u8, u32}
-use Rattle.walks.proofs.Walk.{bool, RefT, MutRef, ptr-vals, mut-tells, sliceVal, ShrSlice, Room, slice-vals, shr-slice-tells, plain}
-use Rattle.walks.proofs.Walk.{shrSliceOf}
-use Rattle.walks.proofs.Walk.{opens, closes, owned, peeks, nothing, spelt, onEntry, Triple, Meets, tripleOf, entered, cited, says, Stays}
-use Rattle.walks.proofs.Walk.{stay-ref, stay-dropped, walkOf, goes-ref, goes-dropped, Walks, ends-at, walked, walk-meets}
+use Rattle.walks.proofs.Walk.{_≡_, refl, ℕ, _+_, _<_, _^_, lit<, Bool, [], _∷_, List, length, URA, fullShare, w32, tyInt, Val, vint, vbool}
+use Rattle.walks.proofs.Walk.{vunit, vptr, SProp, ent, emp, via, fst∗, wand, GName, Lft, Share, fat, flft, fobs, fbor, Memory, Routine}
+use Rattle.walks.proofs.Walk.{Heap, Calls, Loops, WpFn, Tables, Atoms, sem, Fun, givenOf, tables, tablesOf, Given, ‵, raw, _⊛_, some, ⋆}
+use Rattle.walks.proofs.Walk.{_$_, _∵_, !, qed, by, move, keep, drop, use1, use2, split, join, pick, rewrite, fsplit3, fjoin, fjoin3, feqI}
+use Rattle.walks.proofs.Walk.{suffices, frame, done, look, init, stop, hop, fld, from, load, lit, unit-lit, of-opd, addr, and-then, no-more}
+use Rattle.walks.proofs.Walk.{land, assigns, returns, agg, whole, sub, look-in, FmC, fmOf, Is, shows, mem, partAt, Array, u8, u32, bool}
+use Rattle.walks.proofs.Walk.{RefT, sliceVal, Room, plain, opens, closes, owned, peeks, nothing, spelt, Triple, Meets, tripleOf, entered}
+use Rattle.walks.proofs.Walk.{cited, says, Stays, walkOf, ends-at, Go, step}
 use base.Logic.{apply∗}
 use types.Part.{store-in}
 use types.SemTy.{Body}
@@ -25,7 +21,9 @@ use Rattle.window.specs.Window.{windowOf, insertOf}
 use Rattle.receiver.specs.declared.RecvQueue.{RecvQueue}
 use Rattle.receiver.proofs.RecvQueue as T
 use Rattle.receiver.proofs.RecvQueue.Laws as T′
-use Rattle.walks.proofs.Order.{entry, var, big-lit, gone}
+use Rattle.walks.proofs.Order.{var, big-lit, gone}
+use Rattle.walks.proofs.Begin.{Begins, begins}
+use Rattle.walks.proofs.Ways.{_&_, Ways, had-at-exit, meets, kept-ref, read-slice, uint, value}
 use Rattle.walks.proofs.Parts.{lending-part, returned-part}
 use Rattle.walks.proofs.Behind.{in-memory, from-memory}
 use Rattle.walks.proofs.Receiver.{withDatagramBits, withReliableBits, withUnsent, cut-datagrams, cut-reliables, cut-unsent}
@@ -52,17 +50,12 @@ use Rattle.recv_lent.proofs.accept as f
 use Rattle.recv_lent.proofs.accept.Statement as stated
 use Rattle.recv_lent.proofs.accept.Code as code
 
+abbrev ways : Ways (f.ended .signature .params) (f.ended .kept)
+ways = kept-ref 0 tt (plain (λ _. T.the-row)) & uint w32 & read-slice 1 tt (plain (λ _. u8)) & uint w32
+    & value (plain (λ _. bool)) (λ κs. bool-vals) (λ κs. bool-tells) (λ κs x f. refl) & tt
+
 abbrev stayed : Stays (f.ended .signature .params) (f.ended .kept)
-stayed = (
-  stay-ref (0 ∷ []) tt (plain (λ _. T.the-row)),
-  (
-    stay-dropped (plain (λ _. u32)) yes,
-    (
-      stay-dropped (shrSliceOf (1 ∷ []) tt (plain (λ _. u8))) yes,
-      (stay-dropped (plain (λ _. u32)) yes, (stay-dropped (plain (λ _. bool)) yes, tt)),
-    ),
-  ),
-)
+stayed = had-at-exit f.ended ways
 
 module _ {M : Type 1} (𝓤 : URA M) (H : Heap 𝓤) (A : Atoms 𝓤) (W : Given 𝓤 H A) (at-mem : Memory → SProp 𝓤) (run : Routine → Fun 𝓤)
     (κ₀ κ₁ : Lft) (q₀ q₁ : Share) (b o : ℕ) (γ : GName) (h : RecvQueue) (low : ℕ) (b₁ o₁ : ℕ) (γ₁ : GName) (bits : List ℕ) (n : ℕ)
@@ -151,32 +144,12 @@ module _ {M : Type 1} (𝓤 : URA M) (H : Heap 𝓤) (A : Atoms 𝓤) (W : Given
       (known-accept : Triple 𝓤 (C₀ #recv-lent·accept-in) (AcceptIn 𝓤 H A at-mem run))
       (known-join : Triple 𝓤 (C₀ #recv-unsent·join-number) (JoinNumber 𝓤 H A at-mem run))
       (known-next : Triple 𝓤 (C₀ #recv-lent·next-pending) (NextPending 𝓤 H A at-mem run)) where
-    walk : ent 𝓤 (onEntry 𝓤 H A f.signature (κ₀, (κ₁, tt)) (q₀, (q₁, tt)) (x, (low, (y, (n, (asc, tt)))))
-        (vptr b o ∷ [], (vint w32 low ∷ [], (vy ∷ [], (vint w32 n ∷ [], (vbool asc ∷ [], tt))))))
-        (WpFn 𝓤 H C₀ Λ code.function (vptr b o ∷ vint w32 low ∷ vy ∷ vint w32 n ∷ vbool asc ∷ []) Post)
-    walk =
-        qed W ((‵ (flft κ₀ q₀) ⊛ (‵ (flft κ₁ q₁) ⊛ ‵ ftrue))
-        ∷ ‵ (owns (MutRef (named 0) κ₀ T.the-row ∷ u32 ∷ ShrSlice (named 1) κ₁ u8 ∷ u32 ∷ bool ∷ []) (x, (low, (y, (n, (asc, tt)))))
-        (vptr b o ∷ [], (vint w32 low ∷ [], (vy ∷ [], (vint w32 n ∷ [], (vbool asc ∷ [], tt)))))) ∷ []) ∵
-        enter ! C₀ Λ code.function (vptr b o ∷ vint w32 low ∷ vy ∷ vint w32 n ∷ vbool asc ∷ []) _ $
-        alloc1 ! (λ l₀. alloc1 !
-        (λ l₁. alloc1 !
-        (λ l₂. alloc1 !
-        (λ l₃. alloc1 !
-        (λ l₄. alloc1 !
-        (λ l₅. alloc1 !
-        (λ l₆. alloc1 !
-        (λ l₇. alloc1 !
-        (λ l₈. alloc1 ! (λ l₉. alloc1 ! (λ l₁₀. alloc1 !
-        (λ l₁₁. alloc1 ! (λ l₁₂. alloc1 ! (λ l₁₃. alloc1 !
-        (λ l₁₄. alloc1 ! (λ l₁₅. alloc1 ! (λ l₁₆. alloc1 ! (λ l₁₇. alloc0 ! $ params1 ! $
-        pass1 ! (init ! 32 refl (tt, tt)) $ pass1 ! (init ! 30 refl (tt, record { fits = low-small })) $
-        pass1 ! (init ! 28 refl (tt, (tt, (record { fits = room .0 }, tt)))) $ pass1 ! (init ! 26 refl (tt, record { fits = n-small }))
-        $ pass1 ! (init ! 24 refl (tt, tt)) $ pass0 ! $
-        -- [_17; …; …; _0; …; the tokens; what the parameters own], then 5: [obs; the borrow; [κ₀]; bits; [κ₁]]
-        move ! (37 ∷ []) $ fsplit ! $ move ! (1 ∷ []) $ fsplit ! $ drop ! $ fsplit ! $ move ! (1 ∷ []) $ fsplit ! $ drop ! $ drop ! $
-        move ! (38 ∷ []) $ split ! $ move ! (1 ∷ []) $ split ! $ move ! (4 ∷ []) $ fsplit3 ! $ drop ! $
-        keep ! (0 ∷ 1 ∷ 4 ∷ 5 ∷ 2 ∷ entry 6 18) $
+    walk : Begins (Go {0}) W f.signature (Bound .0) C₀ Λ code.function Post
+    walk = begins ! (step (λ z. keep ! (0 ∷ 5 ∷ 2 ∷ 6 ∷ []) $ fsplit3 ! $ drop ! $ z))
+        ((tt, tt) & (tt, record { fits = low-small }) & (tt, (tt, (record { fits = room .0 }, tt))) & (tt, record { fits = n-small })
+        & (tt, tt)
+        & tt)
+        (λ l₀ l₁ l₂ l₃ l₄ l₅ l₆ l₇ l₈ l₉ l₁₀ l₁₁ l₁₂ l₁₃ l₁₄ l₁₅ l₁₆ l₁₇.
         opens ! tt T.the-row {h = h} b o (λ vs. spelt ! T.the-row (Is T.the-row) (shows 𝓤 H A T.the-row) valsOf
         (LL.tells T.the-type T′.the-laws) fullShare h vs b o $
         move ! (1 ∷ []) $ peeks ! T.the-row (Is T.the-row) (shows 𝓤 H A T.the-row) h (valsOf h) (λ was. move ! (1 ∷ 0 ∷ []) $
@@ -257,47 +230,20 @@ module _ {M : Type 1} (𝓤 : URA M) (H : Heap 𝓤) (A : Atoms 𝓤) (W : Given
         (numbers-changed h₃ after low pending (e₂ .1) low-small (e₄ .1) is) $ move ! (1 ∷ 0 ∷ 3 ∷ 4 ∷ 5 ∷ []) $
         closes ! tt T.the-row h₄ (valsOf h₄) b o $
         -- 4: [obs; the borrow; [κ₀]; [κ₁]]
-        returns ! (look ! 4 refl) $ gone ! 4 refl $ by ! exits)))))))))))))))))))))))))))))
+        returns ! (look ! 4 refl) $ gone ! 4 refl $ by ! exits))))))))))))
 
 module _ {M : Type 1} (𝓤 : URA M) (H : Heap 𝓤) (A : Atoms 𝓤) (W : Given 𝓤 H A) (at-mem : Memory → SProp 𝓤) (run : Routine → Fun 𝓤)
     (𝓣 : Tables 𝓤 H) (known-put : Triple 𝓤 (𝓣 .C #base·put-bytes) (PutBytes 𝓤 H A at-mem run))
     (known-accept : Triple 𝓤 (𝓣 .C #recv-lent·accept-in) (AcceptIn 𝓤 H A at-mem run))
     (known-join : Triple 𝓤 (𝓣 .C #recv-unsent·join-number) (JoinNumber 𝓤 H A at-mem run))
     (known-next : Triple 𝓤 (𝓣 .C #recv-lent·next-pending) (NextPending 𝓤 H A at-mem run)) where
-  here-walks : Walks 𝓤 H A f.ended stayed (WpFn 𝓤 H (𝓣 .C) (𝓣 .Λ) code.function) (f.clauses 𝓤 H A at-mem run)
-  here-walks = walked 𝓤 H A f.ended stayed (f.clauses 𝓤 H A at-mem run) (WpFn 𝓤 H (𝓣 .C) (𝓣 .Λ) code.function)
-      (λ κs. (ptr-vals, (uint-vals w32, (slice-vals, (uint-vals w32, (bool-vals, tt))))))
-      (λ κs. (
-        mut-tells (named 0) (κs .0) T.the-row,
-        (
-          uint-tells w32,
-          (shr-slice-tells (named 1) (κs .1 .0) u8, (uint-tells w32, (bool-tells, tt))),
-        ),
-      ))
+  here-meets : Meets 𝓤 H A f.signature (WpFn 𝓤 H (𝓣 .C) (𝓣 .Λ) code.function) (f.spec 𝓤 H A at-mem run)
+  here-meets = meets f.ended ways 𝓤 H A W 𝓣 code.function (f.clauses 𝓤 H A at-mem run)
       (λ κs qs bounds a _ are. via 𝓤 _ (fst∗ 𝓤 _ (emp 𝓤))
       (walk 𝓤 H A W at-mem run (κs .0) (κs .1 .0) (qs .0) (qs .1 .0) (a .0 .ptr .0) (a .0 .ptr .1) (a .0 .name) (a .0 .now) (a .1 .0)
       (a .1 .1 .0 .ptr .0) (a .1 .1 .0 .ptr .1) (a .1 .1 .0 .name) (a .1 .1 .0 .now) (a .1 .1 .1 .0) (a .1 .1 .1 .1 .0)
       (are .1 .0 .1) (are .1 .1 .0 .0 .1) (are .1 .1 .1 .0 .1) (𝓣 .C) (𝓣 .Λ) (fmOf 𝓤 H (W .laws) 𝓣) known-put known-accept known-join
-      known-next))
-
-  here-meets : Meets 𝓤 H A f.signature (WpFn 𝓤 H (𝓣 .C) (𝓣 .Λ) code.function) (f.spec 𝓤 H A at-mem run)
-  here-meets = walk-meets 𝓤 H A f.ended stayed W (
-    goes-ref 𝓤 H A W 2 0 tt (plain (λ _. T.the-row)),
-    (
-      goes-dropped 𝓤 H A W 2 (plain (λ _. u32)) yes (λ κs x g. refl),
-      (
-        goes-dropped 𝓤 H A W 2 (shrSliceOf (1 ∷ []) tt (plain (λ _. u8))) yes (λ κs x g. refl),
-        (
-          goes-dropped 𝓤 H A W 2 (plain (λ _. u32)) yes (λ κs x g. refl),
-          (
-            goes-dropped 𝓤 H A W 2 (plain (λ _. bool)) yes (λ κs x g. refl),
-            tt,
-          ),
-        ),
-      ),
-    ),
-  )
-      (f.clauses 𝓤 H A at-mem run) (WpFn 𝓤 H (𝓣 .C) (𝓣 .Λ) code.function) (WpFn-mono 𝓤 H (W .laws) 𝓣 code.function) here-walks
+      known-next .go))
 
 pub accept-spec : {M : Type 1} → stated.statement M
 unfolding code.routine tablesOf

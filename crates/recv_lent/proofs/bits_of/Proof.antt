@@ -1,19 +1,19 @@
 -- `recv_lent::bits_of` meets its contract: a walk of its MIR, by hand. The borrow is looked into, the array within the window is copied out
 -- by value, and the borrow is shut.
 -- Assumes nothing.
-use Rattle.walks.proofs.Walk.{refl, ℕ, _+_, [], _∷_, URA, named, w8, Val, vptr, SProp, ent, emp, via, fst∗, GName, Lft, Share, ftrue, flft}
-use Rattle.walks.proofs.Walk.{Memory, Routine, Heap, Calls, Loops, WpFn, Tables, Atoms, Fun, givenOf, tables, tablesOf, Given, ‵, _⊛_, ⋆}
-use Rattle.walks.proofs.Walk.{_$_, _∵_, !, qed, by, move, keep, drop, split, join, fsplit, fsplit3, fjoin, suffices, frame, done, look}
-use Rattle.walks.proofs.Walk.{init, stop, hop, fld, from, load, of-opd, assigns, returns, enter, alloc1, alloc0, params1, pass1, pass0}
-use Rattle.walks.proofs.Walk.{whole, sub, look-in, WpFn-mono, yes, owns, Is, shows, uint-makes, Array, u8, RefT, ShrRef, ptr-vals}
-use Rattle.walks.proofs.Walk.{shr-tells, plain, shrRefTo, looks, shuts, owned, peeks, nothing, spelt, onEntry, Meets, tripleOf, entered}
-use Rattle.walks.proofs.Walk.{says, Stays, stay-dropped, walkOf, goes-dropped, Walks, ends-at, walked, walk-meets}
+use Rattle.walks.proofs.Walk.{refl, ℕ, _+_, [], _∷_, URA, w8, Val, vptr, SProp, ent, emp, via, fst∗, GName, Lft, Share, flft, Memory}
+use Rattle.walks.proofs.Walk.{Routine, Heap, Calls, Loops, WpFn, Tables, Atoms, Fun, givenOf, tables, tablesOf, Given, ‵, ⋆, _$_, _∵_, ! }
+use Rattle.walks.proofs.Walk.{qed, by, move, keep, drop, join, fsplit3, fjoin, suffices, frame, done, look, init, stop, hop, fld, from}
+use Rattle.walks.proofs.Walk.{load, of-opd, assigns, returns, whole, sub, look-in, Is, shows, uint-makes, Array, u8, RefT, plain, looks}
+use Rattle.walks.proofs.Walk.{shuts, owned, peeks, nothing, spelt, Meets, tripleOf, entered, says, Stays, walkOf, ends-at, Go, step}
 use denote.Array.{array-makes}
 use denote.Struct.Laws as LL
 use Rattle.receiver.specs.declared.RecvQueue.{RecvQueue}
 use Rattle.receiver.proofs.RecvQueue as T
 use Rattle.receiver.proofs.RecvQueue.Laws as T′
-use Rattle.walks.proofs.Order.{entry, gone}
+use Rattle.walks.proofs.Order.{gone}
+use Rattle.walks.proofs.Begin.{Begins, begins}
+use Rattle.walks.proofs.Ways.{_&_, Ways, had-at-exit, meets, read-ref}
 use Rattle.recv_channel.proofs.Receiver.{valsOf}
 use Rattle.recv_lent.proofs.Known.{bitsVal, bits-are, bits-typed, reliables-are}
 use Rattle.recv_lent.proofs.bits_of.Key.{name as #recv-lent·bits-of}
@@ -21,8 +21,11 @@ use Rattle.recv_lent.proofs.bits_of as f
 use Rattle.recv_lent.proofs.bits_of.Statement as stated
 use Rattle.recv_lent.proofs.bits_of.Code as code
 
+abbrev ways : Ways (f.ended .signature .params) (f.ended .kept)
+ways = read-ref 0 tt (plain (λ _. T.the-row)) & tt
+
 abbrev stayed : Stays (f.ended .signature .params) (f.ended .kept)
-stayed = (stay-dropped (shrRefTo (0 ∷ []) tt (plain (λ _. T.the-row))) yes, tt)
+stayed = had-at-exit f.ended ways
 
 module _ {M : Type 1} (𝓤 : URA M) (H : Heap 𝓤) (A : Atoms 𝓤) (W : Given 𝓤 H A) (mem : Memory → SProp 𝓤) (run : Routine → Fun 𝓤) (κ : Lft)
     (q : Share) (b o : ℕ) (γ : GName) (h : RecvQueue) where
@@ -47,13 +50,10 @@ module _ {M : Type 1} (𝓤 : URA M) (H : Heap 𝓤) (A : Atoms 𝓤) (W : Given
       (array-makes 𝓤 H A W u8 (uint-makes 𝓤 H A W w8) 256) (h .reliables .bits) (mach ∷ []) are $ move ! (1 ∷ 0 ∷ []) $ done !
 
   module _ (C : Calls 𝓤 H) (Λ : Loops 𝓤 H) where
-    walk : ent 𝓤 (onEntry 𝓤 H A f.signature (κ, tt) (q, tt) (x, tt) (vptr b o ∷ [], tt)) (WpFn 𝓤 H C Λ code.function (vptr b o ∷ []) Post)
-    walk =
-        qed W ((‵ (flft κ q) ⊛ ‵ ftrue) ∷ ‵ (owns (ShrRef (named 0) κ T.the-row ∷ []) (x, tt) (vptr b o ∷ [], tt)) ∷ []) ∵
-        enter ! C Λ code.function (vptr b o ∷ []) _ $
-        alloc1 ! (λ l₀. alloc1 ! (λ l₁. alloc0 ! $ params1 ! $ pass1 ! (init ! 0 refl (tt, tt)) $ pass0 ! $
-        -- [_1; …; _0; …; [κ] and true; what the reference owns], then 2: [the fractured borrow; [κ]]
-        move ! (5 ∷ []) $ fsplit ! $ fsplit3 ! $ drop ! $ move ! (7 ∷ []) $ split ! $ keep ! (3 ∷ 0 ∷ entry 5 2) $
+    walk : Begins (Go {0}) W f.signature (Bound .0) C Λ code.function Post
+    walk = begins ! (step (λ z. keep ! (0 ∷ 1 ∷ []) $ fsplit3 ! $ keep ! (2 ∷ 3 ∷ []) $ z))
+        ((tt, tt) & tt)
+        (λ l₀ l₁.
         looks ! tt T.the-row (Is T.the-row) (shows 𝓤 H A T.the-row) valsOf (LL.tells T.the-type T′.the-laws)
         (LL.copy T.the-type T′.the-copy 𝓤 H A W) h b o (λ q′ vs.
         spelt ! T.the-row (Is T.the-row) (shows 𝓤 H A T.the-row) valsOf (LL.tells T.the-type T′.the-laws) q′ h vs b o $ move ! (1 ∷ []) $
@@ -65,23 +65,14 @@ module _ {M : Type 1} (𝓤 : URA M) (H : Heap 𝓤) (A : Atoms 𝓤) (W : Given
         shuts ! tt T.the-row q′ h (valsOf h) b o $
         -- 2: [[κ]; the fractured borrow]
         returns ! (look ! 2 refl) $ move ! (1 ∷ []) $ drop ! $ gone ! 1 refl $
-        by ! (exits (bits-are (h .reliables) (reliables-are h was)))))))
+        by ! (exits (bits-are (h .reliables) (reliables-are h was))))))
 
 module _ {M : Type 1} (𝓤 : URA M) (H : Heap 𝓤) (A : Atoms 𝓤) (W : Given 𝓤 H A) (mem : Memory → SProp 𝓤) (run : Routine → Fun 𝓤)
     (𝓣 : Tables 𝓤 H) where
-  here-walks : Walks 𝓤 H A f.ended stayed (WpFn 𝓤 H (𝓣 .C) (𝓣 .Λ) code.function) (f.clauses 𝓤 H A mem run)
-  here-walks = walked 𝓤 H A f.ended stayed (f.clauses 𝓤 H A mem run) (WpFn 𝓤 H (𝓣 .C) (𝓣 .Λ) code.function) (λ κs. (ptr-vals, tt))
-      (λ κs. (shr-tells (named 0) (κs .0) T.the-row, tt))
-      (λ κs qs bounds a _ _. via 𝓤 _ (fst∗ 𝓤 _ (emp 𝓤)) (walk 𝓤 H A W mem run (κs .0) (qs .0) (a .0 .ptr .0) (a .0 .ptr .1) (a .0 .name)
-      (a .0 .now) (𝓣 .C) (𝓣 .Λ)))
-
   here-meets : Meets 𝓤 H A f.signature (WpFn 𝓤 H (𝓣 .C) (𝓣 .Λ) code.function) (f.spec 𝓤 H A mem run)
-  here-meets = walk-meets 𝓤 H A f.ended stayed W (
-    goes-dropped 𝓤 H A W 1 (shrRefTo (0 ∷ []) tt (plain (λ _. T.the-row))) yes
-        (λ κs x g. refl),
-    tt,
-  )
-      (f.clauses 𝓤 H A mem run) (WpFn 𝓤 H (𝓣 .C) (𝓣 .Λ) code.function) (WpFn-mono 𝓤 H (W .laws) 𝓣 code.function) here-walks
+  here-meets = meets f.ended ways 𝓤 H A W 𝓣 code.function (f.clauses 𝓤 H A mem run)
+      (λ κs qs bounds a _ _. via 𝓤 _ (fst∗ 𝓤 _ (emp 𝓤)) (walk 𝓤 H A W mem run (κs .0) (qs .0) (a .0 .ptr .0) (a .0 .ptr .1) (a .0 .name)
+      (a .0 .now) (𝓣 .C) (𝓣 .Λ) .go))
 
 pub bits-of-spec : {M : Type 1} → stated.statement M
 unfolding code.routine tablesOf

@@ -3,16 +3,13 @@
 -- `settle`; words, store and datagram are given up to `receive_on`.
 -- Assumes nothing.
 use Rattle.walks.proofs.Walk.{_≡_, refl, ℕ, _+_, _<_, _^_, lit<, [], _∷_, List, length, URA, fullShare, named, w8, w32, w64, tyInt, tyArray}
-use Rattle.walks.proofs.Walk.{Val, vint, vptr, hasTy, WT, SProp, ent, emp, via, fst∗, GName, Lft, Share, Fml, ftrue, fat, flft, Memory}
-use Rattle.walks.proofs.Walk.{Routine, Heap, Calls, Loops, WpFn, Tables, Atoms, Fun, givenOf, tables, tablesOf, Given, Item, ‵, _⊛_, ⋆, _$_}
-use Rattle.walks.proofs.Walk.{_∵_, !, qed, by, move, keep, drop, use1, split, join, rewrite, fsplit, fsplit3, fjoin, fjoin3, feqI, suffices}
-use Rattle.walks.proofs.Walk.{frame, done, look, init, store, stop, hop, fld, from, load, lit, of-opd, addr, and-then, no-more, land}
-use Rattle.walks.proofs.Walk.{assigns, returns, enter, alloc1, alloc0, params1, pass1, pass0, agg, whole, sub, look-in, FmC, fmOf}
-use Rattle.walks.proofs.Walk.{WpFn-mono, yes, owns, Is, shows, mem, uint-vals, uint-tells, uint-lawful, Array, array-lawful, u8, u32, usize}
-use Rattle.walks.proofs.Walk.{RefT, MutRef, ptr-vals, mut-tells, sliceVal, MutSlice, ShrSlice, Room, finally, slice-vals, mut-slice-tells}
-use Rattle.walks.proofs.Walk.{shr-slice-tells, shr-slice-copy, plain, shrSliceOf, only, opens, closes, owned, peeks, nothing, spelt}
-use Rattle.walks.proofs.Walk.{onEntry, Triple, Meets, tripleOf, entered, cited, says, Stays, stay-ref, stay-dropped, gave-slice, walkOf}
-use Rattle.walks.proofs.Walk.{goes-ref, goes-dropped, goes-gave-slice, Walks, ends-at, walked, walk-meets}
+use Rattle.walks.proofs.Walk.{Val, vint, vptr, hasTy, WT, SProp, ent, emp, via, fst∗, GName, Lft, Share, Fml, fat, flft, Memory, Routine}
+use Rattle.walks.proofs.Walk.{Heap, Calls, Loops, WpFn, Tables, Atoms, Fun, givenOf, tables, tablesOf, Given, Item, ‵, _⊛_, ⋆, _$_, _∵_, ! }
+use Rattle.walks.proofs.Walk.{qed, by, move, keep, drop, use1, split, join, rewrite, fsplit3, fjoin, fjoin3, feqI, suffices, frame, done}
+use Rattle.walks.proofs.Walk.{look, init, stop, hop, fld, from, load, lit, of-opd, addr, and-then, no-more, land, assigns, returns, agg}
+use Rattle.walks.proofs.Walk.{whole, sub, look-in, FmC, fmOf, Is, shows, mem, uint-lawful, Array, array-lawful, u8, u32, RefT, MutRef}
+use Rattle.walks.proofs.Walk.{sliceVal, ShrSlice, Room, finally, shr-slice-copy, plain, only, opens, closes, owned, peeks, nothing, spelt}
+use Rattle.walks.proofs.Walk.{Triple, Meets, tripleOf, entered, cited, says, Stays, walkOf, ends-at, Go, step}
 use lib.Dec.{T as Holds}
 use denote.Struct.Laws as LL
 use denote.Enum.Laws as EL
@@ -22,6 +19,9 @@ use Rattle.receiver.specs.Receive.{datagramNumber}
 use Rattle.receiver.proofs.RecvQueue as T
 use Rattle.receiver.proofs.RecvQueue.Laws as T′
 use Rattle.walks.proofs.Order.{var, gone}
+use Rattle.walks.proofs.Again.{relends}
+use Rattle.walks.proofs.Begin.{Begins, begins}
+use Rattle.walks.proofs.Ways.{_&_, Ways, had-at-exit, meets, given-slice, kept-ref, read-slice, uint}
 use Rattle.walks.proofs.Parts.{lending-local, returned-local, sharing-local, unshared-local}
 use Rattle.walks.proofs.Behind.{lending-again, returned-again, sharing-ref, unshared-ref}
 use Rattle.recv_channel.proofs.Calls.{NextsOf, calls-nexts-of}
@@ -58,20 +58,12 @@ use Rattle.recv_lent.proofs.receive_with.Statement as stated
 use Rattle.recv_lent.proofs.receive_with.Code as code
 
 -- what the walk still has of each parameter at exit: the receiver; of words and store their last values; of the others nothing
+abbrev ways : Ways (f.ended .signature .params) (f.ended .kept)
+ways = kept-ref 0 tt (plain (λ _. T.the-row)) & given-slice 1 tt (plain (λ _. u32)) & uint w64 & uint w64
+    & given-slice 2 tt (plain (λ _. u8)) & read-slice 3 tt (plain (λ _. u8)) & tt
+
 abbrev stayed : Stays (f.ended .signature .params) (f.ended .kept)
-stayed = (
-  stay-ref (0 ∷ []) tt (plain (λ _. T.the-row)),
-  (
-    gave-slice (1 ∷ []) tt (plain (λ _. u32)),
-    (
-      stay-dropped (plain (λ _. usize)) yes,
-      (
-        stay-dropped (plain (λ _. usize)) yes,
-        (gave-slice (2 ∷ []) tt (plain (λ _. u8)), (stay-dropped (shrSliceOf (3 ∷ []) tt (plain (λ _. u8))) yes, tt)),
-      ),
-    ),
-  ),
-)
+stayed = had-at-exit f.ended ways
 
 module _ {M : Type 1} (𝓤 : URA M) (H : Heap 𝓤) (A : Atoms 𝓤) (W : Given 𝓤 H A) (mem : Memory → SProp 𝓤) (run : Routine → Fun 𝓤)
     (κ₀ κ₁ κ₂ κ₃ : Lft) (q₀ q₁ q₂ q₃ : Share) (b o : ℕ) (γ : GName) (h : RecvQueue) (b₁ o₁ : ℕ) (γ₁ : GName) (ws : List ℕ) (k c : ℕ)
@@ -168,42 +160,14 @@ module _ {M : Type 1} (𝓤 : URA M) (H : Heap 𝓤) (A : Atoms 𝓤) (W : Given
     numbers-typed : (zs : List ℕ) (v : Val) → Is (Array u32 32) zs (v ∷ []) → Holds (hasTy (tyArray (tyInt w32) 32) v) × WT v
     numbers-typed zs v are = array-lawful 𝓤 H A W u32 (uint-lawful 𝓤 H A W w32) 32 .typed zs _ are .0
 
-    walk : ent 𝓤 (onEntry 𝓤 H A f.signature (κ₀, (κ₁, (κ₂, (κ₃, tt)))) (q₀, (q₁, (q₂, (q₃, tt)))) (x γ h, (w, (k, (c, (s, (g, tt))))))
-        (vptr b o ∷ [], (vw ∷ [], (vint w64 k ∷ [], (vint w64 c ∷ [], (vs ∷ [], (vg ∷ [], tt)))))))
-        (WpFn 𝓤 H C₀ Λ code.function (vptr b o ∷ vw ∷ vint w64 k ∷ vint w64 c ∷ vs ∷ vg ∷ []) Post)
-    walk =
-        qed W ((‵ (flft κ₀ q₀) ⊛ (‵ (flft κ₁ q₁) ⊛ (‵ (flft κ₂ q₂) ⊛ (‵ (flft κ₃ q₃) ⊛ ‵ ftrue))))
-        ∷ ‵ (owns (MutRef (named 0) κ₀ T.the-row ∷ MutSlice (named 1) κ₁ u32 ∷ usize ∷ usize ∷ MutSlice (named 2) κ₂ u8
-        ∷ ShrSlice (named 3) κ₃ u8 ∷ []) (x γ h, (w, (k, (c, (s, (g, tt))))))
-        (vptr b o ∷ [], (vw ∷ [], (vint w64 k ∷ [], (vint w64 c ∷ [], (vs ∷ [], (vg ∷ [], tt))))))) ∷ []) ∵
-        enter ! C₀ Λ code.function (vptr b o ∷ vw ∷ vint w64 k ∷ vint w64 c ∷ vs ∷ vg ∷ []) _ $
-        alloc1 ! (λ l₀. alloc1 !
-        (λ l₁. alloc1 !
-        (λ l₂. alloc1 !
-        (λ l₃. alloc1 !
-        (λ l₄. alloc1 !
-        (λ l₅. alloc1 !
-        (λ l₆. alloc1 !
-        (λ l₇. alloc1 !
-        (λ l₈. alloc1 ! (λ l₉. alloc1 ! (λ l₁₀. alloc1 !
-        (λ l₁₁. alloc1 ! (λ l₁₂. alloc1 ! (λ l₁₃. alloc1 !
-        (λ l₁₄. alloc1 ! (λ l₁₅. alloc1 ! (λ l₁₆. alloc1 !
-        (λ l₁₇. alloc1 ! (λ l₁₈. alloc1 ! (λ l₁₉. alloc1 !
-        (λ l₂₀. alloc1 ! (λ l₂₁. alloc1 ! (λ l₂₂. alloc1 !
-        (λ l₂₃. alloc1 ! (λ l₂₄. alloc1 ! (λ l₂₅. alloc1 !
-        (λ l₂₆. alloc1 ! (λ l₂₇. alloc1 ! (λ l₂₈. alloc1 ! (λ l₂₉. alloc0 ! $ params1 ! $
-        pass1 ! (init ! 56 refl (tt, tt)) $ pass1 ! (init ! 54 refl (tt, (tt, (record { fits = room₁ .0 }, tt)))) $
-        pass1 ! (init ! 52 refl (tt, record { fits = k-fits })) $ pass1 ! (init ! 50 refl (tt, record { fits = c-fits })) $
-        pass1 ! (init ! 48 refl (tt, (tt, (record { fits = room₂ .0 }, tt)))) $
-        pass1 ! (init ! 46 refl (tt, (tt, (record { fits = room₃ .0 }, tt)))) $ pass0 ! $
-        move ! (61 ∷ []) $ fsplit ! $ move ! (1 ∷ []) $ fsplit ! $ move ! (1 ∷ []) $ fsplit ! $ drop ! $ fsplit ! $ drop ! $ fsplit ! $
-        move ! (1 ∷ []) $ fsplit ! $ move ! (65 ∷ []) $ split ! $ move ! (1 ∷ []) $ split ! $ move ! (1 ∷ []) $ split ! $
-        move ! (1 ∷ []) $ split ! $ move ! (9 ∷ []) $ fsplit3 ! $ drop ! $
-        -- [obs; the borrow; [κ₃]; true; [κ₂]; [κ₁]; [κ₀]; datagram; true; store; words; _29; …; …; _0; …]. From here on what is owned
-        -- stands first, then the locals _0, …, _6, _9, …, _29, _7, _8, then that each dies
-        keep ! (0 ∷ 1 ∷ 6 ∷ 10 ∷ 5 ∷ 9 ∷ 4 ∷ 7 ∷ 2 ∷ 69 ∷ 67 ∷ 65 ∷ 63 ∷ 61 ∷ 59 ∷ 57 ∷ 51 ∷ 49 ∷ 47 ∷ 45 ∷ 43 ∷ 41 ∷ 39 ∷ 37 ∷ 35 ∷ 33 ∷ 31
-        ∷ 29 ∷ 27 ∷ 25 ∷ 23 ∷ 21 ∷ 19 ∷ 17 ∷ 15 ∷ 13 ∷ 11 ∷ 55 ∷ 53 ∷ 70 ∷ 68 ∷ 66 ∷ 64 ∷ 62 ∷ 60 ∷ 58 ∷ 56 ∷ 54 ∷ 52 ∷ 50 ∷ 48 ∷ 46
-        ∷ 44 ∷ 42 ∷ 40 ∷ 38 ∷ 36 ∷ 34 ∷ 32 ∷ 30 ∷ 28 ∷ 26 ∷ 24 ∷ 22 ∷ 20 ∷ 18 ∷ 16 ∷ 14 ∷ 12 ∷ []) $
+    walk : Begins (Go {0}) W f.signature (Bound .0) C₀ Λ code.function Post
+    walk = begins ! (step (λ z. keep ! (0 ∷ 6 ∷ 1 ∷ 7 ∷ 4 ∷ 8 ∷ 5 ∷ 9 ∷ []) $ fsplit3 ! $ drop ! $ z))
+        ((tt, tt) & (tt, (tt, (record { fits = room₁ .0 }, tt))) & (tt, record { fits = k-fits }) & (tt, record { fits = c-fits })
+        & (tt, (tt, (record { fits = room₂ .0 }, tt))) & (tt, (tt, (record { fits = room₃ .0 }, tt))) & tt)
+        (λ l₀ l₁ l₂ l₃ l₄ l₅ l₆ l₇ l₈ l₉ l₁₀ l₁₁ l₁₂ l₁₃ l₁₄ l₁₅ l₁₆ l₁₇ l₁₈ l₁₉ l₂₀ l₂₁ l₂₂ l₂₃ l₂₄ l₂₅ l₂₆ l₂₇ l₂₈ l₂₉. keep ! (0 ∷ 1
+        ∷ 2 ∷ 3 ∷ 4 ∷ 5 ∷ 6 ∷ 7 ∷ 8 ∷ 9 ∷ 10 ∷ 11 ∷ 12 ∷ 13 ∷ 14 ∷ 15 ∷ 18 ∷ 19 ∷ 20 ∷ 21 ∷ 22 ∷ 23 ∷ 24 ∷ 25 ∷ 26 ∷ 27 ∷ 28 ∷ 29 ∷ 30
+        ∷ 31 ∷ 32 ∷ 33 ∷ 34 ∷ 35 ∷ 36 ∷ 37 ∷ 38 ∷ 16 ∷ 17 ∷ 39 ∷ 40 ∷ 41 ∷ 42 ∷ 43 ∷ 44 ∷ 45 ∷ 46 ∷ 47 ∷ 48 ∷ 49 ∷ 50 ∷ 51 ∷ 52 ∷ 53
+        ∷ 54 ∷ 55 ∷ 56 ∷ 57 ∷ 58 ∷ 59 ∷ 60 ∷ 61 ∷ 62 ∷ 63 ∷ 64 ∷ 65 ∷ 66 ∷ 67 ∷ 68 ∷ []) $
         opens ! tt T.the-row {h = h} b o (λ us. spelt ! T.the-row (Is T.the-row) (shows 𝓤 H A T.the-row) valsOf
         (LL.tells T.the-type T′.the-laws) fullShare h us b o $ move ! (1 ∷ []) $
         peeks ! T.the-row (Is T.the-row) (shows 𝓤 H A T.the-row) h (valsOf h) (λ was. move ! (1 ∷ 0 ∷ []) $
@@ -240,16 +204,8 @@ module _ {M : Type 1} (𝓤 : URA M) (H : Heap 𝓤) (A : Atoms 𝓤) (W : Given
         assigns ! (addr ! (from ! (stop !))) (from ! (stop !)) (init ! (10 + 16) refl (tt, tt)) $
         assigns ! (agg ! (and-then ! (var ! (10 + 16) refl) (and-then ! (lit ! tt) (no-more !)))) (from ! (stop !))
         (init ! (10 + 17) refl (tt, (tt, (record { fits = lit< tt }, tt)))) $
-        assigns ! (addr ! (from ! (fld ! refl (hop ! (look-in ! (10 + 2) (sub ! 0 refl (whole !))) (stop !))))) (from ! (stop !))
-        (init ! (10 + 18) refl (tt, tt)) $
-        assigns ! (agg ! (and-then ! (var ! (10 + 18) refl) (and-then !
-        (load ! (from ! (fld ! refl (stop !))) (look-in ! (10 + 2) (sub ! 1 refl (whole !)))) (no-more !)))) (from ! (stop !))
-        (init ! (10 + 19) refl (tt, (tt, (record { fits = room₁ .0 }, tt)))) $
-        assigns ! (addr ! (from ! (fld ! refl (hop ! (look-in ! (10 + 5) (sub ! 0 refl (whole !))) (stop !))))) (from ! (stop !))
-        (init ! (10 + 20) refl (tt, tt)) $
-        assigns ! (agg ! (and-then ! (var ! (10 + 20) refl) (and-then !
-        (load ! (from ! (fld ! refl (stop !))) (look-in ! (10 + 5) (sub ! 1 refl (whole !)))) (no-more !)))) (from ! (stop !))
-        (init ! (10 + 21) refl (tt, (tt, (record { fits = room₂ .0 }, tt)))) $
+        relends ! (10 + 2) (10 + 18) (10 + 19) refl refl (room₁ .0) $
+        relends ! (10 + 5) (10 + 20) (10 + 21) refl refl (room₂ .0) $
         move ! ((10 + 28) ∷ 5 ∷ []) $ lending-local u8 tt 256 l₇ (lit< tt, lit< tt) ! tt rs (λ β δ₂. move ! ((12 + 28) ∷ 7 ∷ []) $
         lending-local u32 tt 32 l₈ (lit< tt, lit< tt) ! tt ns (λ ε δ₃. move ! (8 ∷ 9 ∷ []) $
         sharing-ref T.the-row κ₀ q₀ (x γ h) ! tt (λ α₂ δ₄. move ! (2 ∷ 11 ∷ 8 ∷ 15 ∷ 17 ∷ 12 ∷ 0 ∷ 9 ∷ 6 ∷ 14 ∷ 16 ∷ 13 ∷ []) $
@@ -295,7 +251,7 @@ module _ {M : Type 1} (𝓤 : URA M) (H : Heap 𝓤) (A : Atoms 𝓤) (W : Given
         move ! (0 ∷ 3 ∷ 4 ∷ 5 ∷ 6 ∷ 7 ∷ 8 ∷ 9 ∷ []) $ move ! (0 ∷ 1 ∷ 2 ∷ 3 ∷ 4 ∷ 5 ∷ 6 ∷ 7 ∷ 10 ∷ 11 ∷ 12 ∷ 13 ∷ 14 ∷ 15 ∷ 16 ∷ 9 ∷ []) $
         gone ! 8 refl $
         by ! (exits (a .answer) (h′ a z₁ z₂) z₃ z₄ e₅ e₆ (core-settled h k c ws st dg a z₁ z₂ z₃ z₄ (arrays-long h was) small e₃ e₄
-        said)))))))))))))))))))))))))))))))))))))))))))))))))))))))
+        said))))))))))))))))))))))))))
       where
         answer-is : (a : PassedRows) → Is P.the-row a (va a ∷ []) → Is E.the-row (a .answer) (ve (a .answer) ∷ [])
         answer-is a is = LL.owed P.the-type P′.the-laws a (va a ∷ []) is .0
@@ -306,25 +262,8 @@ module _ {M : Type 1} (𝓤 : URA M) (H : Heap 𝓤) (A : Atoms 𝓤) (W : Given
     (known-number : Triple 𝓤 (𝓣 .C #recv-lent·number-of) (NumberOf 𝓤 H A mem run))
     (known-on : Triple 𝓤 (𝓣 .C #recv-lent·receive-on) (On 𝓤 H A mem run))
     (known-settle : Triple 𝓤 (𝓣 .C #recv-lent·settle) (Settle 𝓤 H A mem run)) where
-  here-walks : Walks 𝓤 H A f.ended stayed (WpFn 𝓤 H (𝓣 .C) (𝓣 .Λ) code.function) (f.clauses 𝓤 H A mem run)
-  here-walks = walked 𝓤 H A f.ended stayed (f.clauses 𝓤 H A mem run) (WpFn 𝓤 H (𝓣 .C) (𝓣 .Λ) code.function)
-      (λ κs. (ptr-vals, (slice-vals, (uint-vals w64, (uint-vals w64, (slice-vals, (slice-vals, tt)))))))
-      (λ κs. (
-        mut-tells (named 0) (κs .0) T.the-row,
-        (
-          mut-slice-tells (named 1) (κs .1 .0) u32,
-          (
-            uint-tells w64,
-            (
-              uint-tells w64,
-              (
-                mut-slice-tells (named 2) (κs .1 .1 .0) u8,
-                (shr-slice-tells (named 3) (κs .1 .1 .1 .0) u8, tt),
-              ),
-            ),
-          ),
-        ),
-      ))
+  here-meets : Meets 𝓤 H A f.signature (WpFn 𝓤 H (𝓣 .C) (𝓣 .Λ) code.function) (f.spec 𝓤 H A mem run)
+  here-meets = meets f.ended ways 𝓤 H A W 𝓣 code.function (f.clauses 𝓤 H A mem run)
       (λ κs qs bounds a _ are. via 𝓤 _ (fst∗ 𝓤 _ (emp 𝓤))
       (walk 𝓤 H A W mem run (κs .0) (κs .1 .0) (κs .1 .1 .0) (κs .1 .1 .1 .0) (qs .0) (qs .1 .0) (qs .1 .1 .0) (qs .1 .1 .1 .0)
       (a .0 .ptr .0) (a .0 .ptr .1) (a .0 .name) (a .0 .now) (a .1 .0 .ptr .0) (a .1 .0 .ptr .1) (a .1 .0 .name) (a .1 .0 .now)
@@ -332,30 +271,7 @@ module _ {M : Type 1} (𝓤 : URA M) (H : Heap 𝓤) (A : Atoms 𝓤) (W : Given
       (a .1 .1 .1 .1 .0 .now) (a .1 .1 .1 .1 .1 .0 .ptr .0) (a .1 .1 .1 .1 .1 .0 .ptr .1) (a .1 .1 .1 .1 .1 .0 .name)
       (a .1 .1 .1 .1 .1 .0 .now)
       (are .1 .0 .0 .1) (are .1 .1 .0 .1) (are .1 .1 .1 .0 .1) (are .1 .1 .1 .1 .0 .0 .1) (are .1 .1 .1 .1 .1 .0 .0 .1) (𝓣 .C) (𝓣 .Λ)
-      (fmOf 𝓤 H (W .laws) 𝓣) known-bits known-nexts known-number known-on known-settle))
-
-  here-meets : Meets 𝓤 H A f.signature (WpFn 𝓤 H (𝓣 .C) (𝓣 .Λ) code.function) (f.spec 𝓤 H A mem run)
-  here-meets = walk-meets 𝓤 H A f.ended stayed W (
-    goes-ref 𝓤 H A W 4 0 tt (plain (λ _. T.the-row)),
-    (
-      goes-gave-slice 𝓤 H A W 4 1 tt (plain (λ _. u32)),
-      (
-        goes-dropped 𝓤 H A W 4 (plain (λ _. usize)) yes (λ κs x g. refl),
-        (
-          goes-dropped 𝓤 H A W 4 (plain (λ _. usize)) yes (λ κs x g. refl),
-          (
-            goes-gave-slice 𝓤 H A W 4 2 tt (plain (λ _. u8)),
-            (
-              goes-dropped 𝓤 H A W 4 (shrSliceOf (3 ∷ []) tt (plain (λ _. u8))) yes
-                  (λ κs x g. refl),
-              tt,
-            ),
-          ),
-        ),
-      ),
-    ),
-  )
-      (f.clauses 𝓤 H A mem run) (WpFn 𝓤 H (𝓣 .C) (𝓣 .Λ) code.function) (WpFn-mono 𝓤 H (W .laws) 𝓣 code.function) here-walks
+      (fmOf 𝓤 H (W .laws) 𝓣) known-bits known-nexts known-number known-on known-settle .go))
 
 pub receive-with-spec : {M : Type 1} → stated.statement M
 unfolding code.routine tablesOf

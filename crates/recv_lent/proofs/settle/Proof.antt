@@ -2,20 +2,19 @@
 -- again, to `advance_all` with the nexts, and to `accept` with the bits.
 -- Assumes nothing.
 use Rattle.walks.proofs.Walk.{_≡_, refl, sym, subst, ℕ, _+_, _<_, _^_, Bool, [], _∷_, List, length, URA, fullShare, named, w32, tyBool, Val}
-use Rattle.walks.proofs.Walk.{vint, vunit, vptr, hasTy, WT, SProp, ent, emp, via, fst∗, GName, Lft, Share, Fml, ftrue, fat, flft, Memory}
-use Rattle.walks.proofs.Walk.{Routine, Heap, Calls, Loops, WpFn, Tables, Atoms, Fun, givenOf, tables, tablesOf, Given, ‵, _⊛_, ⋆, _$_, _∵_}
-use Rattle.walks.proofs.Walk.{ !, qed, by, move, keep, drop, split, join, rewrite, fsplit, fjoin, feqI, suffices, frame, done, look, init}
-use Rattle.walks.proofs.Walk.{store, stop, hop, fld, from, load, unit-lit, of-opd, addr, and-then, no-more, land, assigns, returns}
-use Rattle.walks.proofs.Walk.{returns-within, enter, alloc1, alloc0, params1, pass1, pass0, whole, sub, look-in, FmC, fmOf}
-use Rattle.walks.proofs.Walk.{WpFn-mono, yes, owns, Is, mem, uint-vals, uint-tells, u8, u32, RefT, MutRef, ptr-vals, mut-tells, sliceVal}
-use Rattle.walks.proofs.Walk.{ShrSlice, Room, slice-vals, shr-slice-tells, plain, shrSliceOf, nothing, onEntry, Triple, Meets, tripleOf}
-use Rattle.walks.proofs.Walk.{entered, cited}
-use Rattle.walks.proofs.Walk.{says, Stays, stay-ref, stay-dropped, walkOf, goes-ref, goes-dropped, Walks, ends-at, walked, walk-meets}
+use Rattle.walks.proofs.Walk.{vint, vunit, vptr, hasTy, WT, SProp, ent, emp, via, fst∗, GName, Lft, Share, Fml, fat, flft, Memory, Routine}
+use Rattle.walks.proofs.Walk.{Heap, Calls, Loops, WpFn, Tables, Atoms, Fun, givenOf, tables, tablesOf, Given, ‵, ⋆, _$_, _∵_, !, qed, by}
+use Rattle.walks.proofs.Walk.{move, keep, drop, join, rewrite, fjoin, feqI, suffices, frame, done, look, init, store, stop, hop, fld, from}
+use Rattle.walks.proofs.Walk.{load, unit-lit, of-opd, addr, and-then, no-more, land, assigns, returns, returns-within, whole, sub, look-in}
+use Rattle.walks.proofs.Walk.{FmC, fmOf, Is, mem, u8, u32, RefT, MutRef, sliceVal, Room, plain, nothing, Triple, Meets, tripleOf, entered}
+use Rattle.walks.proofs.Walk.{cited, says, Stays, walkOf, ends-at, Go}
 use lib.Dec.{T as Holds}
 use denote.Struct.Laws as LL
 use Rattle.receiver.specs.declared.RecvQueue.{RecvQueue}
 use Rattle.receiver.proofs.RecvQueue as T
-use Rattle.walks.proofs.Order.{entry, var, if-returns, gone}
+use Rattle.walks.proofs.Order.{var, if-returns, gone}
+use Rattle.walks.proofs.Begin.{Begins, begins}
+use Rattle.walks.proofs.Ways.{_&_, Ways, had-at-exit, meets, kept-ref, read-slice, uint, value}
 use Rattle.walks.proofs.Behind.{lending-again, returned-again}
 use Rattle.recv_channel.specs.Advance.{advancedAll}
 use Rattle.recv_channel.proofs.Calls.{AdvanceAll, calls-advance-all}
@@ -41,20 +40,13 @@ use Rattle.recv_lent.proofs.settle as f
 use Rattle.recv_lent.proofs.settle.Statement as stated
 use Rattle.recv_lent.proofs.settle.Code as code
 
+abbrev ways : Ways (f.ended .signature .params) (f.ended .kept)
+ways = kept-ref 0 tt (plain (λ _. T.the-row))
+    & value (plain (λ _. P.the-row)) (λ κs. LL.vals P.the-type P′.the-laws) (λ κs. LL.tells P.the-type P′.the-laws) (λ κs x f. refl)
+    & read-slice 1 tt (plain (λ _. u8)) & read-slice 2 tt (plain (λ _. u32)) & uint w32 & tt
+
 abbrev stayed : Stays (f.ended .signature .params) (f.ended .kept)
-stayed = (
-  stay-ref (0 ∷ []) tt (plain (λ _. T.the-row)),
-  (
-    stay-dropped (plain (λ _. P.the-row)) yes,
-    (
-      stay-dropped (shrSliceOf (1 ∷ []) tt (plain (λ _. u8))) yes,
-      (
-        stay-dropped (shrSliceOf (2 ∷ []) tt (plain (λ _. u32))) yes,
-        (stay-dropped (plain (λ _. u32)) yes, tt),
-      ),
-    ),
-  ),
-)
+stayed = had-at-exit f.ended ways
 
 module _ {M : Type 1} (𝓤 : URA M) (H : Heap 𝓤) (A : Atoms 𝓤) (W : Given 𝓤 H A) (mem : Memory → SProp 𝓤) (run : Routine → Fun 𝓤)
     (κ₀ κ₁ κ₂ : Lft) (q₀ q₁ q₂ : Share) (b o : ℕ) (γ : GName) (h : RecvQueue) (r : PassedRows) (b₁ o₁ : ℕ) (γ₁ : GName) (bits : List ℕ)
@@ -123,26 +115,11 @@ module _ {M : Type 1} (𝓤 : URA M) (H : Heap 𝓤) (A : Atoms 𝓤) (W : Given
       (known-refused : Triple 𝓤 (C₀ #recv-lent·is-refused) (IsRefused 𝓤 H A mem run))
       (known-all : Triple 𝓤 (C₀ #recv-channel·advance-all) (AdvanceAll 𝓤 H A mem run))
       (known-accept : Triple 𝓤 (C₀ #recv-lent·accept) (Accept 𝓤 H A mem run)) where
-    walk : ent 𝓤 (onEntry 𝓤 H A f.signature (κ₀, (κ₁, (κ₂, tt))) (q₀, (q₁, (q₂, tt))) (x γ h, (r, (y, (w, (n, tt)))))
-        (vptr b o ∷ [], (vr ∷ [], (vy ∷ [], (vw ∷ [], (vint w32 n ∷ [], tt))))))
-        (WpFn 𝓤 H C₀ Λ code.function (vptr b o ∷ vr ∷ vy ∷ vw ∷ vint w32 n ∷ []) Post)
-    walk =
-        qed W ((‵ (flft κ₀ q₀) ⊛ (‵ (flft κ₁ q₁) ⊛ (‵ (flft κ₂ q₂) ⊛ ‵ ftrue)))
-        ∷ ‵ (owns (MutRef (named 0) κ₀ T.the-row ∷ P.the-row ∷ ShrSlice (named 1) κ₁ u8 ∷ ShrSlice (named 2) κ₂ u32 ∷ u32 ∷ [])
-        (x γ h, (r, (y, (w, (n, tt))))) (vptr b o ∷ [], (vr ∷ [], (vy ∷ [], (vw ∷ [], (vint w32 n ∷ [], tt)))))) ∷ []) ∵
-        enter ! C₀ Λ code.function (vptr b o ∷ vr ∷ vy ∷ vw ∷ vint w32 n ∷ []) _ $
-        alloc1 ! (λ l₀. alloc1 !
-        (λ l₁. alloc1 !
-        (λ l₂. alloc1 !
-        (λ l₃. alloc1 ! (λ l₄. alloc1 ! (λ l₅. alloc1 ! (λ l₆. alloc1 ! (λ l₇. alloc1 ! (λ l₈. alloc1 ! (λ l₉. alloc0 ! $ params1 ! $
-        pass1 ! (init ! 16 refl (tt, tt)) $ pass1 ! (init ! 14 refl (LL.lawful P.the-type P′.the-laws 𝓤 H A W .typed r _ isr .0)) $
-        pass1 ! (init ! 12 refl (tt, (tt, (record { fits = room₁ .0 }, tt)))) $
-        pass1 ! (init ! 10 refl (tt, (tt, (record { fits = room₂ .0 }, tt)))) $ pass1 ! (init ! 8 refl (tt, record { fits = n-small }))
-        $ pass0 ! $
-        move ! (21 ∷ []) $ fsplit ! $ move ! (1 ∷ []) $ fsplit ! $ move ! (1 ∷ []) $ fsplit ! $ move ! (1 ∷ []) $ fsplit ! $ move ! (1 ∷ [])
-        $ fsplit ! $ drop ! $ drop ! $ move ! (24 ∷ []) $ split ! $ move ! (1 ∷ []) $ split ! $ move ! (1 ∷ []) $ split ! $
-        -- [[κ₂]; true; [κ₁]; [κ₀]; nexts; bits; r; the receiver; _9; …; …; _0; …], then 7: [r; the receiver; [κ₀]; bits; [κ₁]; nexts; [κ₂]]
-        keep ! (6 ∷ 7 ∷ 3 ∷ 5 ∷ 2 ∷ 4 ∷ 0 ∷ entry 8 10) $
+    walk : Begins (Go {0}) W f.signature (Bound .0) C₀ Λ code.function Post
+    walk = begins ! (keep ! (1 ∷ 0 ∷ 5 ∷ 2 ∷ 6 ∷ 3 ∷ 7 ∷ []))
+        ((tt, tt) & (LL.lawful P.the-type P′.the-laws 𝓤 H A W .typed r _ isr .0) & (tt, (tt, (record { fits = room₁ .0 }, tt)))
+        & (tt, (tt, (record { fits = room₂ .0 }, tt))) & (tt, record { fits = n-small }) & tt)
+        (λ l₀ l₁ l₂ l₃ l₄ l₅ l₆ l₇ l₈ l₉.
         calls-is-refused 𝓤 H A W mem run r vr ! fm known-refused (and-then ! (var ! (7 + 2) refl) (no-more !)) (λ v e.
         -- 6: [the receiver; [κ₀]; bits; [κ₁]; nexts; [κ₂]]
         land ! (from ! (stop !)) (init ! (6 + 6) refl (subst (λ (z : Val). Holds (hasTy tyBool z) × WT z) (sym e) (tt, tt))) $
@@ -176,44 +153,20 @@ module _ {M : Type 1} (𝓤 : URA M) (H : Heap 𝓤) (A : Atoms 𝓤) (W : Given
         ! tt β δ₂ h₂ $
         -- 4: [the receiver; [κ₀]; [κ₁]; [κ₂]]
         assigns ! (of-opd ! (unit-lit !)) (from ! (stop !)) (init ! (4 + 0) refl (tt, tt)) $
-        returns ! (look ! 4 refl) $ gone ! 4 refl $ by ! (exits h₂ (settled-given h r bits nexts n gives))))))))))))))))))
+        returns ! (look ! 4 refl) $ gone ! 4 refl $ by ! (exits h₂ (settled-given h r bits nexts n gives)))))))))
 
 module _ {M : Type 1} (𝓤 : URA M) (H : Heap 𝓤) (A : Atoms 𝓤) (W : Given 𝓤 H A) (mem : Memory → SProp 𝓤) (run : Routine → Fun 𝓤)
     (𝓣 : Tables 𝓤 H) (known-refused : Triple 𝓤 (𝓣 .C #recv-lent·is-refused) (IsRefused 𝓤 H A mem run))
     (known-all : Triple 𝓤 (𝓣 .C #recv-channel·advance-all) (AdvanceAll 𝓤 H A mem run))
     (known-accept : Triple 𝓤 (𝓣 .C #recv-lent·accept) (Accept 𝓤 H A mem run)) where
-  here-walks : Walks 𝓤 H A f.ended stayed (WpFn 𝓤 H (𝓣 .C) (𝓣 .Λ) code.function) (f.clauses 𝓤 H A mem run)
-  here-walks = walked 𝓤 H A f.ended stayed (f.clauses 𝓤 H A mem run) (WpFn 𝓤 H (𝓣 .C) (𝓣 .Λ) code.function)
-      (λ κs. (ptr-vals, (LL.vals P.the-type P′.the-laws, (slice-vals, (slice-vals, (uint-vals w32, tt))))))
-      (λ κs. (
-        mut-tells (named 0) (κs .0) T.the-row,
-        (
-          LL.tells P.the-type P′.the-laws,
-          (shr-slice-tells (named 1) (κs .1 .0) u8, (shr-slice-tells (named 2) (κs .1 .1 .0) u32, (uint-tells w32, tt))),
-        ),
-      ))
+  here-meets : Meets 𝓤 H A f.signature (WpFn 𝓤 H (𝓣 .C) (𝓣 .Λ) code.function) (f.spec 𝓤 H A mem run)
+  here-meets = meets f.ended ways 𝓤 H A W 𝓣 code.function (f.clauses 𝓤 H A mem run)
       (λ κs qs bounds a _ are. via 𝓤 _ (fst∗ 𝓤 _ (emp 𝓤))
       (walk 𝓤 H A W mem run (κs .0) (κs .1 .0) (κs .1 .1 .0) (qs .0) (qs .1 .0) (qs .1 .1 .0) (a .0 .ptr .0) (a .0 .ptr .1) (a .0 .name)
       (a .0 .now) (a .1 .0) (a .1 .1 .0 .ptr .0) (a .1 .1 .0 .ptr .1) (a .1 .1 .0 .name) (a .1 .1 .0 .now) (a .1 .1 .1 .0 .ptr .0)
       (a .1 .1 .1 .0 .ptr .1) (a .1 .1 .1 .0 .name) (a .1 .1 .1 .0 .now) (a .1 .1 .1 .1 .0)
       (are .1 .0) (are .1 .1 .0 .0 .1) (are .1 .1 .1 .0 .0 .1) (are .1 .1 .1 .1 .0 .1) (𝓣 .C) (𝓣 .Λ) (fmOf 𝓤 H (W .laws) 𝓣) known-refused
-      known-all known-accept))
-
-  here-meets : Meets 𝓤 H A f.signature (WpFn 𝓤 H (𝓣 .C) (𝓣 .Λ) code.function) (f.spec 𝓤 H A mem run)
-  here-meets = walk-meets 𝓤 H A f.ended stayed W (
-    goes-ref 𝓤 H A W 3 0 tt (plain (λ _. T.the-row)),
-    (
-      goes-dropped 𝓤 H A W 3 (plain (λ _. P.the-row)) yes (λ κs x g. refl),
-      (
-        goes-dropped 𝓤 H A W 3 (shrSliceOf (1 ∷ []) tt (plain (λ _. u8))) yes (λ κs x g. refl),
-        (
-          goes-dropped 𝓤 H A W 3 (shrSliceOf (2 ∷ []) tt (plain (λ _. u32))) yes (λ κs x g. refl),
-          (goes-dropped 𝓤 H A W 3 (plain (λ _. u32)) yes (λ κs x g. refl), tt),
-        ),
-      ),
-    ),
-  )
-      (f.clauses 𝓤 H A mem run) (WpFn 𝓤 H (𝓣 .C) (𝓣 .Λ) code.function) (WpFn-mono 𝓤 H (W .laws) 𝓣 code.function) here-walks
+      known-all known-accept .go))
 
 pub settle-spec : {M : Type 1} → stated.statement M
 unfolding code.routine tablesOf

@@ -3,17 +3,13 @@
 -- Assumes nothing.
 use Rattle.walks.proofs.Walk.{_≡_, refl, sym, _∙_, subst, ℕ, suc, _+_, _<_, _≤_, _^_, add-one, arith, Bool, List, [], _∷_, length, set, T}
 use Rattle.walks.proofs.Walk.{lit<, URA, fullShare, Ty, named, erased, mut, w64, tyInt, tyBool, tyUnit, tyRef, Val, vunit, vbool, vint}
-use Rattle.walks.proofs.Walk.{hasTy, WT, SProp, ent, Lft, GName, Share, Fml, ftrue, fat, froom, fdies, flft, Memory, Routine, Heap, Out}
-use Rattle.walks.proofs.Walk.{Env, afterSeq, afterBlock, afterTurn, Wp, atReturn, WpFn, Tables, Atoms, FmC, fmOf, WpFn-mono, Fun, givenOf}
-use Rattle.walks.proofs.Walk.{tables}
-use Rattle.walks.proofs.Walk.{tablesOf, Given, Item, ‵, _⊛_, ⋆, anyQ, atRet, _$_, _∵_, !, qed, by, move, keep, drop, split, join, rewrite}
-use Rattle.walks.proofs.Walk.{fsplit, fjoin, feqI, suffices, frame, done, agg, whole, sub, look-in, look, store, init, forget, stop, hop}
-use Rattle.walks.proofs.Walk.{fld, from, load, lit, unit-lit, of-opd, bin, addr, and-then, no-more, land, assigns, assigns-last, stays}
-use Rattle.walks.proofs.Walk.{leaves-loop, returns, enter, alloc1, alloc0, params1, pass1, pass0, exec, owns, Is, shows}
-use Rattle.walks.proofs.Walk.{pointee}
-use Rattle.walks.proofs.Walk.{usize, yes, uint-vals, uint-tells, RefT, now, sliceTy, sliceVal, MutSlice, Room, slice-vals, mut-slice-tells}
-use Rattle.walks.proofs.Walk.{plain, owned, peeks, nothing, onEntry, Triple, Meets, tripleOf, entered, cited, says, Stays, stay-dropped}
-use Rattle.walks.proofs.Walk.{stay-slice, walkOf, Walks, ends-at, walked, goes-dropped, goes-slice, walk-meets}
+use Rattle.walks.proofs.Walk.{hasTy, WT, SProp, ent, Lft, GName, Share, Fml, fat, froom, fdies, flft, Memory, Routine, Heap, Out, Env}
+use Rattle.walks.proofs.Walk.{afterSeq, afterBlock, afterTurn, Wp, atReturn, WpFn, Tables, Atoms, FmC, fmOf, Fun, givenOf, tables, tablesOf}
+use Rattle.walks.proofs.Walk.{Given, Item, ‵, ⋆, anyQ, atRet, _$_, _∵_, !, qed, by, move, keep, drop, join, rewrite, fjoin, feqI, suffices}
+use Rattle.walks.proofs.Walk.{frame, done, look, store, init, forget, stop, from, lit, unit-lit, of-opd, bin, and-then, no-more, land}
+use Rattle.walks.proofs.Walk.{assigns, assigns-last, stays, leaves-loop, returns, exec, Is, shows, pointee, RefT, now, sliceTy, sliceVal}
+use Rattle.walks.proofs.Walk.{MutSlice, Room, plain, owned, peeks, nothing, Triple, Meets, tripleOf, entered, cited, says, Stays, walkOf}
+use Rattle.walks.proofs.Walk.{ends-at, Go}
 use denote.Struct.Laws as LL
 use denote.Triple.Walked.{needs}
 use Rattle.cells.specs.declared.CellRecord.{CellRecord}
@@ -22,7 +18,10 @@ use Rattle.cells.proofs.CellRecord.Laws as C′
 use Rattle.row_slots.specs.First.{blank}
 use Rattle.recv_new.specs.New.{cleared}
 use Rattle.recv_new.proofs.Cleared.{cleared-none, cleared-length, cleared-more}
-use Rattle.walks.proofs.Order.{entry, var, gone}
+use Rattle.walks.proofs.Order.{var, gone}
+use Rattle.walks.proofs.Again.{relends}
+use Rattle.walks.proofs.Begin.{Begins, begins}
+use Rattle.walks.proofs.Ways.{_&_, Ways, had-at-exit, meets, kept-slice, uint}
 use Rattle.walks.proofs.Slices.{lending, returned}
 use Rattle.walks.proofs.Counting.{Turn, counts, holds, fails}
 use Rattle.recv_new.proofs.Elements.{Unused, PutRecord, calls-unused, calls-put-record}
@@ -48,8 +47,11 @@ slice = sliceTy (tyRef (named 0) mut (pointee (C.the-row .written)))
 abbrev refE : Ty
 refE = tyRef erased mut (pointee (C.the-row .written))
 
+abbrev ways : Ways (here.ended .signature .params) (here.ended .kept)
+ways = kept-slice 0 tt (plain (λ _. C.the-row)) & uint w64 & tt
+
 abbrev stayed : Stays (here.ended .signature .params) (here.ended .kept)
-stayed = (stay-slice (0 ∷ []) tt (plain (λ _. C.the-row)), (stay-dropped (plain (λ _. usize)) yes, tt))
+stayed = had-at-exit here.ended ways
 
 module _ {M : Type 1} (𝓤 : URA M) (H : Heap 𝓤) (A : Atoms 𝓤) (W : Given 𝓤 H A) (mem : Memory → SProp 𝓤) (run : Routine → Fun 𝓤) (κ : Lft)
     (q : Share) (b o : ℕ) (γ : GName) (rs : List CellRecord) (n : ℕ) (room : Room C.the-row (length rs)) (n-fits : n < 2 ^ 64)
@@ -107,11 +109,7 @@ module _ {M : Type 1} (𝓤 : URA M) (H : Heap 𝓤) (A : Atoms 𝓤) (W : Given
         -- the records are lent
         lending C.the-row κ q (x γ (cleared rs i)) (length rs) ! tt (λ α δ.
         -- 3: [the lent records; what is kept; [α]]
-        assigns ! (addr ! (from ! (fld ! refl (hop ! (look-in ! (3 + 1) (sub ! 0 refl (whole !))) (stop !))))) (from ! (stop !))
-        (init ! (3 + 7) refl (tt, tt)) $
-        assigns ! (agg ! (and-then ! (var ! (3 + 7) refl) (and-then !
-        (load ! (from ! (fld ! refl (stop !))) (look-in ! (3 + 1) (sub ! 1 refl (whole !)))) (no-more !)))) (from ! (stop !))
-        (init ! (3 + 8) refl (tt, (tt, (record { fits = room .0 }, tt)))) $
+        relends ! (3 + 1) (3 + 7) (3 + 8) refl refl (room .0) $
         owned ! C.the-row (Is C.the-row) ((LL.makes C.the-type C′.the-plain) 𝓤 H A) blank (v ∷ []) is $
         -- 4: [the unused record; the lent records; what is kept; [α]]
         move ! (3 ∷ 1 ∷ 0 ∷ []) $ calls-put-record 𝓤 H A W mem run (α ∷ []) fullShare (x δ (cleared rs i)) i blank vx v ! fm known-put
@@ -149,19 +147,10 @@ module _ {M : Type 1} (𝓤 : URA M) (H : Heap 𝓤) (A : Atoms 𝓤) (W : Given
 
   walk : (𝓣 : Tables 𝓤 H) → FmC 𝓤 H (W .laws) (𝓣 .C) → Triple 𝓤 (𝓣 .C #recv-new·unused) (Unused 𝓤 H A mem run)
       → Triple 𝓤 (𝓣 .C #recv-new·put-record) (PutRecord 𝓤 H A mem run)
-      → ent 𝓤 (onEntry 𝓤 H A here.signature (κ, tt) (q, tt) (x γ rs, (n, tt)) (vx ∷ [], (vint w64 n ∷ [], tt)))
-      (WpFn 𝓤 H (𝓣 .C) (𝓣 .Λ) code.function (vx ∷ vint w64 n ∷ []) Post)
-  walk 𝓣 fm known-unused known-put =
-      qed W ((‵ (flft κ q) ⊛ ‵ ftrue) ∷ ‵ (owns (MutSlice (named 0) κ C.the-row ∷ usize ∷ []) (x γ rs, (n, tt))
-      (vx ∷ [], (vint w64 n ∷ [], tt))) ∷ []) ∵ enter ! (𝓣 .C) (𝓣 .Λ) code.function (vx ∷ vint w64 n ∷ []) _ $
-      alloc1 ! (λ l₀. alloc1 !
-      (λ l₁. alloc1 !
-      (λ l₂. alloc1 ! (λ l₃. alloc1 ! (λ l₄. alloc1 ! (λ l₅. alloc1 ! (λ l₆. alloc1 ! (λ l₇. alloc1 ! (λ l₈. alloc0 ! $ params1 ! $
-      pass1 ! (init ! 14 refl (tt, (tt, (record { fits = room .0 }, tt)))) $ pass1 ! (init ! 12 refl (tt, record { fits = n-fits })) $
-      pass0 ! $
-      move ! (19 ∷ []) $ fsplit ! $ move ! (1 ∷ []) $ fsplit ! $ move ! (21 ∷ []) $ split ! $
-      -- [[κ]; true; what n owns; true; records; _8; …; _0; …]
-      keep ! (4 ∷ 0 ∷ entry 5 9) $
+      → Begins (Go {0}) W here.signature (Bound .0) (𝓣 .C) (𝓣 .Λ) code.function Post
+  walk 𝓣 fm known-unused known-put = begins ! (keep ! (0 ∷ 2 ∷ []))
+      ((tt, (tt, (record { fits = room .0 }, tt))) & (tt, record { fits = n-fits }) & tt)
+      (λ l₀ l₁ l₂ l₃ l₄ l₅ l₆ l₇ l₈.
       calls-unused 𝓤 H A W mem run ! fm known-unused (no-more !) (λ v. peeks ! C.the-row (Is C.the-row) (shows 𝓤 H A C.the-row) blank
       (v ∷ []) (λ is.
       land ! (from ! (stop !)) (init ! (3 + 3) refl (LL.lawful C.the-type C′.the-laws 𝓤 H A W .typed blank _ is .0)) $
@@ -170,24 +159,16 @@ module _ {M : Type 1} (𝓤 : URA M) (H : Heap 𝓤) (A : Atoms 𝓤) (W : Given
       by ! (counts 𝓤 H A W 𝓣 (E 𝓣 fm known-put v is l₀ l₁ l₂ l₃ l₄ l₅ l₆ l₇ l₈) mir′.turn-1
       (Left 𝓣 fm known-put v is l₀ l₁ l₂ l₃ l₄ l₅ l₆ l₇ l₈) n (λ _. Unit {0})
       (λ i. ⋆ 𝓤 H A (At 𝓣 fm known-put v is l₀ l₁ l₂ l₃ l₄ l₅ l₆ l₇ l₈ i))
-      (more 𝓣 fm known-put v is l₀ l₁ l₂ l₃ l₄ l₅ l₆ l₇ l₈) (ends 𝓣 fm known-put v is l₀ l₁ l₂ l₃ l₄ l₅ l₆ l₇ l₈) tt))))))))))))
+      (more 𝓣 fm known-put v is l₀ l₁ l₂ l₃ l₄ l₅ l₆ l₇ l₈) (ends 𝓣 fm known-put v is l₀ l₁ l₂ l₃ l₄ l₅ l₆ l₇ l₈) tt))))
 
 module _ {M : Type 1} (𝓤 : URA M) (H : Heap 𝓤) (A : Atoms 𝓤) (W : Given 𝓤 H A) (mem : Memory → SProp 𝓤) (run : Routine → Fun 𝓤)
     (𝓣 : Tables 𝓤 H) (known-unused : Triple 𝓤 (𝓣 .C #recv-new·unused) (Unused 𝓤 H A mem run))
     (known-put : Triple 𝓤 (𝓣 .C #recv-new·put-record) (PutRecord 𝓤 H A mem run)) where
-  here-walks : Walks 𝓤 H A here.ended stayed (WpFn 𝓤 H (𝓣 .C) (𝓣 .Λ) code.function) (here.clauses 𝓤 H A mem run)
-  here-walks = walked 𝓤 H A here.ended stayed (here.clauses 𝓤 H A mem run) (WpFn 𝓤 H (𝓣 .C) (𝓣 .Λ) code.function)
-      (λ κs. (slice-vals, (uint-vals w64, tt))) (λ κs. (mut-slice-tells (named 0) (κs .0) C.the-row, (uint-tells w64, tt)))
+  here-meets : Meets 𝓤 H A here.signature (WpFn 𝓤 H (𝓣 .C) (𝓣 .Λ) code.function) (here.spec 𝓤 H A mem run)
+  here-meets = meets here.ended ways 𝓤 H A W 𝓣 code.function (here.clauses 𝓤 H A mem run)
       (λ κs qs bounds a g are. needs 𝓤 (a .1 .0 ≤ length (now (a .0))) _ (λ few.
       walk 𝓤 H A W mem run (κs .0) (qs .0) (a .0 .ptr .0) (a .0 .ptr .1) (a .0 .name) (a .0 .now) (a .1 .0) (are .0 .0 .1) (are .1 .0 .1)
-      few 𝓣 (fmOf 𝓤 H (W .laws) 𝓣) known-unused known-put))
-
-  here-meets : Meets 𝓤 H A here.signature (WpFn 𝓤 H (𝓣 .C) (𝓣 .Λ) code.function) (here.spec 𝓤 H A mem run)
-  here-meets = walk-meets 𝓤 H A here.ended stayed W (
-    goes-slice 𝓤 H A W 1 0 tt (plain (λ _. C.the-row)),
-    (goes-dropped 𝓤 H A W 1 (plain (λ _. usize)) yes (λ κs x f. refl), tt),
-  ) (here.clauses 𝓤 H A mem run)
-      (WpFn 𝓤 H (𝓣 .C) (𝓣 .Λ) code.function) (WpFn-mono 𝓤 H (W .laws) 𝓣 code.function) here-walks
+      few 𝓣 (fmOf 𝓤 H (W .laws) 𝓣) known-unused known-put .go))
 
 pub clear-spec : {M : Type 1} → stated.statement M
 unfolding code.routine tablesOf

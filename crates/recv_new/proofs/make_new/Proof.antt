@@ -2,17 +2,12 @@
 -- lent to `clear`, and the new receiver is stored behind the reference, whose borrow is opened for it.
 -- Assumes nothing.
 use Rattle.walks.proofs.Walk.{_≡_, refl, sym, subst, ℕ, _+_, List, [], _∷_, length, T, URA, fullShare, named, w64, tyInt, tyUnit, Val, vptr}
-use Rattle.walks.proofs.Walk.{hasTy, WT, SProp, ent, emp, via, fst∗, Lft, GName, Share, ftrue, fat, flft, Memory, Routine, Heap, Calls}
-use Rattle.walks.proofs.Walk.{Loops, WpFn, Tables, Atoms, FmC, fmOf, WpFn-mono, Fun, givenOf, tables, tablesOf, Given, Item, ‵, _⊛_, ⋆, _$_}
-use Rattle.walks.proofs.Walk.{_∵_, !, qed, by, move, keep, drop, split, join, rewrite, fsplit, fsplit3, fjoin, fjoin3, feqI, suffices}
-use Rattle.walks.proofs.Walk.{frame}
-use Rattle.walks.proofs.Walk.{done, agg, whole, sub, look-in, look, init, stop, hop, fld, from, load, lit, of-opd, bin, addr, and-then}
-use Rattle.walks.proofs.Walk.{no-more, land, assigns, returns, returns-within, enter, alloc1, alloc0, params1, pass1, pass0}
-use Rattle.walks.proofs.Walk.{yes, owns, Is, shows, u8, RefT, MutRef, ptr-vals, mut-tells, sliceVal, MutSlice, ShrSlice, Room, slice-vals}
-use Rattle.walks.proofs.Walk.{mut-slice-tells, shr-slice-tells, plain, shrSliceOf, opens, closes, peeks, nothing, spelt, onEntry, Triple}
-use Rattle.walks.proofs.Walk.{Meets}
-use Rattle.walks.proofs.Walk.{tripleOf, entered, cited, says, Stays, stay-dropped, stay-ref, stay-slice, walkOf, Walks, ends-at, walked}
-use Rattle.walks.proofs.Walk.{goes-dropped, goes-ref, goes-slice, walk-meets}
+use Rattle.walks.proofs.Walk.{hasTy, WT, SProp, ent, emp, via, fst∗, Lft, GName, Share, fat, flft, Memory, Routine, Heap, Calls, Loops}
+use Rattle.walks.proofs.Walk.{WpFn, Tables, Atoms, FmC, fmOf, Fun, givenOf, tables, tablesOf, Given, Item, ‵, ⋆, _$_, _∵_, !, qed, by, move}
+use Rattle.walks.proofs.Walk.{keep, drop, join, rewrite, fsplit3, fjoin, fjoin3, feqI, suffices, frame, done, whole, sub, look-in, look}
+use Rattle.walks.proofs.Walk.{init, stop, hop, fld, from, load, lit, of-opd, bin, and-then, no-more, land, assigns, returns, returns-within}
+use Rattle.walks.proofs.Walk.{Is, shows, u8, RefT, MutRef, sliceVal, MutSlice, Room, plain, opens, closes, peeks, nothing, spelt, Triple}
+use Rattle.walks.proofs.Walk.{Meets, tripleOf, entered, cited, says, Stays, walkOf, ends-at, Go}
 use lib.Dec.{ltb→lt}
 use types.Run.{store-raw}
 use denote.Struct.Laws as LL
@@ -24,7 +19,10 @@ use Rattle.receiver.specs.Queue.{newQueue}
 use Rattle.receiver.proofs.RecvQueue as Q
 use Rattle.receiver.proofs.RecvQueue.Laws as Q′
 use Rattle.recv_new.specs.New.{cellsMade, answerOf, madeNew, makeNewOf, cleared}
-use Rattle.walks.proofs.Order.{entry, var, if-returns, gone}
+use Rattle.walks.proofs.Order.{var, if-returns, gone}
+use Rattle.walks.proofs.Again.{relends}
+use Rattle.walks.proofs.Begin.{Begins, begins}
+use Rattle.walks.proofs.Ways.{_&_, Ways, had-at-exit, meets, kept-ref, kept-slice, read-slice}
 use Rattle.walks.proofs.Slices.{lending, returned}
 use Rattle.recv_new.proofs.Cases.{test-fails, makes-none, makes-some}
 use Rattle.recv_new.proofs.Calls.{CellsMade, Clear, NewQueue, AnswerOf, calls-cells, calls-clear, calls-new, calls-answer}
@@ -48,14 +46,11 @@ use Rattle.recv_new.proofs.make_new.Statement as stated
 use Rattle.recv_new.proofs.make_new.Code as code
 
 -- what the walk still has of each parameter at exit: the receiver and the records, of the store nothing
+abbrev ways : Ways (here.ended .signature .params) (here.ended .kept)
+ways = kept-ref 0 tt (plain (λ _. Q.the-row)) & kept-slice 1 tt (plain (λ _. C.the-row)) & read-slice 2 tt (plain (λ _. u8)) & tt
+
 abbrev stayed : Stays (here.ended .signature .params) (here.ended .kept)
-stayed = (
-  stay-ref (0 ∷ []) tt (plain (λ _. Q.the-row)),
-  (
-    stay-slice (1 ∷ []) tt (plain (λ _. C.the-row)),
-    (stay-dropped (shrSliceOf (2 ∷ []) tt (plain (λ _. u8))) yes, tt),
-  ),
-)
+stayed = had-at-exit here.ended ways
 
 module _ {M : Type 1} (𝓤 : URA M) (H : Heap 𝓤) (A : Atoms 𝓤) (W : Given 𝓤 H A) (mem : Memory → SProp 𝓤) (run : Routine → Fun 𝓤)
     (κ₀ κ₁ κ₂ : Lft) (q₀ q₁ q₂ : Share) (b₀ o₀ : ℕ) (γ₀ : GName) (queue : RecvQueue) (b₁ o₁ : ℕ) (γ₁ : GName) (rs : List CellRecord)
@@ -109,25 +104,10 @@ module _ {M : Type 1} (𝓤 : URA M) (H : Heap 𝓤) (A : Atoms 𝓤) (W : Given
       (known-clear : Triple 𝓤 (C′ #recv-new·clear) (Clear 𝓤 H A mem run))
       (known-new : Triple 𝓤 (C′ #recv-new·new-queue) (NewQueue 𝓤 H A mem run))
       (known-answer : Triple 𝓤 (C′ #recv-new·answer-of) (AnswerOf 𝓤 H A mem run)) where
-    walk : ent 𝓤 (onEntry 𝓤 H A here.signature (κ₀, (κ₁, (κ₂, tt))) (q₀, (q₁, (q₂, tt))) (g queue, (x γ₁ rs, (s, tt)))
-        (vg ∷ [], (vx ∷ [], (vs ∷ [], tt)))) (WpFn 𝓤 H C′ Λ code.function (vg ∷ vx ∷ vs ∷ []) Post)
-    walk =
-        qed W ((‵ (flft κ₀ q₀) ⊛ (‵ (flft κ₁ q₁) ⊛ (‵ (flft κ₂ q₂) ⊛ ‵ ftrue)))
-        ∷ ‵ (owns (MutRef (named 0) κ₀ Q.the-row ∷ MutSlice (named 1) κ₁ C.the-row ∷ ShrSlice (named 2) κ₂ u8 ∷ [])
-        (g queue, (x γ₁ rs, (s, tt))) (vg ∷ [], (vx ∷ [], (vs ∷ [], tt)))) ∷ []) ∵
-        enter ! C′ Λ code.function (vg ∷ vx ∷ vs ∷ []) _ $
-        alloc1 ! (λ l₀. alloc1 !
-        (λ l₁. alloc1 !
-        (λ l₂. alloc1 !
-        (λ l₃. alloc1 !
-        (λ l₄. alloc1 !
-        (λ l₅. alloc1 ! (λ l₆. alloc1 ! (λ l₇. alloc1 ! (λ l₈. alloc1 ! (λ l₉. alloc1 ! (λ l₁₀. alloc1 ! (λ l₁₁. alloc0 ! $ params1 ! $
-        pass1 ! (init ! 20 refl (tt, tt)) $ pass1 ! (init ! 18 refl (tt, (tt, (record { fits = room₁ .0 }, tt)))) $
-        pass1 ! (init ! 16 refl (tt, (tt, (record { fits = room₂ .0 }, tt)))) $ pass0 ! $
-        move ! (25 ∷ []) $ fsplit ! $ move ! (1 ∷ []) $ fsplit ! $ move ! (1 ∷ []) $ fsplit ! $ move ! (28 ∷ []) $ split ! $ move ! (1 ∷ [])
-        $ split ! $ move ! (1 ∷ []) $ split ! $
-        -- [[κ₂]; true; [κ₁]; [κ₀]; store; true; records; receiver; _11; …; _0; …]
-        keep ! (7 ∷ 3 ∷ 6 ∷ 2 ∷ 0 ∷ entry 8 12) $
+    walk : Begins (Go {0}) W here.signature (Passed .0) C′ Λ code.function Post
+    walk = begins ! (keep ! (0 ∷ 3 ∷ 1 ∷ 4 ∷ 5 ∷ []))
+        ((tt, tt) & (tt, (tt, (record { fits = room₁ .0 }, tt))) & (tt, (tt, (record { fits = room₂ .0 }, tt))) & tt)
+        (λ l₀ l₁ l₂ l₃ l₄ l₅ l₆ l₇ l₈ l₉ l₁₀ l₁₁.
         -- 5: [receiver; [κ₀]; records; [κ₁]; [κ₂]]: `cells_made`
         assigns ! (of-opd ! (load ! (from ! (fld ! refl (stop !))) (look-in ! (5 + 2) (sub ! 1 refl (whole !))))) (from ! (stop !))
         (init ! (5 + 5) refl (tt, record { fits = room₁ .0 })) $
@@ -150,11 +130,7 @@ module _ {M : Type 1} (𝓤 : URA M) (H : Heap 𝓤) (A : Atoms 𝓤) (W : Given
         -- the records are lent to `clear`
         move ! (2 ∷ 3 ∷ []) $ lending C.the-row κ₁ q₁ (x γ₁ rs) (length rs) ! tt (λ α δ.
         -- 6: [the lent records; what is kept; [α]; receiver; [κ₀]; [κ₂]]
-        assigns ! (addr ! (from ! (fld ! refl (hop ! (look-in ! (6 + 2) (sub ! 0 refl (whole !))) (stop !))))) (from ! (stop !))
-        (init ! (6 + 9) refl (tt, tt)) $
-        assigns ! (agg ! (and-then ! (var ! (6 + 9) refl) (and-then !
-        (load ! (from ! (fld ! refl (stop !))) (look-in ! (6 + 2) (sub ! 1 refl (whole !)))) (no-more !)))) (from ! (stop !))
-        (init ! (6 + 10) refl (tt, (tt, (record { fits = room₁ .0 }, tt)))) $
+        relends ! (6 + 2) (6 + 9) (6 + 10) refl refl (room₁ .0) $
         move ! (2 ∷ 0 ∷ []) $ calls-clear 𝓤 H A W mem run (α ∷ []) fullShare (x δ rs) n vx ! fm known-clear (e .2) (e .1)
         (and-then ! (var ! (5 + 10) refl) (and-then ! (var ! (5 + 4) refl) (no-more !))) (λ u f.
         -- 6: [[α]; the records' last value; what is kept; receiver; [κ₀]; [κ₂]]
@@ -179,42 +155,20 @@ module _ {M : Type 1} (𝓤 : URA M) (H : Heap 𝓤) (A : Atoms 𝓤) (W : Given
         -- 6: [the answer; receiver; [κ₀]; records; [κ₁]; [κ₂]]
         land ! (from ! (stop !)) (init ! 6 refl (EL.lawful N.the-type N′.the-laws 𝓤 H A W tt .typed (answerOf n) _ is .0)) $
         returns ! (look ! 6 refl) $
-        gone ! 6 refl $ by ! (exits w newQueue (cleared rs n) (makes-some queue rs st (test-fails n some)) (f .1)))))))))))))))))))))))
+        gone ! 6 refl $ by ! (exits w newQueue (cleared rs n) (makes-some queue rs st (test-fails n some)) (f .1))))))))))))
 
 module _ {M : Type 1} (𝓤 : URA M) (H : Heap 𝓤) (A : Atoms 𝓤) (W : Given 𝓤 H A) (mem : Memory → SProp 𝓤) (run : Routine → Fun 𝓤)
     (𝓣 : Tables 𝓤 H) (known-cells : Triple 𝓤 (𝓣 .C #recv-new·cells-made) (CellsMade 𝓤 H A mem run))
     (known-clear : Triple 𝓤 (𝓣 .C #recv-new·clear) (Clear 𝓤 H A mem run))
     (known-new : Triple 𝓤 (𝓣 .C #recv-new·new-queue) (NewQueue 𝓤 H A mem run))
     (known-answer : Triple 𝓤 (𝓣 .C #recv-new·answer-of) (AnswerOf 𝓤 H A mem run)) where
-  here-walks : Walks 𝓤 H A here.ended stayed (WpFn 𝓤 H (𝓣 .C) (𝓣 .Λ) code.function) (here.clauses 𝓤 H A mem run)
-  here-walks = walked 𝓤 H A here.ended stayed (here.clauses 𝓤 H A mem run) (WpFn 𝓤 H (𝓣 .C) (𝓣 .Λ) code.function)
-      (λ κs. (ptr-vals, (slice-vals, (slice-vals, tt))))
-      (λ κs. (
-        mut-tells (named 0) (κs .0) Q.the-row,
-        (
-          mut-slice-tells (named 1) (κs .1 .0) C.the-row,
-          (shr-slice-tells (named 2) (κs .1 .1 .0) u8, tt),
-        ),
-      ))
+  here-meets : Meets 𝓤 H A here.signature (WpFn 𝓤 H (𝓣 .C) (𝓣 .Λ) code.function) (here.spec 𝓤 H A mem run)
+  here-meets = meets here.ended ways 𝓤 H A W 𝓣 code.function (here.clauses 𝓤 H A mem run)
       (λ κs qs bounds a _ are. via 𝓤 _ (fst∗ 𝓤 _ (emp 𝓤))
       (walk 𝓤 H A W mem run (κs .0) (κs .1 .0) (κs .1 .1 .0) (qs .0) (qs .1 .0) (qs .1 .1 .0) (a .0 .ptr .0) (a .0 .ptr .1) (a .0 .name)
       (a .0 .now) (a .1 .0 .ptr .0) (a .1 .0 .ptr .1) (a .1 .0 .name) (a .1 .0 .now)
       (a .1 .1 .0 .ptr .0) (a .1 .1 .0 .ptr .1) (a .1 .1 .0 .name) (a .1 .1 .0 .now) (are .1 .0 .0 .1) (are .1 .1 .0 .0 .1) (𝓣 .C) (𝓣 .Λ)
-      (fmOf 𝓤 H (W .laws) 𝓣) known-cells known-clear known-new known-answer))
-
-  here-meets : Meets 𝓤 H A here.signature (WpFn 𝓤 H (𝓣 .C) (𝓣 .Λ) code.function) (here.spec 𝓤 H A mem run)
-  here-meets = walk-meets 𝓤 H A here.ended stayed W (
-    goes-ref 𝓤 H A W 3 0 tt (plain (λ _. Q.the-row)),
-    (
-      goes-slice 𝓤 H A W 3 1 tt (plain (λ _. C.the-row)),
-      (
-        goes-dropped 𝓤 H A W 3 (shrSliceOf (2 ∷ []) tt (plain (λ _. u8))) yes
-            (λ κs x f. refl),
-        tt,
-      ),
-    ),
-  )
-      (here.clauses 𝓤 H A mem run) (WpFn 𝓤 H (𝓣 .C) (𝓣 .Λ) code.function) (WpFn-mono 𝓤 H (W .laws) 𝓣 code.function) here-walks
+      (fmOf 𝓤 H (W .laws) 𝓣) known-cells known-clear known-new known-answer .go))
 
 pub make-new-spec : {M : Type 1} → stated.statement M
 unfolding code.routine tablesOf

@@ -2,16 +2,12 @@
 -- records is Copy: each call gets a copy of it.
 -- Assumes nothing.
 use Rattle.walks.proofs.Walk.{refl, sym, _∙_, ap, subst, ℕ, _+_, _<_, _≤_, _^_, arith, List, [], _∷_, length, getD, T, URA, fullShare}
-use Rattle.walks.proofs.Walk.{named, w64, tyBool, Val, vbool, vint, hasTy, WT, SProp, ent, sep, Lft, GName, Share, Fml, ftrue, fat, flft}
-use Rattle.walks.proofs.Walk.{Memory, Routine, Heap, Calls, Loops, WpFn, Tables, Atoms, sem, FmC, fmOf, WpFn-mono, Fun, givenOf, tables}
-use Rattle.walks.proofs.Walk.{tablesOf, Given, ‵, _⊛_, ⋆, _$_, _∵_, !, qed, by, move, keep, drop, use1, split, join, rewrite, fsplit, fjoin}
-use Rattle.walks.proofs.Walk.{feqI}
-use Rattle.walks.proofs.Walk.{suffices, frame, done, whole, sub, look-in, look, store, init, stop, fld, from, load, lit, bin, and-then}
-use Rattle.walks.proofs.Walk.{no-more, land, assigns, returns, enter, alloc1, alloc0, params1, pass1, pass0, yes, owns, Is, shows}
-use Rattle.walks.proofs.Walk.{uint-vals, uint-tells, usize, RefT, now, sliceVal, ShrSlice, Room, slice-vals, shr-slice-tells}
-use Rattle.walks.proofs.Walk.{shr-slice-copy, plain, shrSliceOf, only, peeks, nothing, onEntry, Triple, Meets, tripleOf, entered, cited}
-use Rattle.walks.proofs.Walk.{says, Stays}
-use Rattle.walks.proofs.Walk.{stay-dropped, walkOf, Walks, ends-at, walked, goes-dropped, walk-meets}
+use Rattle.walks.proofs.Walk.{named, w64, tyBool, Val, vbool, vint, hasTy, WT, SProp, ent, sep, Lft, GName, Share, Fml, fat, flft, Memory}
+use Rattle.walks.proofs.Walk.{Routine, Heap, Calls, Loops, WpFn, Tables, Atoms, sem, FmC, fmOf, Fun, givenOf, tables, tablesOf, Given, ‵}
+use Rattle.walks.proofs.Walk.{_⊛_, ⋆, _$_, _∵_, !, qed, by, move, keep, drop, use1, split, join, rewrite, fjoin, feqI, suffices, frame}
+use Rattle.walks.proofs.Walk.{done, whole, sub, look-in, look, store, init, stop, fld, from, load, lit, bin, and-then, no-more, land}
+use Rattle.walks.proofs.Walk.{assigns, returns, Is, shows, RefT, now, sliceVal, ShrSlice, Room, shr-slice-copy, plain, only, peeks, nothing}
+use Rattle.walks.proofs.Walk.{Triple, Meets, tripleOf, entered, cited, says, Stays, walkOf, ends-at, Go}
 use denote.Struct.Laws as LL
 use denote.Triple.Walked.{needs}
 use Rattle.cells.specs.declared.CellRecord.{CellRecord}
@@ -20,7 +16,9 @@ use Rattle.cells.proofs.CellRecord.Laws as C′
 use Rattle.row_slots.specs.First.{blank}
 use Rattle.recv_queue.specs.Records.{eightUsed}
 use Rattle.recv_queue.proofs.Eights.{eight-is}
-use Rattle.walks.proofs.Order.{entry, var, gone}
+use Rattle.walks.proofs.Order.{var, gone}
+use Rattle.walks.proofs.Begin.{Begins, begins}
+use Rattle.walks.proofs.Ways.{_&_, Ways, had-at-exit, meets, read-slice, uint}
 use Rattle.recv_queue.proofs.Elements.{RecordAt, AnyUsed, calls-record-at, calls-any}
 use Rattle.recv_queue.proofs.record_at.Symbol as record-at-def
 use Rattle.recv_queue.proofs.record_at.Symbol.{name as #recv-queue·record-at}
@@ -33,8 +31,11 @@ use Rattle.recv_queue.proofs.eight_used as here
 use Rattle.recv_queue.proofs.eight_used.Statement as stated
 use Rattle.recv_queue.proofs.eight_used.Code as code
 
+abbrev ways : Ways (here.ended .signature .params) (here.ended .kept)
+ways = read-slice 0 tt (plain (λ _. C.the-row)) & uint w64 & tt
+
 abbrev stayed : Stays (here.ended .signature .params) (here.ended .kept)
-stayed = (stay-dropped (shrSliceOf (0 ∷ []) tt (plain (λ _. C.the-row))) yes, (stay-dropped (plain (λ _. usize)) yes, tt))
+stayed = had-at-exit here.ended ways
 
 module _ {M : Type 1} (𝓤 : URA M) (H : Heap 𝓤) (A : Atoms 𝓤) (W : Given 𝓤 H A) (mem : Memory → SProp 𝓤) (run : Routine → Fun 𝓤) (κ : Lft)
     (q : Share) (b o : ℕ) (γ : GName) (rs : List CellRecord) (i : ℕ) (room : Room C.the-row (length rs)) (i-fits : i < 2 ^ 64)
@@ -79,25 +80,10 @@ module _ {M : Type 1} (𝓤 : URA M) (H : Heap 𝓤) (A : Atoms 𝓤) (W : Given
     small c v is = LL.owed C.the-type C′.the-laws c (LL.vals C.the-type C′.the-laws c)
         (subst (λ (us : List Val). Is C.the-row c us) (LL.tells C.the-type C′.the-laws c (v ∷ []) is) is) .0 .1
 
-    walk : ent 𝓤 (onEntry 𝓤 H A here.signature (κ, tt) (q, tt) (x, (i, tt)) (vx ∷ [], (vint w64 i ∷ [], tt)))
-        (WpFn 𝓤 H C₀ Λ code.function (vx ∷ vint w64 i ∷ []) Post)
-    walk =
-        qed W ((‵ (flft κ q) ⊛ ‵ ftrue) ∷ ‵ (owns (ShrSlice (named 0) κ C.the-row ∷ usize ∷ []) (x, (i, tt))
-        (vx ∷ [], (vint w64 i ∷ [], tt))) ∷ []) ∵ enter ! C₀ Λ code.function (vx ∷ vint w64 i ∷ []) _ $
-        alloc1 ! (λ l₀. alloc1 !
-        (λ l₁. alloc1 !
-        (λ l₂. alloc1 !
-        (λ l₃. alloc1 !
-        (λ l₄. alloc1 !
-        (λ l₅. alloc1 !
-        (λ l₆. alloc1 !
-        (λ l₇. alloc1 !
-        (λ l₈. alloc1 ! (λ l₉. alloc1 ! (λ l₁₀. alloc1 ! (λ l₁₁. alloc0 ! $ params1 ! $
-        pass1 ! (init ! 20 refl (tt, (tt, (record { fits = room .0 }, tt)))) $ pass1 ! (init ! 18 refl (tt, record { fits = i-fits })) $
-        pass0 ! $
-        move ! (25 ∷ []) $ fsplit ! $ move ! (26 ∷ []) $ split ! $
-        -- [[κ]; true; records; what i owns; _11; …; _0; …], then 2: [records; [κ]]
-        keep ! (2 ∷ 0 ∷ entry 4 12) $
+    walk : Begins (Go {0}) W here.signature (Bound .0) C₀ Λ code.function Post
+    walk = begins ! (keep ! (0 ∷ 2 ∷ []))
+        ((tt, (tt, (record { fits = room .0 }, tt))) & (tt, record { fits = i-fits }) & tt)
+        (λ l₀ l₁ l₂ l₃ l₄ l₅ l₆ l₇ l₈ l₉ l₁₀ l₁₁.
         use1 W (‵ Rec ⊛ ‵ Rec) twice $ split ! $ move ! (2 ∷ 0 ∷ []) $ calls-record-at 𝓤 H A W mem run κ q x i vx ! fm known-at
         (omega (arith, within)) i-fits (and-then ! (var ! (2 + 1) refl) (and-then ! (var ! (2 + 2) refl) (no-more !)))
         (λ v₀. peeks ! C.the-row (Is C.the-row) (shows 𝓤 H A C.the-row) (getD rs i blank) (v₀ ∷ []) (λ is₀.
@@ -182,25 +168,16 @@ module _ {M : Type 1} (𝓤 : URA M) (H : Heap 𝓤) (A : Atoms 𝓤) (W : Given
         (and-then ! (load ! (from ! (fld ! refl (stop !))) (look-in ! (3 + 10) (sub ! 0 refl (whole !)))) (no-more !))))))))) (λ v e.
         land ! (from ! (stop !)) (init ! (2 + 0) refl (subst (λ (z : Val). T (hasTy tyBool z) × WT z) (sym e) (tt, tt))) $
         rewrite ! (2 + 0) (λ (z : Val). ‵ (fat fullShare tyBool l₀ 0 z)) (e ∙ ap vbool (eight-is rs i)) refl $
-        returns ! (look ! 2 refl) $ drop ! $ gone ! 1 refl $ by ! exits)))))))))))))))))))))))))))))
+        returns ! (look ! 2 refl) $ drop ! $ gone ! 1 refl $ by ! exits))))))))))))))))))
 
 module _ {M : Type 1} (𝓤 : URA M) (H : Heap 𝓤) (A : Atoms 𝓤) (W : Given 𝓤 H A) (mem : Memory → SProp 𝓤) (run : Routine → Fun 𝓤)
     (𝓣 : Tables 𝓤 H) (known-at : Triple 𝓤 (𝓣 .C #recv-queue·record-at) (RecordAt 𝓤 H A mem run))
     (known-any : Triple 𝓤 (𝓣 .C #recv-queue·any-used) (AnyUsed 𝓤 H A mem run)) where
-  here-walks : Walks 𝓤 H A here.ended stayed (WpFn 𝓤 H (𝓣 .C) (𝓣 .Λ) code.function) (here.clauses 𝓤 H A mem run)
-  here-walks = walked 𝓤 H A here.ended stayed (here.clauses 𝓤 H A mem run) (WpFn 𝓤 H (𝓣 .C) (𝓣 .Λ) code.function)
-      (λ κs. (slice-vals, (uint-vals w64, tt))) (λ κs. (shr-slice-tells (named 0) (κs .0) C.the-row, (uint-tells w64, tt)))
+  here-meets : Meets 𝓤 H A here.signature (WpFn 𝓤 H (𝓣 .C) (𝓣 .Λ) code.function) (here.spec 𝓤 H A mem run)
+  here-meets = meets here.ended ways 𝓤 H A W 𝓣 code.function (here.clauses 𝓤 H A mem run)
       (λ κs qs bounds a g are. needs 𝓤 (a .1 .0 + 8 ≤ length (now (a .0))) _ (λ within.
       walk 𝓤 H A W mem run (κs .0) (qs .0) (a .0 .ptr .0) (a .0 .ptr .1) (a .0 .name) (a .0 .now) (a .1 .0) (are .0 .0 .1) (are .1 .0 .1)
-      within (𝓣 .C) (𝓣 .Λ) (fmOf 𝓤 H (W .laws) 𝓣) known-at known-any))
-
-  here-meets : Meets 𝓤 H A here.signature (WpFn 𝓤 H (𝓣 .C) (𝓣 .Λ) code.function) (here.spec 𝓤 H A mem run)
-  here-meets = walk-meets 𝓤 H A here.ended stayed W (
-    goes-dropped 𝓤 H A W 1 (shrSliceOf (0 ∷ []) tt (plain (λ _. C.the-row))) yes
-        (λ κs x f. refl),
-    (goes-dropped 𝓤 H A W 1 (plain (λ _. usize)) yes (λ κs x f. refl), tt),
-  )
-      (here.clauses 𝓤 H A mem run) (WpFn 𝓤 H (𝓣 .C) (𝓣 .Λ) code.function) (WpFn-mono 𝓤 H (W .laws) 𝓣 code.function) here-walks
+      within (𝓣 .C) (𝓣 .Λ) (fmOf 𝓤 H (W .laws) 𝓣) known-at known-any .go))
 
 pub eight-used-spec : {M : Type 1} → stated.statement M
 unfolding code.routine tablesOf

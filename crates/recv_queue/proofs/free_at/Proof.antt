@@ -2,16 +2,12 @@
 -- the message taken they are lent to `put_record`.
 -- Assumes nothing.
 use Rattle.walks.proofs.Walk.{_≡_, refl, sym, ap, subst, ℕ, _+_, _<_, _^_, Bool, List, [], _∷_, length, getD, set, T, URA, fullShare, named}
-use Rattle.walks.proofs.Walk.{w32, w64, tyBool, tyUnit, Val, vunit, vint, hasTy, WT, SProp, ent, Lft, GName, Share, ftrue, fat, flft}
-use Rattle.walks.proofs.Walk.{Memory, Routine, Heap, Calls, Loops, WpFn, Tables, Atoms, FmC, fmOf, WpFn-mono, Fun, givenOf, tables}
-use Rattle.walks.proofs.Walk.{tablesOf, Given, Item, ‵, _⊛_, ⋆, _$_, _∵_, !, qed, by, move, keep, split, join, rewrite, fsplit, fjoin, feqI}
-use Rattle.walks.proofs.Walk.{suffices}
-use Rattle.walks.proofs.Walk.{frame, done, agg, whole, sub, look-in, look, init, stop, hop, fld, from, load, unit-lit, of-opd, addr}
-use Rattle.walks.proofs.Walk.{and-then, no-more, land, assigns, returns, returns-within, enter, alloc1, alloc0, params1, pass1, pass0}
-use Rattle.walks.proofs.Walk.{yes, owns, Is, shows, uint-vals, uint-tells, u32, usize, RefT, now, sliceVal, MutSlice, Room}
-use Rattle.walks.proofs.Walk.{slice-vals, mut-slice-tells, plain, peeks, nothing, onEntry, Triple, Meets, tripleOf, entered, cited, says}
-use Rattle.walks.proofs.Walk.{Stays}
-use Rattle.walks.proofs.Walk.{stay-dropped, stay-slice, walkOf, Walks, ends-at, walked, goes-dropped, goes-slice, walk-meets}
+use Rattle.walks.proofs.Walk.{w32, w64, tyBool, tyUnit, Val, vunit, vint, hasTy, WT, SProp, ent, Lft, GName, Share, fat, flft, Memory}
+use Rattle.walks.proofs.Walk.{Routine, Heap, Calls, Loops, WpFn, Tables, Atoms, FmC, fmOf, Fun, givenOf, tables, tablesOf, Given, Item, ‵}
+use Rattle.walks.proofs.Walk.{⋆, _$_, _∵_, !, qed, by, move, keep, join, rewrite, fjoin, feqI, suffices, frame, done, look, init, stop}
+use Rattle.walks.proofs.Walk.{from, unit-lit, of-opd, and-then, no-more, land, assigns, returns, returns-within, Is, shows, RefT, now}
+use Rattle.walks.proofs.Walk.{sliceVal, MutSlice, Room, plain, peeks, nothing, Triple, Meets, tripleOf, entered, cited, says, Stays, walkOf}
+use Rattle.walks.proofs.Walk.{ends-at, Go}
 use denote.Struct.Laws as LL
 use denote.Triple.Walked.{needs}
 use Rattle.cells.specs.Cell.{bears, readyAs}
@@ -21,7 +17,10 @@ use Rattle.cells.proofs.CellRecord.Laws as C′
 use Rattle.row_slots.specs.First.{blank}
 use Rattle.recv_queue.specs.Records.{recordLeftBy}
 use Rattle.recv_queue.proofs.Freed.{left-unused, left-same}
-use Rattle.walks.proofs.Order.{entry, var, if-returns, gone}
+use Rattle.walks.proofs.Order.{var, if-returns, gone}
+use Rattle.walks.proofs.Again.{relends}
+use Rattle.walks.proofs.Begin.{Begins, begins}
+use Rattle.walks.proofs.Ways.{_&_, Ways, had-at-exit, meets, kept-slice, uint}
 use Rattle.walks.proofs.Slices.{lending, returned, sharing, unshared}
 use Rattle.recv_new.proofs.Elements.{PutRecord, Unused, calls-put-record, calls-unused}
 use Rattle.recv_queue.proofs.Elements.{RecordAt, IsTaken, calls-record-at, calls-taken}
@@ -42,14 +41,11 @@ use Rattle.recv_queue.proofs.free_at as here
 use Rattle.recv_queue.proofs.free_at.Statement as stated
 use Rattle.recv_queue.proofs.free_at.Code as code
 
+abbrev ways : Ways (here.ended .signature .params) (here.ended .kept)
+ways = kept-slice 0 tt (plain (λ _. C.the-row)) & uint w64 & uint w32 & tt
+
 abbrev stayed : Stays (here.ended .signature .params) (here.ended .kept)
-stayed = (
-  stay-slice (0 ∷ []) tt (plain (λ _. C.the-row)),
-  (
-    stay-dropped (plain (λ _. usize)) yes,
-    (stay-dropped (plain (λ _. u32)) yes, tt),
-  ),
-)
+stayed = had-at-exit here.ended ways
 
 module _ {M : Type 1} (𝓤 : URA M) (H : Heap 𝓤) (A : Atoms 𝓤) (W : Given 𝓤 H A) (mem : Memory → SProp 𝓤) (run : Routine → Fun 𝓤) (κ : Lft)
     (q : Share) (b o : ℕ) (γ : GName) (rs : List CellRecord) (i turn : ℕ)
@@ -89,30 +85,14 @@ module _ {M : Type 1} (𝓤 : URA M) (H : Heap 𝓤) (A : Atoms 𝓤) (W : Given
       (known-taken : Triple 𝓤 (C′′ #recv-queue·is-taken) (IsTaken 𝓤 H A mem run))
       (known-unused : Triple 𝓤 (C′′ #recv-new·unused) (Unused 𝓤 H A mem run))
       (known-put : Triple 𝓤 (C′′ #recv-queue·put-record) (PutRecord 𝓤 H A mem run)) where
-    walk : ent 𝓤 (onEntry 𝓤 H A here.signature (κ, tt) (q, tt) (x γ rs, (i, (turn, tt)))
-        (vx ∷ [], (vint w64 i ∷ [], (vint w32 turn ∷ [], tt)))) (WpFn 𝓤 H C′′ Λ code.function (vx ∷ vint w64 i ∷ vint w32 turn ∷ []) Post)
-    walk =
-        qed W ((‵ (flft κ q) ⊛ ‵ ftrue) ∷ ‵ (owns (MutSlice (named 0) κ C.the-row ∷ usize ∷ u32 ∷ []) (x γ rs, (i, (turn, tt)))
-        (vx ∷ [], (vint w64 i ∷ [], (vint w32 turn ∷ [], tt)))) ∷ []) ∵
-        enter ! C′′ Λ code.function (vx ∷ vint w64 i ∷ vint w32 turn ∷ []) _ $
-        alloc1 ! (λ l₀. alloc1 !
-        (λ l₁. alloc1 !
-        (λ l₂. alloc1 !
-        (λ l₃. alloc1 !
-        (λ l₄. alloc1 ! (λ l₅. alloc1 ! (λ l₆. alloc1 ! (λ l₇. alloc1 ! (λ l₈. alloc1 ! (λ l₉. alloc1 ! (λ l₁₀. alloc0 ! $ params1 ! $
-        pass1 ! (init ! 18 refl (tt, (tt, (record { fits = room .0 }, tt)))) $ pass1 ! (init ! 16 refl (tt, record { fits = i-fits })) $
-        pass1 ! (init ! 14 refl (tt, record { fits = turn-fits })) $ pass0 ! $
-        move ! (23 ∷ []) $ fsplit ! $ move ! (24 ∷ []) $ split ! $
-        -- [[κ]; true; records; what i and turn own; _10; …; _0; …]
-        keep ! (2 ∷ 0 ∷ entry 4 11) $
+    walk : Begins (Go {0}) W here.signature (Bound .0) C′′ Λ code.function Post
+    walk = begins ! (keep ! (0 ∷ 3 ∷ []))
+        ((tt, (tt, (record { fits = room .0 }, tt))) & (tt, record { fits = i-fits }) & (tt, record { fits = turn-fits }) & tt)
+        (λ l₀ l₁ l₂ l₃ l₄ l₅ l₆ l₇ l₈ l₉ l₁₀.
         -- 2: [records; [κ]]: the records are shared for `record_at`
         sharing C.the-row κ q (x γ rs) (length rs) ! tt (λ α δ.
         -- 3: [the shared records; what is kept; [α]]
-        assigns ! (addr ! (from ! (fld ! refl (hop ! (look-in ! (3 + 1) (sub ! 0 refl (whole !))) (stop !))))) (from ! (stop !))
-        (init ! (3 + 5) refl (tt, tt)) $
-        assigns ! (agg ! (and-then ! (var ! (3 + 5) refl) (and-then !
-        (load ! (from ! (fld ! refl (stop !))) (look-in ! (3 + 1) (sub ! 1 refl (whole !)))) (no-more !)))) (from ! (stop !))
-        (init ! (3 + 6) refl (tt, (tt, (record { fits = room .0 }, tt)))) $
+        relends ! (3 + 1) (3 + 5) (3 + 6) refl refl (room .0) $
         move ! (2 ∷ 0 ∷ []) $ calls-record-at 𝓤 H A W mem run (α ∷ []) fullShare (x δ rs) i vx ! fm known-at within i-fits
         (and-then ! (var ! (2 + 6) refl) (and-then ! (var ! (2 + 2) refl) (no-more !))) (λ v.
         peeks ! C.the-row (Is C.the-row) (shows 𝓤 H A C.the-row) c (v ∷ []) (λ is.
@@ -129,11 +109,7 @@ module _ {M : Type 1} (𝓤 : URA M) (H : Heap 𝓤) (A : Atoms 𝓤) (W : Given
         (λ yes′.
         lending C.the-row κ q (x γ rs) (length rs) ! tt (λ β ε.
         -- 3: [the lent records; what is kept; [β]]
-        assigns ! (addr ! (from ! (fld ! refl (hop ! (look-in ! (3 + 1) (sub ! 0 refl (whole !))) (stop !))))) (from ! (stop !))
-        (init ! (3 + 8) refl (tt, tt)) $
-        assigns ! (agg ! (and-then ! (var ! (3 + 8) refl) (and-then !
-        (load ! (from ! (fld ! refl (stop !))) (look-in ! (3 + 1) (sub ! 1 refl (whole !)))) (no-more !)))) (from ! (stop !))
-        (init ! (3 + 9) refl (tt, (tt, (record { fits = room .0 }, tt)))) $
+        relends ! (3 + 1) (3 + 8) (3 + 9) refl refl (room .0) $
         calls-unused 𝓤 H A W mem run ! fm known-unused (no-more !) (λ v₂. peeks ! C.the-row (Is C.the-row) (shows 𝓤 H A C.the-row) blank
         (v₂ ∷ []) (λ is₂.
         -- 4: [the unused record; the lent records; what is kept; [β]]
@@ -149,33 +125,18 @@ module _ {M : Type 1} (𝓤 : URA M) (H : Heap 𝓤) (A : Atoms 𝓤) (W : Given
         by ! (exits (set rs i blank) (ap (set rs i) (left-unused turn c yes′)) (e .1)))))))
         (λ no.
         assigns ! (of-opd ! (unit-lit !)) (from ! (stop !)) (init ! (2 + 0) refl (tt, tt)) $
-        returns ! (look ! 2 refl) $ gone ! 2 refl $ by ! (exits rs (left-same turn rs i within no) refl)))))))))))))))))
+        returns ! (look ! 2 refl) $ gone ! 2 refl $ by ! (exits rs (left-same turn rs i within no) refl)))))))
 
 module _ {M : Type 1} (𝓤 : URA M) (H : Heap 𝓤) (A : Atoms 𝓤) (W : Given 𝓤 H A) (mem : Memory → SProp 𝓤) (run : Routine → Fun 𝓤)
     (𝓣 : Tables 𝓤 H) (known-at : Triple 𝓤 (𝓣 .C #recv-queue·record-at) (RecordAt 𝓤 H A mem run))
     (known-taken : Triple 𝓤 (𝓣 .C #recv-queue·is-taken) (IsTaken 𝓤 H A mem run))
     (known-unused : Triple 𝓤 (𝓣 .C #recv-new·unused) (Unused 𝓤 H A mem run))
     (known-put : Triple 𝓤 (𝓣 .C #recv-queue·put-record) (PutRecord 𝓤 H A mem run)) where
-  here-walks : Walks 𝓤 H A here.ended stayed (WpFn 𝓤 H (𝓣 .C) (𝓣 .Λ) code.function) (here.clauses 𝓤 H A mem run)
-  here-walks = walked 𝓤 H A here.ended stayed (here.clauses 𝓤 H A mem run) (WpFn 𝓤 H (𝓣 .C) (𝓣 .Λ) code.function)
-      (λ κs. (slice-vals, (uint-vals w64, (uint-vals w32, tt))))
-      (λ κs. (mut-slice-tells (named 0) (κs .0) C.the-row, (uint-tells w64, (uint-tells w32, tt))))
+  here-meets : Meets 𝓤 H A here.signature (WpFn 𝓤 H (𝓣 .C) (𝓣 .Λ) code.function) (here.spec 𝓤 H A mem run)
+  here-meets = meets here.ended ways 𝓤 H A W 𝓣 code.function (here.clauses 𝓤 H A mem run)
       (λ κs qs bounds a g are. needs 𝓤 (a .1 .0 < length (now (a .0))) _ (λ within.
       walk 𝓤 H A W mem run (κs .0) (qs .0) (a .0 .ptr .0) (a .0 .ptr .1) (a .0 .name) (a .0 .now) (a .1 .0) (a .1 .1 .0) (are .0 .0 .1)
-      (are .1 .0 .1) (are .1 .1 .0 .1) within (𝓣 .C) (𝓣 .Λ) (fmOf 𝓤 H (W .laws) 𝓣) known-at known-taken known-unused known-put))
-
-  here-meets : Meets 𝓤 H A here.signature (WpFn 𝓤 H (𝓣 .C) (𝓣 .Λ) code.function) (here.spec 𝓤 H A mem run)
-  here-meets = walk-meets 𝓤 H A here.ended stayed W (
-    goes-slice 𝓤 H A W 1 0 tt (plain (λ _. C.the-row)),
-    (
-      goes-dropped 𝓤 H A W 1 (plain (λ _. usize)) yes (λ κs x f. refl),
-      (
-        goes-dropped 𝓤 H A W 1 (plain (λ _. u32)) yes (λ κs x f. refl),
-        tt,
-      ),
-    ),
-  )
-      (here.clauses 𝓤 H A mem run) (WpFn 𝓤 H (𝓣 .C) (𝓣 .Λ) code.function) (WpFn-mono 𝓤 H (W .laws) 𝓣 code.function) here-walks
+      (are .1 .0 .1) (are .1 .1 .0 .1) within (𝓣 .C) (𝓣 .Λ) (fmOf 𝓤 H (W .laws) 𝓣) known-at known-taken known-unused known-put .go))
 
 pub free-at-spec : {M : Type 1} → stated.statement M
 unfolding code.routine tablesOf

@@ -3,24 +3,22 @@
 -- Assumes nothing.
 use Rattle.walks.proofs.Walk.{_≡_, refl, sym, _∙_, subst, ℕ, suc, _+_, _<_, _≤_, _^_, add-one, arith, Bool, List, [], _∷_, length, getD}
 use Rattle.walks.proofs.Walk.{set, T, lit<, URA, fullShare, Ty, named, erased, mut, w32, w64, tyInt, tyBool, tyUnit, tyRef, Val, vunit}
-use Rattle.walks.proofs.Walk.{vbool, vint, hasTy, WT, SProp, ent, Lft, GName, Share, Fml, ftrue, fat, froom, fdies, flft, Memory, Routine}
-use Rattle.walks.proofs.Walk.{Heap, Out, Env, afterSeq, afterBlock, afterTurn, Wp, atReturn, WpFn, Tables, Atoms, FmC, fmOf, WpFn-mono, Fun}
-use Rattle.walks.proofs.Walk.{givenOf}
-use Rattle.walks.proofs.Walk.{tables, tablesOf, Given, Item, ‵, _⊛_, ⋆, anyQ, atRet, _$_, _∵_, !, qed, by, move, keep, split, join, rewrite}
-use Rattle.walks.proofs.Walk.{fsplit, fjoin, feqI, suffices, frame, done, agg, whole, sub, look-in, look, store, init, forget, stop, hop}
-use Rattle.walks.proofs.Walk.{fld, from, load, lit, unit-lit, of-opd, bin, addr, and-then, no-more, land, assigns, assigns-last, stays}
-use Rattle.walks.proofs.Walk.{leaves-loop, returns, enter, alloc1, alloc0, params1, pass1, pass0, exec, owns, pointee, u32}
-use Rattle.walks.proofs.Walk.{usize}
-use Rattle.walks.proofs.Walk.{yes, uint-vals, uint-tells, RefT, now, sliceTy, sliceVal, MutSlice, Room, slice-vals, mut-slice-tells, plain}
-use Rattle.walks.proofs.Walk.{nothing, onEntry, Triple, Meets, tripleOf, entered, cited, says, Stays, stay-dropped, stay-slice, walkOf}
-use Rattle.walks.proofs.Walk.{Walks, ends-at, walked, goes-dropped, goes-slice, walk-meets}
+use Rattle.walks.proofs.Walk.{vbool, vint, hasTy, WT, SProp, ent, Lft, GName, Share, Fml, fat, froom, fdies, flft, Memory, Routine, Heap}
+use Rattle.walks.proofs.Walk.{Out, Env, afterSeq, afterBlock, afterTurn, Wp, atReturn, WpFn, Tables, Atoms, FmC, fmOf, Fun, givenOf, tables}
+use Rattle.walks.proofs.Walk.{tablesOf, Given, Item, ‵, ⋆, anyQ, atRet, _$_, _∵_, !, qed, by, move, keep, join, rewrite, fjoin, feqI}
+use Rattle.walks.proofs.Walk.{suffices, frame, done, look, store, init, forget, stop, from, lit, unit-lit, of-opd, bin, and-then, no-more}
+use Rattle.walks.proofs.Walk.{land, assigns, assigns-last, stays, leaves-loop, returns, exec, pointee, RefT, now, sliceTy, sliceVal}
+use Rattle.walks.proofs.Walk.{MutSlice, Room, plain, nothing, Triple, Meets, tripleOf, entered, cited, says, Stays, walkOf, ends-at, Go}
 use denote.Triple.Walked.{needs}
 use Rattle.cells.specs.declared.CellRecord.{CellRecord}
 use Rattle.cells.proofs.CellRecord as C
 use Rattle.row_slots.specs.First.{blank}
 use Rattle.recv_queue.specs.Records.{recordLeftBy, freedTo}
 use Rattle.recv_queue.proofs.Freed.{freed-none, freed-length, freed-more}
-use Rattle.walks.proofs.Order.{entry, var, gone}
+use Rattle.walks.proofs.Order.{var, gone}
+use Rattle.walks.proofs.Begin.{Begins, begins}
+use Rattle.walks.proofs.Again.{relends}
+use Rattle.walks.proofs.Ways.{_&_, Ways, had-at-exit, meets, kept-slice, uint}
 use Rattle.walks.proofs.Slices.{lending, returned}
 use Rattle.walks.proofs.Counting.{Turn, counts, holds, fails}
 use Rattle.recv_queue.proofs.Elements.{FreeAt, calls-free-at}
@@ -43,14 +41,11 @@ slice = sliceTy (tyRef (named 0) mut (pointee (C.the-row .written)))
 abbrev refE : Ty
 refE = tyRef erased mut (pointee (C.the-row .written))
 
+abbrev ways : Ways (here.ended .signature .params) (here.ended .kept)
+ways = kept-slice 0 tt (plain (λ _. C.the-row)) & uint w64 & uint w32 & tt
+
 abbrev stayed : Stays (here.ended .signature .params) (here.ended .kept)
-stayed = (
-  stay-slice (0 ∷ []) tt (plain (λ _. C.the-row)),
-  (
-    stay-dropped (plain (λ _. usize)) yes,
-    (stay-dropped (plain (λ _. u32)) yes, tt),
-  ),
-)
+stayed = had-at-exit here.ended ways
 
 module _ {M : Type 1} (𝓤 : URA M) (H : Heap 𝓤) (A : Atoms 𝓤) (W : Given 𝓤 H A) (mem : Memory → SProp 𝓤) (run : Routine → Fun 𝓤) (κ : Lft)
     (q : Share) (b o : ℕ) (γ : GName) (rs : List CellRecord) (n turn : ℕ)
@@ -108,11 +103,7 @@ module _ {M : Type 1} (𝓤 : URA M) (H : Heap 𝓤) (A : Atoms 𝓤) (W : Given
         -- the records are lent
         lending C.the-row κ q (x γ (freedTo rs i turn)) (length rs) ! tt (λ α δ.
         -- 3: [the lent records; what is kept; [α]]
-        assigns ! (addr ! (from ! (fld ! refl (hop ! (look-in ! (3 + 1) (sub ! 0 refl (whole !))) (stop !))))) (from ! (stop !))
-        (init ! (3 + 7) refl (tt, tt)) $
-        assigns ! (agg ! (and-then ! (var ! (3 + 7) refl) (and-then !
-        (load ! (from ! (fld ! refl (stop !))) (look-in ! (3 + 1) (sub ! 1 refl (whole !)))) (no-more !)))) (from ! (stop !))
-        (init ! (3 + 8) refl (tt, (tt, (record { fits = room .0 }, tt)))) $
+        relends ! (3 + 1) (3 + 7) (3 + 8) refl refl (room .0) $
         move ! (2 ∷ 0 ∷ []) $ calls-free-at 𝓤 H A W mem run (α ∷ []) fullShare (x δ (freedTo rs i turn)) i turn vx ! fm known-free
         (omega (arith, len, few)) fits turn-fits (and-then ! (var ! (2 + 8) refl)
         (and-then ! (var ! (2 + 4) refl) (and-then ! (var ! (2 + 3) refl) (no-more !)))) (λ u e.
@@ -147,48 +138,23 @@ module _ {M : Type 1} (𝓤 : URA M) (H : Heap 𝓤) (A : Atoms 𝓤) (W : Given
         returns ! (look ! 2 refl) $ gone ! 2 refl $ by ! exits
 
   walk : (𝓣 : Tables 𝓤 H) → FmC 𝓤 H (W .laws) (𝓣 .C) → Triple 𝓤 (𝓣 .C #recv-queue·free-at) (FreeAt 𝓤 H A mem run)
-      → ent 𝓤 (onEntry 𝓤 H A here.signature (κ, tt) (q, tt) (x γ rs, (n, (turn, tt)))
-      (vx ∷ [], (vint w64 n ∷ [], (vint w32 turn ∷ [], tt))))
-      (WpFn 𝓤 H (𝓣 .C) (𝓣 .Λ) code.function (vx ∷ vint w64 n ∷ vint w32 turn ∷ []) Post)
-  walk 𝓣 fm known-free =
-      qed W ((‵ (flft κ q) ⊛ ‵ ftrue) ∷ ‵ (owns (MutSlice (named 0) κ C.the-row ∷ usize ∷ u32 ∷ []) (x γ rs, (n, (turn, tt)))
-      (vx ∷ [], (vint w64 n ∷ [], (vint w32 turn ∷ [], tt)))) ∷ []) ∵
-      enter ! (𝓣 .C) (𝓣 .Λ) code.function (vx ∷ vint w64 n ∷ vint w32 turn ∷ []) _ $
-      alloc1 ! (λ l₀. alloc1 !
-      (λ l₁. alloc1 !
-      (λ l₂. alloc1 ! (λ l₃. alloc1 ! (λ l₄. alloc1 ! (λ l₅. alloc1 ! (λ l₆. alloc1 ! (λ l₇. alloc1 ! (λ l₈. alloc0 ! $ params1 ! $
-      pass1 ! (init ! 14 refl (tt, (tt, (record { fits = room .0 }, tt)))) $ pass1 ! (init ! 12 refl (tt, record { fits = n-fits })) $
-      pass1 ! (init ! 10 refl (tt, record { fits = turn-fits })) $ pass0 ! $
-      assigns ! (of-opd ! (lit ! tt)) (from ! (stop !)) (init ! 8 refl (tt, record { fits = lit< tt })) $
-      move ! (19 ∷ []) $ fsplit ! $ move ! (20 ∷ []) $ split ! $
-      -- [[κ]; true; records; what n and turn own; _8; …; _0; …]
-      rewrite ! 2 (λ (z : List CellRecord). ‵ (Rec z)) (freed-none rs turn) refl $ keep ! (2 ∷ 0 ∷ entry 4 9) $
+      → Begins (Go {0}) W here.signature (Bound .0) (𝓣 .C) (𝓣 .Λ) code.function Post
+  walk 𝓣 fm known-free = begins ! (keep ! (0 ∷ 3 ∷ []))
+      ((tt, (tt, (record { fits = room .0 }, tt))) & (tt, record { fits = n-fits }) & (tt, record { fits = turn-fits }) & tt)
+      (λ l₀ l₁ l₂ l₃ l₄ l₅ l₆ l₇ l₈.
+      assigns ! (of-opd ! (lit ! tt)) (from ! (stop !)) (init ! (2 + 4) refl (tt, record { fits = lit< tt })) $
+      rewrite ! 0 (λ (z : List CellRecord). ‵ (Rec z)) (freed-none rs turn) refl $
       by ! (counts 𝓤 H A W 𝓣 (E 𝓣 fm known-free l₀ l₁ l₂ l₃ l₄ l₅ l₆ l₇ l₈) mir′.turn-1 (Left 𝓣 fm known-free l₀ l₁ l₂ l₃ l₄ l₅ l₆ l₇ l₈) n
       (λ _. Unit {0}) (λ i. ⋆ 𝓤 H A (At 𝓣 fm known-free l₀ l₁ l₂ l₃ l₄ l₅ l₆ l₇ l₈ i))
-      (more 𝓣 fm known-free l₀ l₁ l₂ l₃ l₄ l₅ l₆ l₇ l₈) (ends 𝓣 fm known-free l₀ l₁ l₂ l₃ l₄ l₅ l₆ l₇ l₈) tt))))))))))
+      (more 𝓣 fm known-free l₀ l₁ l₂ l₃ l₄ l₅ l₆ l₇ l₈) (ends 𝓣 fm known-free l₀ l₁ l₂ l₃ l₄ l₅ l₆ l₇ l₈) tt))
 
 module _ {M : Type 1} (𝓤 : URA M) (H : Heap 𝓤) (A : Atoms 𝓤) (W : Given 𝓤 H A) (mem : Memory → SProp 𝓤) (run : Routine → Fun 𝓤)
     (𝓣 : Tables 𝓤 H) (known-free : Triple 𝓤 (𝓣 .C #recv-queue·free-at) (FreeAt 𝓤 H A mem run)) where
-  here-walks : Walks 𝓤 H A here.ended stayed (WpFn 𝓤 H (𝓣 .C) (𝓣 .Λ) code.function) (here.clauses 𝓤 H A mem run)
-  here-walks = walked 𝓤 H A here.ended stayed (here.clauses 𝓤 H A mem run) (WpFn 𝓤 H (𝓣 .C) (𝓣 .Λ) code.function)
-      (λ κs. (slice-vals, (uint-vals w64, (uint-vals w32, tt))))
-      (λ κs. (mut-slice-tells (named 0) (κs .0) C.the-row, (uint-tells w64, (uint-tells w32, tt))))
+  here-meets : Meets 𝓤 H A here.signature (WpFn 𝓤 H (𝓣 .C) (𝓣 .Λ) code.function) (here.spec 𝓤 H A mem run)
+  here-meets = meets here.ended ways 𝓤 H A W 𝓣 code.function (here.clauses 𝓤 H A mem run)
       (λ κs qs bounds a g are. needs 𝓤 (a .1 .0 ≤ length (now (a .0))) _ (λ few.
       walk 𝓤 H A W mem run (κs .0) (qs .0) (a .0 .ptr .0) (a .0 .ptr .1) (a .0 .name) (a .0 .now) (a .1 .0) (a .1 .1 .0) (are .0 .0 .1)
-      (are .1 .0 .1) (are .1 .1 .0 .1) few 𝓣 (fmOf 𝓤 H (W .laws) 𝓣) known-free))
-
-  here-meets : Meets 𝓤 H A here.signature (WpFn 𝓤 H (𝓣 .C) (𝓣 .Λ) code.function) (here.spec 𝓤 H A mem run)
-  here-meets = walk-meets 𝓤 H A here.ended stayed W (
-    goes-slice 𝓤 H A W 1 0 tt (plain (λ _. C.the-row)),
-    (
-      goes-dropped 𝓤 H A W 1 (plain (λ _. usize)) yes (λ κs x f. refl),
-      (
-        goes-dropped 𝓤 H A W 1 (plain (λ _. u32)) yes (λ κs x f. refl),
-        tt,
-      ),
-    ),
-  )
-      (here.clauses 𝓤 H A mem run) (WpFn 𝓤 H (𝓣 .C) (𝓣 .Λ) code.function) (WpFn-mono 𝓤 H (W .laws) 𝓣 code.function) here-walks
+      (are .1 .0 .1) (are .1 .1 .0 .1) few 𝓣 (fmOf 𝓤 H (W .laws) 𝓣) known-free .go))
 
 pub free-turn-spec : {M : Type 1} → stated.statement M
 unfolding code.routine tablesOf

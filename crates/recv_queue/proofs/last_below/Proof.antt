@@ -3,17 +3,13 @@
 -- Assumes nothing.
 use Rattle.walks.proofs.Walk.{_≡_, refl, sym, _∙_, ℕ, zero, suc, _+_, _-_, _<_, _≤_, _^_, arith, Bool, List, [], _∷_, length, getD, URA}
 use Rattle.walks.proofs.Walk.{fullShare, Ty, named, imm, w64, tyInt, tyBool, tyRef, Val, vbool, vint, SProp, ent, Lft, GName, Share, Fml}
-use Rattle.walks.proofs.Walk.{ftrue, fat, froom, fdies, flft, Memory, Routine, Heap, Out, Env, afterSeq, afterBlock, afterTurn, Wp}
-use Rattle.walks.proofs.Walk.{atReturn, WpFn, Tables, Atoms, FmC, fmOf, WpFn-mono, Fun, givenOf, tables, tablesOf, Given, Item, ‵, _⊛_, ⋆}
-use Rattle.walks.proofs.Walk.{anyQ, atRet}
-use Rattle.walks.proofs.Walk.{_$_, _∵_, !, qed, by, move, keep, drop, use1, split, join, rewrite, fsplit, fjoin, suffices, frame, done}
-use Rattle.walks.proofs.Walk.{whole, sub, look-in, look, store, init, forget, stop, fld, from, load, lit, of-opd, bin, and-then, no-more}
-use Rattle.walks.proofs.Walk.{land, assigns, assigns-last, stays, leaves-loop, returns, returns-within, enter, alloc1, alloc0, params1}
-use Rattle.walks.proofs.Walk.{pass1, pass0, exec, yes, owns, Is, shows, pointee, uint-makes, uint-vals, uint-tells, usize}
-use Rattle.walks.proofs.Walk.{RefT, now}
-use Rattle.walks.proofs.Walk.{sliceTy, sliceVal, ShrSlice, Room, slice-vals, shr-slice-tells, shr-slice-copy, plain, shrSliceOf, only}
-use Rattle.walks.proofs.Walk.{owned, peeks, nothing, onEntry, Triple, Meets, tripleOf, entered, cited, says, Stays, stay-dropped, walkOf}
-use Rattle.walks.proofs.Walk.{Walks, ends-at, walked, goes-dropped, walk-meets}
+use Rattle.walks.proofs.Walk.{fat, froom, fdies, flft, Memory, Routine, Heap, Out, Env, afterSeq, afterBlock, afterTurn, Wp, atReturn, WpFn}
+use Rattle.walks.proofs.Walk.{Tables, Atoms, FmC, fmOf, Fun, givenOf, tables, tablesOf, Given, Item, ‵, _⊛_, ⋆, anyQ, atRet, _$_, _∵_, ! }
+use Rattle.walks.proofs.Walk.{qed, by, move, keep, drop, use1, split, join, rewrite, fjoin, suffices, frame, done, whole, sub, look-in}
+use Rattle.walks.proofs.Walk.{look, store, init, forget, stop, fld, from, load, lit, of-opd, bin, and-then, no-more, land, assigns}
+use Rattle.walks.proofs.Walk.{assigns-last, stays, leaves-loop, returns, returns-within, exec, Is, shows, pointee, uint-makes, usize, RefT}
+use Rattle.walks.proofs.Walk.{now, sliceTy, sliceVal, ShrSlice, Room, shr-slice-copy, plain, only, owned, peeks, nothing, Triple, Meets}
+use Rattle.walks.proofs.Walk.{tripleOf, entered, cited, says, Stays, walkOf, ends-at, Go}
 use native.Mathlib.Nat.{lt-suc-self}
 use lib.Dec.{ltb→lt}
 use denote.Struct.Laws as LL
@@ -24,7 +20,9 @@ use Rattle.cells.proofs.CellRecord.Laws as C′
 use Rattle.row_slots.specs.First.{blank}
 use Rattle.recv_prefix.specs.Needs.{usedIn}
 use Rattle.recv_prefix.proofs.Used.{test-fails, used-found, used-less, used-none}
-use Rattle.walks.proofs.Order.{entry, var, if-returns, gone}
+use Rattle.walks.proofs.Order.{var, if-returns, gone}
+use Rattle.walks.proofs.Begin.{Begins, begins}
+use Rattle.walks.proofs.Ways.{_&_, Ways, had-at-exit, meets, read-slice, uint}
 use Rattle.walks.proofs.Counting.{Turn, descends, holds, fails}
 use Rattle.recv_queue.proofs.Elements.{RecordAt, calls-record-at}
 use Rattle.recv_queue.proofs.record_at.Symbol as record-at-def
@@ -43,8 +41,11 @@ word = tyInt w64
 abbrev slice₁ : Ty
 slice₁ = sliceTy (tyRef (named 0) imm (pointee (C.the-row .written)))
 
+abbrev ways : Ways (here.ended .signature .params) (here.ended .kept)
+ways = read-slice 0 tt (plain (λ _. C.the-row)) & uint w64 & tt
+
 abbrev stayed : Stays (here.ended .signature .params) (here.ended .kept)
-stayed = (stay-dropped (shrSliceOf (0 ∷ []) tt (plain (λ _. C.the-row))) yes, (stay-dropped (plain (λ _. usize)) yes, tt))
+stayed = had-at-exit here.ended ways
 
 module _ {M : Type 1} (𝓤 : URA M) (H : Heap 𝓤) (A : Atoms 𝓤) (W : Given 𝓤 H A) (mem : Memory → SProp 𝓤) (run : Routine → Fun 𝓤) (κ : Lft)
     (q : Share) (b o : ℕ) (γ : GName) (rs : List CellRecord) (n : ℕ) (room : Room C.the-row (length rs)) (n-fits : n < 2 ^ 64)
@@ -156,40 +157,22 @@ module _ {M : Type 1} (𝓤 : URA M) (H : Heap 𝓤) (A : Atoms 𝓤) (W : Given
     turn (suc i) X so next = more i X so (next i (lt-suc-self i))
 
   walk : (𝓣 : Tables 𝓤 H) → FmC 𝓤 H (W .laws) (𝓣 .C) → Triple 𝓤 (𝓣 .C #recv-queue·record-at) (RecordAt 𝓤 H A mem run)
-      → ent 𝓤 (onEntry 𝓤 H A here.signature (κ, tt) (q, tt) (x, (n, tt)) (vx ∷ [], (vint w64 n ∷ [], tt)))
-      (WpFn 𝓤 H (𝓣 .C) (𝓣 .Λ) code.function (vx ∷ vint w64 n ∷ []) Post)
-  walk 𝓣 fm known =
-      qed W ((‵ (flft κ q) ⊛ ‵ ftrue) ∷ ‵ (owns (ShrSlice (named 0) κ C.the-row ∷ usize ∷ []) (x, (n, tt)) (vx ∷ [], (vint w64 n ∷ [], tt)))
-      ∷ []) ∵ enter ! (𝓣 .C) (𝓣 .Λ) code.function (vx ∷ vint w64 n ∷ []) _ $
-      alloc1 ! (λ l₀. alloc1 !
-      (λ l₁. alloc1 !
-      (λ l₂. alloc1 !
-      (λ l₃. alloc1 ! (λ l₄. alloc1 ! (λ l₅. alloc1 ! (λ l₆. alloc0 ! $ params1 ! $
-      pass1 ! (init ! 10 refl (tt, (tt, (record { fits = room .0 }, tt)))) $ pass1 ! (init ! 8 refl (tt, record { fits = n-fits })) $
-      pass0 ! $
-      assigns ! (of-opd ! (load ! (from ! (stop !)) (look ! 8 refl))) (from ! (stop !)) (init ! 6 refl (tt, record { fits = n-fits })) $
-      move ! (15 ∷ []) $ fsplit ! $ move ! (16 ∷ []) $ split ! $
-      -- [[κ]; true; records; what n owns; _6; …; _0; …]
-      keep ! (2 ∷ 0 ∷ entry 4 7) $
+      → Begins (Go {0}) W here.signature (Bound .0) (𝓣 .C) (𝓣 .Λ) code.function Post
+  walk 𝓣 fm known = begins ! (keep ! (0 ∷ 2 ∷ []))
+      ((tt, (tt, (record { fits = room .0 }, tt))) & (tt, record { fits = n-fits }) & tt)
+      (λ l₀ l₁ l₂ l₃ l₄ l₅ l₆.
+      assigns ! (of-opd ! (load ! (from ! (stop !)) (look ! (2 + 2) refl))) (from ! (stop !))
+      (init ! (2 + 3) refl (tt, record { fits = n-fits })) $
       by ! (descends 𝓤 H A W 𝓣 (E 𝓣 fm known l₀ l₁ l₂ l₃ l₄ l₅ l₆) mir′.turn-1 (Left 𝓣 fm known l₀ l₁ l₂ l₃ l₄ l₅ l₆) So
-      (λ k. ⋆ 𝓤 H A (At 𝓣 fm known l₀ l₁ l₂ l₃ l₄ l₅ l₆ k)) (turn 𝓣 fm known l₀ l₁ l₂ l₃ l₄ l₅ l₆) n (few, refl)))))))))
+      (λ k. ⋆ 𝓤 H A (At 𝓣 fm known l₀ l₁ l₂ l₃ l₄ l₅ l₆ k)) (turn 𝓣 fm known l₀ l₁ l₂ l₃ l₄ l₅ l₆) n (few, refl)))
 
 module _ {M : Type 1} (𝓤 : URA M) (H : Heap 𝓤) (A : Atoms 𝓤) (W : Given 𝓤 H A) (mem : Memory → SProp 𝓤) (run : Routine → Fun 𝓤)
     (𝓣 : Tables 𝓤 H) (known : Triple 𝓤 (𝓣 .C #recv-queue·record-at) (RecordAt 𝓤 H A mem run)) where
-  here-walks : Walks 𝓤 H A here.ended stayed (WpFn 𝓤 H (𝓣 .C) (𝓣 .Λ) code.function) (here.clauses 𝓤 H A mem run)
-  here-walks = walked 𝓤 H A here.ended stayed (here.clauses 𝓤 H A mem run) (WpFn 𝓤 H (𝓣 .C) (𝓣 .Λ) code.function)
-      (λ κs. (slice-vals, (uint-vals w64, tt))) (λ κs. (shr-slice-tells (named 0) (κs .0) C.the-row, (uint-tells w64, tt)))
+  here-meets : Meets 𝓤 H A here.signature (WpFn 𝓤 H (𝓣 .C) (𝓣 .Λ) code.function) (here.spec 𝓤 H A mem run)
+  here-meets = meets here.ended ways 𝓤 H A W 𝓣 code.function (here.clauses 𝓤 H A mem run)
       (λ κs qs bounds a g are. needs 𝓤 (a .1 .0 ≤ length (now (a .0))) _ (λ few.
       walk 𝓤 H A W mem run (κs .0) (qs .0) (a .0 .ptr .0) (a .0 .ptr .1) (a .0 .name) (a .0 .now) (a .1 .0) (are .0 .0 .1) (are .1 .0 .1)
-      few 𝓣 (fmOf 𝓤 H (W .laws) 𝓣) known))
-
-  here-meets : Meets 𝓤 H A here.signature (WpFn 𝓤 H (𝓣 .C) (𝓣 .Λ) code.function) (here.spec 𝓤 H A mem run)
-  here-meets = walk-meets 𝓤 H A here.ended stayed W (
-    goes-dropped 𝓤 H A W 1 (shrSliceOf (0 ∷ []) tt (plain (λ _. C.the-row))) yes
-        (λ κs x f. refl),
-    (goes-dropped 𝓤 H A W 1 (plain (λ _. usize)) yes (λ κs x f. refl), tt),
-  )
-      (here.clauses 𝓤 H A mem run) (WpFn 𝓤 H (𝓣 .C) (𝓣 .Λ) code.function) (WpFn-mono 𝓤 H (W .laws) 𝓣 code.function) here-walks
+      few 𝓣 (fmOf 𝓤 H (W .laws) 𝓣) known .go))
 
 pub last-below-spec : {M : Type 1} → stated.statement M
 unfolding code.routine tablesOf

@@ -3,15 +3,13 @@
 -- Assumes nothing.
 use Rattle.walks.proofs.Walk.{_≡_, refl, sym, _∙_, subst, ℕ, _+_, _-_, _<_, _≤_, _^_, arith, Bool, true, false, List, [], _∷_, length, T}
 use Rattle.walks.proofs.Walk.{URA, fullShare, Ty, named, imm, w64, tyInt, tyBool, tyRef, Val, vbool, vint, hasTy, WT, SProp, ent, sep, emp}
-use Rattle.walks.proofs.Walk.{via, fst∗, Lft, GName, Share, Fml, ftrue, fat, froom, fdies, flft, Memory, Routine, Heap, Out, Env, afterSeq}
-use Rattle.walks.proofs.Walk.{afterBlock, afterTurn, Wp, atReturn, WpFn, Tables, Atoms, sem, FmC, fmOf, WpFn-mono, Fun, givenOf, tables}
-use Rattle.walks.proofs.Walk.{tablesOf, Given, Item, ‵, _⊛_, ⋆, anyQ, atRet, _$_, _∵_, !, qed, by, move, keep, use1, split, join, rewrite}
-use Rattle.walks.proofs.Walk.{fsplit, fjoin, suffices, frame, done, whole, sub, look-in, look, store, init, forget, stop, fld, from, load}
-use Rattle.walks.proofs.Walk.{lit, of-opd, bin, and-then, no-more, land, assigns, assigns-last, stays, leaves-loop, returns, returns-within}
-use Rattle.walks.proofs.Walk.{enter, alloc1, alloc0, params1, pass1, pass0, exec, yes, owns, Is, pointee, uint-makes, usize}
-use Rattle.walks.proofs.Walk.{RefT, sliceTy, sliceVal, ShrSlice, Room, slice-vals, shr-slice-tells, shr-slice-copy, plain, shrSliceOf}
-use Rattle.walks.proofs.Walk.{owned, nothing, onEntry, Triple, Meets, tripleOf, entered, cited, says, Stays, stay-dropped, walkOf, Walks}
-use Rattle.walks.proofs.Walk.{ends-at, walked, goes-dropped, walk-meets}
+use Rattle.walks.proofs.Walk.{via, fst∗, Lft, GName, Share, Fml, fat, froom, fdies, flft, Memory, Routine, Heap, Out, Env, afterSeq}
+use Rattle.walks.proofs.Walk.{afterBlock, afterTurn, Wp, atReturn, WpFn, Tables, Atoms, sem, FmC, fmOf, Fun, givenOf, tables, tablesOf}
+use Rattle.walks.proofs.Walk.{Given, Item, ‵, _⊛_, ⋆, anyQ, atRet, _$_, _∵_, !, qed, by, move, keep, use1, split, join, rewrite, fjoin}
+use Rattle.walks.proofs.Walk.{suffices, frame, done, whole, sub, look-in, look, store, init, forget, stop, fld, from, load, lit, of-opd}
+use Rattle.walks.proofs.Walk.{bin, and-then, no-more, land, assigns, assigns-last, stays, leaves-loop, returns, returns-within, exec, Is}
+use Rattle.walks.proofs.Walk.{pointee, uint-makes, usize, RefT, sliceTy, sliceVal, ShrSlice, Room, shr-slice-copy, plain, owned, nothing}
+use Rattle.walks.proofs.Walk.{Triple, Meets, tripleOf, entered, cited, says, Stays, walkOf, ends-at, Go}
 use lib.Dec.{leb}
 use borrow.Author.Tests.{leb-true}
 use Rattle.cells.specs.declared.CellRecord.{CellRecord}
@@ -19,7 +17,9 @@ use Rattle.cells.proofs.CellRecord as C
 use Rattle.recv_prefix.specs.Needs.{usedIn, lastUsed}
 use Rattle.recv_prefix.proofs.Used.{used-all}
 use Rattle.recv_queue.proofs.Eights.{eight-less}
-use Rattle.walks.proofs.Order.{entry, var, if-returns, gone}
+use Rattle.walks.proofs.Order.{var, if-returns, gone}
+use Rattle.walks.proofs.Begin.{Begins, begins}
+use Rattle.walks.proofs.Ways.{_&_, Ways, had-at-exit, meets, read-slice}
 use Rattle.walks.proofs.Counting.{Turn, descends}
 use Rattle.recv_queue.proofs.Elements.{EightUsed, LastBelow, calls-eight, calls-below}
 use Rattle.recv_queue.proofs.eight_used.Symbol as eight-used-def
@@ -41,8 +41,11 @@ word = tyInt w64
 abbrev slice₁ : Ty
 slice₁ = sliceTy (tyRef (named 0) imm (pointee (C.the-row .written)))
 
+abbrev ways : Ways (here.ended .signature .params) (here.ended .kept)
+ways = read-slice 0 tt (plain (λ _. C.the-row)) & tt
+
 abbrev stayed : Stays (here.ended .signature .params) (here.ended .kept)
-stayed = (stay-dropped (shrSliceOf (0 ∷ []) tt (plain (λ _. C.the-row))) yes, tt)
+stayed = had-at-exit here.ended ways
 
 module _ {M : Type 1} (𝓤 : URA M) (H : Heap 𝓤) (A : Atoms 𝓤) (W : Given 𝓤 H A) (mem : Memory → SProp 𝓤) (run : Routine → Fun 𝓤) (κ : Lft)
     (q : Share) (b o : ℕ) (γ : GName) (rs : List CellRecord) (room : Room C.the-row (length rs)) where
@@ -154,40 +157,24 @@ module _ {M : Type 1} (𝓤 : URA M) (H : Heap 𝓤) (A : Atoms 𝓤) (W : Given
 
   walk : (𝓣 : Tables 𝓤 H) → FmC 𝓤 H (W .laws) (𝓣 .C) → Triple 𝓤 (𝓣 .C #recv-queue·eight-used) (EightUsed 𝓤 H A mem run)
       → Triple 𝓤 (𝓣 .C #recv-queue·last-below) (LastBelow 𝓤 H A mem run)
-      → ent 𝓤 (onEntry 𝓤 H A here.signature (κ, tt) (q, tt) (x, tt) (vx ∷ [], tt)) (WpFn 𝓤 H (𝓣 .C) (𝓣 .Λ) code.function (vx ∷ []) Post)
-  walk 𝓣 fm known-eight known-below =
-      qed W ((‵ (flft κ q) ⊛ ‵ ftrue) ∷ ‵ (owns (ShrSlice (named 0) κ C.the-row ∷ []) (x, tt) (vx ∷ [], tt)) ∷ []) ∵
-      enter ! (𝓣 .C) (𝓣 .Λ) code.function (vx ∷ []) _ $
-      alloc1 ! (λ l₀. alloc1 !
-      (λ l₁. alloc1 !
-      (λ l₂. alloc1 ! (λ l₃. alloc1 ! (λ l₄. alloc1 ! (λ l₅. alloc0 ! $ params1 ! $
-      pass1 ! (init ! 8 refl (tt, (tt, (record { fits = room .0 }, tt)))) $ pass0 ! $
-      assigns ! (of-opd ! (load ! (from ! (fld ! refl (stop !))) (look-in ! 8 (sub ! 1 refl (whole !))))) (from ! (stop !))
-      (init ! 6 refl (tt, record { fits = room .0 })) $
-      move ! (13 ∷ []) $ fsplit ! $ move ! (14 ∷ []) $ split ! $
-      -- [[κ]; true; records; true; _5; …; _0; …]
-      keep ! (2 ∷ 0 ∷ entry 4 6) $
+      → Begins (Go {0}) W here.signature (Bound .0) (𝓣 .C) (𝓣 .Λ) code.function Post
+  walk 𝓣 fm known-eight known-below = begins ! (keep ! (0 ∷ 1 ∷ []))
+      ((tt, (tt, (record { fits = room .0 }, tt))) & tt)
+      (λ l₀ l₁ l₂ l₃ l₄ l₅.
+      assigns ! (of-opd ! (load ! (from ! (fld ! refl (stop !))) (look-in ! (2 + 1) (sub ! 1 refl (whole !))))) (from ! (stop !))
+      (init ! (2 + 2) refl (tt, record { fits = room .0 })) $
       by ! (descends 𝓤 H A W 𝓣 (E 𝓣 fm known-eight known-below l₀ l₁ l₂ l₃ l₄ l₅) mir′.turn-1
       (Left 𝓣 fm known-eight known-below l₀ l₁ l₂ l₃ l₄ l₅) So (λ k. ⋆ 𝓤 H A (At 𝓣 fm known-eight known-below l₀ l₁ l₂ l₃ l₄ l₅ k))
-      (turn 𝓣 fm known-eight known-below l₀ l₁ l₂ l₃ l₄ l₅) (length rs) (omega arith, used-all rs))))))))
+      (turn 𝓣 fm known-eight known-below l₀ l₁ l₂ l₃ l₄ l₅) (length rs) (omega arith, used-all rs)))
 
 module _ {M : Type 1} (𝓤 : URA M) (H : Heap 𝓤) (A : Atoms 𝓤) (W : Given 𝓤 H A) (mem : Memory → SProp 𝓤) (run : Routine → Fun 𝓤)
     (𝓣 : Tables 𝓤 H) (known-eight : Triple 𝓤 (𝓣 .C #recv-queue·eight-used) (EightUsed 𝓤 H A mem run))
     (known-below : Triple 𝓤 (𝓣 .C #recv-queue·last-below) (LastBelow 𝓤 H A mem run)) where
-  here-walks : Walks 𝓤 H A here.ended stayed (WpFn 𝓤 H (𝓣 .C) (𝓣 .Λ) code.function) (here.clauses 𝓤 H A mem run)
-  here-walks = walked 𝓤 H A here.ended stayed (here.clauses 𝓤 H A mem run) (WpFn 𝓤 H (𝓣 .C) (𝓣 .Λ) code.function) (λ κs. (slice-vals, tt))
-      (λ κs. (shr-slice-tells (named 0) (κs .0) C.the-row, tt))
+  here-meets : Meets 𝓤 H A here.signature (WpFn 𝓤 H (𝓣 .C) (𝓣 .Λ) code.function) (here.spec 𝓤 H A mem run)
+  here-meets = meets here.ended ways 𝓤 H A W 𝓣 code.function (here.clauses 𝓤 H A mem run)
       (λ κs qs bounds a g are. via 𝓤 _ (fst∗ 𝓤 _ (emp 𝓤))
       (walk 𝓤 H A W mem run (κs .0) (qs .0) (a .0 .ptr .0) (a .0 .ptr .1) (a .0 .name) (a .0 .now) (are .0 .0 .1) 𝓣 (fmOf 𝓤 H (W .laws) 𝓣)
-      known-eight known-below))
-
-  here-meets : Meets 𝓤 H A here.signature (WpFn 𝓤 H (𝓣 .C) (𝓣 .Λ) code.function) (here.spec 𝓤 H A mem run)
-  here-meets = walk-meets 𝓤 H A here.ended stayed W (
-    goes-dropped 𝓤 H A W 1 (shrSliceOf (0 ∷ []) tt (plain (λ _. C.the-row))) yes
-        (λ κs x f. refl),
-    tt,
-  )
-      (here.clauses 𝓤 H A mem run) (WpFn 𝓤 H (𝓣 .C) (𝓣 .Λ) code.function) (WpFn-mono 𝓤 H (W .laws) 𝓣 code.function) here-walks
+      known-eight known-below .go))
 
 pub last-used-spec : {M : Type 1} → stated.statement M
 unfolding code.routine tablesOf

@@ -5,15 +5,11 @@
 -- Assumes `Given`.
 use Rattle.walks.proofs.Walk.{_≡_, refl, ℕ, _+_, _*_, _<_, _≤_, _^_, arith, List, [], _∷_, length, replicate, URA, fullShare, Ty, named}
 use Rattle.walks.proofs.Walk.{erased, imm, mut, w8, w32, w64, tyInt, tyRef, tyArray, Operand, copy, int, place, Body, seq, call, Val, vint}
-use Rattle.walks.proofs.Walk.{vptr, SProp, ent, Lft, GName, Share, ftrue, flft, Memory, Routine, Heap, Env, Calls, Loops, WpFn, Tables}
-use Rattle.walks.proofs.Walk.{Atoms, FmC, fmOf, WpFn-mono, Fun, Given, Item, ‵, _⊛_, ⋆, _$_, _∵_, !, qed, by, move, keep, use0, split, join}
-use Rattle.walks.proofs.Walk.{fsplit}
-use Rattle.walks.proofs.Walk.{fjoin, suffices, frame, done, agg, whole, sub, look-in, look, init, stop, hop, fld, from, load, lit, addr}
-use Rattle.walks.proofs.Walk.{and-then, no-more, land, assigns, returns, enter, alloc1, alloc0, params1, pass1, pass0, yes, owns, Is}
-use Rattle.walks.proofs.Walk.{shows, pointee, Array, array-lawful, uint-lawful, uint-vals, uint-tells, u8, u32, usize, RefT, ShrRef, now}
-use Rattle.walks.proofs.Walk.{ptr-vals, shr-tells, sliceTy, sliceVal, MutSlice, ShrSlice, Room, finally, slice-vals, mut-slice-tells}
-use Rattle.walks.proofs.Walk.{shr-slice-tells, plain, shrRefTo, shrSliceOf, peeks, nothing, onEntry, Triple, Meets, closing, says, Stays}
-use Rattle.walks.proofs.Walk.{stay-dropped, gave-slice, walkOf, Walks, ends-at, walked, goes-dropped, goes-gave-slice, walk-meets}
+use Rattle.walks.proofs.Walk.{vptr, SProp, ent, Lft, GName, Share, flft, Memory, Routine, Heap, Env, Calls, Loops, WpFn, Tables, Atoms, FmC}
+use Rattle.walks.proofs.Walk.{fmOf, Fun, Given, Item, ‵, ⋆, _$_, _∵_, !, qed, by, move, keep, use0, join, fjoin, suffices, frame, done, agg}
+use Rattle.walks.proofs.Walk.{look, init, stop, from, lit, addr, and-then, no-more, land, assigns, returns, Is, shows, pointee, Array}
+use Rattle.walks.proofs.Walk.{array-lawful, uint-lawful, u8, u32, RefT, now, sliceTy, sliceVal, Room, finally, plain, peeks, nothing}
+use Rattle.walks.proofs.Walk.{Triple, Meets, closing, says, Stays, walkOf, ends-at, Go}
 use mir.Syntax.{deref, field, addrOf, aggregate, repeat, assign, return, local, valueLocal, memorySlot, Fn}
 use types.Part.{rep}
 use types.Run.{Opd}
@@ -31,6 +27,9 @@ use Rattle.recv_take.proofs.Take as P
 use Rattle.recv_take.proofs.Take.Laws as P′
 use Rattle.recv_queue.proofs.Takes.{Enough, CallSays}
 use Rattle.walks.proofs.Order.{var, gone}
+use Rattle.walks.proofs.Again.{relends}
+use Rattle.walks.proofs.Begin.{Begins, begins}
+use Rattle.walks.proofs.Ways.{_&_, Ways, had-at-exit, meets, given-slice, read-ref, read-slice, uint}
 use Rattle.walks.proofs.Parts.{lending-local, returned-local}
 use Rattle.recv_queue.proofs.Zeros.{zeros, zeros-length, zeroed}
 use Rattle.recv_queue.proofs.taking.CallsTakeIn.{In, calls-in}
@@ -71,17 +70,12 @@ code N len = record {
 }
 
 -- what the walk still has of each parameter at exit: of the records and of the joining buffer their last values
+abbrev ways : Ways (few.ended .signature .params) (few.ended .kept)
+ways = read-ref 0 tt (plain (λ _. Q.the-row)) & given-slice 1 tt (plain (λ _. C.the-row)) & uint w64 & read-slice 2 tt (plain (λ _. u8))
+    & given-slice 3 tt (plain (λ _. u8)) & tt
+
 abbrev stayed : Stays (few.ended .signature .params) (few.ended .kept)
-stayed = (
-  stay-dropped (shrRefTo (0 ∷ []) tt (plain (λ _. Q.the-row))) yes,
-  (
-    gave-slice (1 ∷ []) tt (plain (λ _. C.the-row)),
-    (
-      stay-dropped (plain (λ _. usize)) yes,
-      (stay-dropped (shrSliceOf (2 ∷ []) tt (plain (λ _. u8))) yes, (gave-slice (3 ∷ []) tt (plain (λ _. u8)), tt)),
-    ),
-  ),
-)
+stayed = had-at-exit few.ended ways
 
 module _ {M : Type 1} (𝓤 : URA M) (H : Heap 𝓤) (A : Atoms 𝓤) (W : Given 𝓤 H A) (mem : Memory → SProp 𝓤) (run : Routine → Fun 𝓤) (B N : ℕ)
     (len : Operand) (room : Room u32 N) (is-len : (K : Type 0) (Γ : List (Item 𝓤)) (E : Env 𝓤 H) → K → Opd K W Γ E len (vint w64 N))
@@ -157,31 +151,12 @@ module _ {M : Type 1} (𝓤 : URA M) (H : Heap 𝓤) (A : Atoms 𝓤) (W : Given
         fjoin ! $ done !
 
     walk : (C₀ : Calls 𝓤 H) (Λ : Loops 𝓤 H) → FmC 𝓤 H (W .laws) C₀ → Triple 𝓤 (C₀ #recv-queue·taking·take-in) (In 𝓤 H A mem run)
-        → ent 𝓤 (onEntry 𝓤 H A few.signature (κ₀, (κ₁, (κ₂, (κ₃, tt)))) (q₀, (q₁, (q₂, (q₃, tt)))) (g, (x, (n, (s, (j, tt)))))
-        (vg ∷ [], (vx ∷ [], (vint w64 n ∷ [], (vs ∷ [], (vj ∷ [], tt))))))
-        (WpFn 𝓤 H C₀ Λ (code N len) (vg ∷ vx ∷ vint w64 n ∷ vs ∷ vj ∷ []) Post)
-    walk C₀ Λ fm known =
-        qed W ((‵ (flft κ₀ q₀) ⊛ (‵ (flft κ₁ q₁) ⊛ (‵ (flft κ₂ q₂) ⊛ (‵ (flft κ₃ q₃) ⊛ ‵ ftrue))))
-        ∷ ‵ (owns (ShrRef (named 0) κ₀ Q.the-row ∷ MutSlice (named 1) κ₁ C.the-row ∷ usize ∷ ShrSlice (named 2) κ₂ u8
-        ∷ MutSlice (named 3) κ₃ u8 ∷ []) (g, (x, (n, (s, (j, tt))))) (vg ∷ [], (vx ∷ [], (vint w64 n ∷ [], (vs ∷ [], (vj ∷ [], tt))))))
-        ∷ []) ∵
-        enter ! C₀ Λ (code N len) (vg ∷ vx ∷ vint w64 n ∷ vs ∷ vj ∷ []) _ $
-        alloc1 ! (λ l₀. alloc1 !
-        (λ l₁. alloc1 !
-        (λ l₂. alloc1 !
-        (λ l₃. alloc1 !
-        (λ l₄. alloc1 !
-        (λ l₅. alloc1 !
-        (λ l₆. alloc1 ! (λ l₇. alloc1 ! (λ l₈. alloc1 ! (λ l₉. alloc1 ! (λ l₁₀. alloc1 ! (λ l₁₁. alloc1 ! (λ l₁₂. alloc0 ! $ params1 ! $
-        pass1 ! (init ! 22 refl (tt, tt)) $ pass1 ! (init ! 20 refl (tt, (tt, (record { fits = room₁ .0 }, tt)))) $
-        pass1 ! (init ! 18 refl (tt, record { fits = n-fits })) $ pass1 ! (init ! 16 refl (tt, (tt, (record { fits = room₂ .0 }, tt))))
-        $ pass1 ! (init ! 14 refl (tt, (tt, (record { fits = room₃ .0 }, tt)))) $ pass0 ! $
-        move ! (27 ∷ []) $ fsplit ! $ move ! (1 ∷ []) $ fsplit ! $ move ! (1 ∷ []) $ fsplit ! $ move ! (1 ∷ []) $ fsplit ! $ move ! (1 ∷ [])
-        $ fsplit ! $ move ! (32 ∷ []) $ split ! $ move ! (1 ∷ []) $ split ! $ move ! (1 ∷ []) $ split ! $ move ! (1 ∷ []) $ split ! $
-        -- from here on what is owned stands first, then the locals, _6 last, then that each dies: with k things owned, local i is at k + i,
-        -- at k + i - 1 past _6
-        keep ! (9 ∷ 3 ∷ 7 ∷ 2 ∷ 5 ∷ 0 ∷ 10 ∷ 4 ∷ 35 ∷ 33 ∷ 31 ∷ 29 ∷ 27 ∷ 25 ∷ 21 ∷ 19 ∷ 17 ∷ 15 ∷ 13 ∷ 11 ∷ 23 ∷ 36 ∷ 34 ∷ 32 ∷ 30 ∷ 28
-        ∷ 26 ∷ 24 ∷ 22 ∷ 20 ∷ 18 ∷ 16 ∷ 14 ∷ 12 ∷ []) $
+        → Begins (Go {0}) W few.signature (Bound .0) C₀ Λ (code N len) Post
+    walk C₀ Λ fm known = begins ! (keep ! (1 ∷ 6 ∷ 3 ∷ 7 ∷ 4 ∷ 8 ∷ 0 ∷ 5 ∷ []))
+        ((tt, tt) & (tt, (tt, (record { fits = room₁ .0 }, tt))) & (tt, record { fits = n-fits })
+        & (tt, (tt, (record { fits = room₂ .0 }, tt))) & (tt, (tt, (record { fits = room₃ .0 }, tt))) & tt)
+        (λ l₀ l₁ l₂ l₃ l₄ l₅ l₆ l₇ l₈ l₉ l₁₀ l₁₁ l₁₂. keep ! (0 ∷ 1 ∷ 2 ∷ 3 ∷ 4 ∷ 5 ∷ 6 ∷ 7 ∷ 8 ∷ 9 ∷ 10 ∷ 11 ∷ 12 ∷ 13 ∷ 15 ∷ 16 ∷ 17
+        ∷ 18 ∷ 19 ∷ 20 ∷ 14 ∷ 21 ∷ 22 ∷ 23 ∷ 24 ∷ 25 ∷ 26 ∷ 27 ∷ 28 ∷ 29 ∷ 30 ∷ 31 ∷ 32 ∷ 33 ∷ []) $
         -- 8: [records; [κ₁]; store; [κ₂]; joining buffer; [κ₃]; receiver; [κ₀]]: the array is filled
         use0 W (‵ (Array u32 N .own (zeros N) (arrayVal (replicate N (vint w32 0)) ∷ []))) (zeroed 𝓤 H A W N) $
         peeks ! (Array u32 N) (Is (Array u32 N)) (shows 𝓤 H A (Array u32 N)) (zeros N) (arrayVal (replicate N (vint w32 0)) ∷ []) (λ is.
@@ -190,19 +165,11 @@ module _ {M : Type 1} (𝓤 : URA M) (H : Heap 𝓤) (A : Atoms 𝓤) (W : Given
         -- and lent
         move ! ((9 + 12) ∷ 0 ∷ []) $ lending-local u32 tt N l₆ room ! tt (zeros N) (λ α δ.
         -- 11: [the lent words; the lender's part; [α]; records; [κ₁]; store; [κ₂]; joining buffer; [κ₃]; receiver; [κ₀]]
-        assigns ! (addr ! (from ! (fld ! refl (hop ! (look-in ! (11 + 2) (sub ! 0 refl (whole !))) (stop !))))) (from ! (stop !))
-        (init ! (11 + 6) refl (tt, tt)) $
-        assigns ! (agg ! (and-then ! (var ! (11 + 6) refl) (and-then !
-        (load ! (from ! (fld ! refl (stop !))) (look-in ! (11 + 2) (sub ! 1 refl (whole !)))) (no-more !)))) (from ! (stop !))
-        (init ! (11 + 7) refl (tt, (tt, (record { fits = room₁ .0 }, tt)))) $
+        relends ! (11 + 2) (11 + 6) (11 + 7) refl refl (room₁ .0) $
         assigns ! (addr ! (from ! (stop !))) (from ! (stop !)) (init ! (11 + 8) refl (tt, tt)) $
         assigns ! (agg ! (and-then ! (var ! (11 + 8) refl) (and-then ! (is-len _ _ _ !) (no-more !)))) (from ! (stop !))
         (init ! (11 + 9) refl (tt, (tt, (record { fits = room .0 }, tt)))) $
-        assigns ! (addr ! (from ! (fld ! refl (hop ! (look-in ! (11 + 5) (sub ! 0 refl (whole !))) (stop !))))) (from ! (stop !))
-        (init ! (11 + 10) refl (tt, tt)) $
-        assigns ! (agg ! (and-then ! (var ! (11 + 10) refl) (and-then !
-        (load ! (from ! (fld ! refl (stop !))) (look-in ! (11 + 5) (sub ! 1 refl (whole !)))) (no-more !)))) (from ! (stop !))
-        (init ! (11 + 11) refl (tt, (tt, (record { fits = room₃ .0 }, tt)))) $
+        relends ! (11 + 5) (11 + 10) (11 + 11) refl refl (room₃ .0) $
         move ! (10 ∷ 4 ∷ 2 ∷ 6 ∷ 8 ∷ 9 ∷ 3 ∷ 0 ∷ 5 ∷ 7 ∷ []) $ calls-in 𝓤 H A W mem run κ₀ κ₁ (α ∷ []) κ₂ κ₃ q₀ q₁ fullShare q₂ q₃ g x
         (y l₆ δ) n s j vg vx (vy l₆) vs vj ! fm known (enough, wide) n-fits
         (and-then ! (var ! (2 + 1) refl) (and-then ! (var ! (2 + 7) refl)
@@ -216,40 +183,16 @@ module _ {M : Type 1} (𝓤 : URA M) (H : Heap 𝓤) (A : Atoms 𝓤) (W : Given
         -- [_6; what it owns; the answer; the joining buffer's; the records'; [κ₃]; [κ₂]; [κ₁]; [κ₀]; _0, …, _5, _7, …, _12, …]
         keep ! (8 ∷ 7 ∷ 6 ∷ 5 ∷ 2 ∷ 4 ∷ 3 ∷ 9 ∷ 10 ∷ 11 ∷ 12 ∷ 13 ∷ 14 ∷ 0 ∷ 15 ∷ 16 ∷ 17 ∷ 18 ∷ 19 ∷ 20 ∷ 21 ∷ 22 ∷ 23 ∷ 24 ∷ 25 ∷ 26 ∷ 27
         ∷ 28 ∷ 29 ∷ 30 ∷ 31 ∷ 32 ∷ 33 ∷ []) $
-        returns ! (look ! 7 refl) $ gone ! 7 refl $ by ! (exits v a l u (e .2) (e .0) (e .1))))))))))))))))))))
+        returns ! (look ! 7 refl) $ gone ! 7 refl $ by ! (exits v a l u (e .2) (e .0) (e .1))))))))
 
   module _ (𝓣 : Tables 𝓤 H) (known : Triple 𝓤 (𝓣 .C #recv-queue·taking·take-in) (In 𝓤 H A mem run)) where
-    sized-walks : Walks 𝓤 H A few.ended stayed (WpFn 𝓤 H (𝓣 .C) (𝓣 .Λ) (code N len)) (sized-clauses 𝓤 H A mem run B)
-    sized-walks = walked 𝓤 H A few.ended stayed (sized-clauses 𝓤 H A mem run B) (WpFn 𝓤 H (𝓣 .C) (𝓣 .Λ) (code N len))
-        (λ κs. (ptr-vals, (slice-vals, (uint-vals w64, (slice-vals, (slice-vals, tt))))))
-        (λ κs. (
-          shr-tells (named 0) (κs .0) Q.the-row,
-          (
-            mut-slice-tells (named 1) (κs .1 .0) C.the-row,
-            (uint-tells w64, (shr-slice-tells (named 2) (κs .1 .1 .0) u8, (mut-slice-tells (named 3) (κs .1 .1 .1 .0) u8, tt))),
-          ),
-        ))
+    pub sized-meets : Meets 𝓤 H A few.signature (WpFn 𝓤 H (𝓣 .C) (𝓣 .Λ) (code N len))
+        (closing 𝓤 H A few.ended (sized-clauses 𝓤 H A mem run B))
+    sized-meets = meets few.ended ways 𝓤 H A W 𝓣 (code N len) (sized-clauses 𝓤 H A mem run B)
         (λ κs qs bounds a _ are. needs 𝓤 (Enough (now (a .1 .0)) (now (a .1 .1 .1 .0)) (a .1 .1 .0) × (a .1 .1 .0 ≤ B)) _ (λ fits.
         walk (κs .0) (κs .1 .0) (κs .1 .1 .0) (κs .1 .1 .1 .0) (qs .0) (qs .1 .0) (qs .1 .1 .0) (qs .1 .1 .1 .0) (a .0 .ptr .0)
         (a .0 .ptr .1) (a .0 .name) (a .0 .now) (a .1 .0 .ptr .0) (a .1 .0 .ptr .1) (a .1 .0 .name) (a .1 .0 .now) (a .1 .1 .0)
         (a .1 .1 .1 .0 .ptr .0) (a .1 .1 .1 .0 .ptr .1) (a .1 .1 .1 .0 .name) (a .1 .1 .1 .0 .now) (a .1 .1 .1 .1 .0 .ptr .0)
         (a .1 .1 .1 .1 .0 .ptr .1) (a .1 .1 .1 .1 .0 .name) (a .1 .1 .1 .1 .0 .now)
         (are .1 .0 .0 .1) (are .1 .1 .1 .0 .0 .1) (are .1 .1 .1 .1 .0 .0 .1) (are .1 .1 .0 .1) (fits .0) (fits .1) (𝓣 .C) (𝓣 .Λ)
-        (fmOf 𝓤 H (W .laws) 𝓣) known))
-
-    pub sized-meets : Meets 𝓤 H A few.signature (WpFn 𝓤 H (𝓣 .C) (𝓣 .Λ) (code N len))
-        (closing 𝓤 H A few.ended (sized-clauses 𝓤 H A mem run B))
-    sized-meets = walk-meets 𝓤 H A few.ended stayed W (
-      goes-dropped 𝓤 H A W 4 (shrRefTo (0 ∷ []) tt (plain (λ _. Q.the-row))) yes (λ κs x f. refl),
-      (
-        goes-gave-slice 𝓤 H A W 4 1 tt (plain (λ _. C.the-row)),
-        (
-          goes-dropped 𝓤 H A W 4 (plain (λ _. usize)) yes (λ κs x f. refl),
-          (
-            goes-dropped 𝓤 H A W 4 (shrSliceOf (2 ∷ []) tt (plain (λ _. u8))) yes (λ κs x f. refl),
-            (goes-gave-slice 𝓤 H A W 4 3 tt (plain (λ _. u8)), tt),
-          ),
-        ),
-      ),
-    )
-        (sized-clauses 𝓤 H A mem run B) (WpFn 𝓤 H (𝓣 .C) (𝓣 .Λ) (code N len)) (WpFn-mono 𝓤 H (W .laws) 𝓣 (code N len)) sized-walks
+        (fmOf 𝓤 H (W .laws) 𝓣) known .go))

@@ -2,17 +2,12 @@
 -- branches is one call, to which the receiver, the records and the store are given up.
 -- Assumes nothing.
 use Rattle.walks.proofs.Walk.{_≡_, refl, sym, subst, ℕ, _+_, arith, List, [], _∷_, length, T, leb→le, URA, fullShare, named, w64, tyInt}
-use Rattle.walks.proofs.Walk.{Val, vptr, hasTy, WT, SProp, ent, emp, via, fst∗, Lft, GName, Share, Fml, ftrue, fat, flft, fres, Memory}
-use Rattle.walks.proofs.Walk.{Routine, Heap, Calls, Loops, WpFn, Tables, Atoms, FmC, fmOf, WpFn-mono, Fun, givenOf, tables, tablesOf, Given}
-use Rattle.walks.proofs.Walk.{Item, ‵, _⊛_, ⋆, _$_, _∵_, !, qed, by, move, keep, use1, split, join, rewrite, fsplit, fjoin, suffices, frame}
-use Rattle.walks.proofs.Walk.{done}
-use Rattle.walks.proofs.Walk.{agg, whole, sub, look-in, look, store, init, stop, hop, fld, from, load, lit, of-opd, bin, addr, and-then}
-use Rattle.walks.proofs.Walk.{no-more, land, assigns, returns, returns-within, enter, alloc1, alloc0, params1, pass1, pass0}
-use Rattle.walks.proofs.Walk.{yes, owns, Is, shows, u8, RefT, MutRef, ptr-vals, mut-tells, sliceVal, MutSlice, ShrSlice, Room, finally}
-use Rattle.walks.proofs.Walk.{slice-vals, mut-slice-tells, shr-slice-tells, shr-slice-copy, plain, shrSliceOf, peeks, nothing, onEntry}
-use Rattle.walks.proofs.Walk.{Triple}
-use Rattle.walks.proofs.Walk.{Meets, tripleOf, entered, cited, says, Stays, stay-dropped, gave-ref, gave-slice, walkOf, Walks, ends-at}
-use Rattle.walks.proofs.Walk.{walked, goes-dropped, goes-gave-ref, goes-gave-slice, walk-meets}
+use Rattle.walks.proofs.Walk.{Val, vptr, hasTy, WT, SProp, ent, emp, via, fst∗, Lft, GName, Share, Fml, fat, flft, fres, Memory, Routine}
+use Rattle.walks.proofs.Walk.{Heap, Calls, Loops, WpFn, Tables, Atoms, FmC, fmOf, Fun, givenOf, tables, tablesOf, Given, Item, ‵, _⊛_, ⋆}
+use Rattle.walks.proofs.Walk.{_$_, _∵_, !, qed, by, move, keep, use1, split, join, rewrite, fjoin, suffices, frame, done, whole, sub}
+use Rattle.walks.proofs.Walk.{look-in, look, store, init, stop, hop, fld, from, load, lit, of-opd, bin, addr, and-then, no-more, land}
+use Rattle.walks.proofs.Walk.{assigns, returns, returns-within, Is, shows, u8, RefT, sliceVal, ShrSlice, Room, finally, shr-slice-copy}
+use Rattle.walks.proofs.Walk.{plain, peeks, nothing, Triple, Meets, tripleOf, entered, cited, says, Stays, walkOf, ends-at, Go}
 use denote.Enum.Laws as EL
 use Rattle.cells.specs.declared.CellRecord.{CellRecord}
 use Rattle.cells.proofs.CellRecord as C
@@ -24,7 +19,10 @@ use Rattle.recv_steps.proofs.Receive.Laws as P′
 use Rattle.recv_prefix.specs.Needs.{lastUsed, receiveNeeds}
 use Rattle.recv_queue.specs.Call.{fewCells, smallCells}
 use Rattle.recv_queue.proofs.Receives.{enough-few, CallSays}
-use Rattle.walks.proofs.Order.{entry, var, if-returns, gone}
+use Rattle.walks.proofs.Order.{var, if-returns, gone}
+use Rattle.walks.proofs.Again.{relends}
+use Rattle.walks.proofs.Begin.{Begins, begins}
+use Rattle.walks.proofs.Ways.{_&_, Ways, had-at-exit, meets, given-ref, given-slice, read-slice}
 use Rattle.walks.proofs.Slices.{sharing, unshared}
 use Rattle.recv_queue.proofs.Calls.{LastUsed, calls-last}
 use Rattle.recv_queue.proofs.receiving.Sizes.{Sized, calls-sized}
@@ -50,14 +48,12 @@ use Rattle.recv_queue.proofs.receiving.receive.Statement as stated
 use Rattle.recv_queue.proofs.receiving.receive.Code as code
 
 -- what the walk still has of each parameter at exit: of the receiver, of the records and of the store their last values
+abbrev ways : Ways (here.ended .signature .params) (here.ended .kept)
+ways = given-ref 0 tt (plain (λ _. Q.the-row)) & given-slice 1 tt (plain (λ _. C.the-row)) & given-slice 2 tt (plain (λ _. u8))
+    & read-slice 3 tt (plain (λ _. u8)) & tt
+
 abbrev stayed : Stays (here.ended .signature .params) (here.ended .kept)
-stayed = (
-  gave-ref (0 ∷ []) tt (plain (λ _. Q.the-row)),
-  (
-    gave-slice (1 ∷ []) tt (plain (λ _. C.the-row)),
-    (gave-slice (2 ∷ []) tt (plain (λ _. u8)), (stay-dropped (shrSliceOf (3 ∷ []) tt (plain (λ _. u8))) yes, tt)),
-  ),
-)
+stayed = had-at-exit here.ended ways
 
 module _ {M : Type 1} (𝓤 : URA M) (H : Heap 𝓤) (A : Atoms 𝓤) (W : Given 𝓤 H A) (mem : Memory → SProp 𝓤) (run : Routine → Fun 𝓤)
     (κ₀ κ₁ κ₂ κ₃ : Lft) (q₀ q₁ q₂ q₃ : Share) (b₀ o₀ : ℕ) (γ₀ : GName) (queue : RecvQueue) (b₁ o₁ : ℕ) (γ₁ : GName) (rs : List CellRecord)
@@ -132,44 +128,15 @@ module _ {M : Type 1} (𝓤 : URA M) (H : Heap 𝓤) (A : Atoms 𝓤) (W : Given
       (Needed 𝓤 H A mem run)) (known-few : Triple 𝓤 (C′ #recv-queue·receiving·receive-few) (Sized 𝓤 H A mem run fewCells))
       (known-small : Triple 𝓤 (C′ #recv-queue·receiving·receive-small) (Sized 𝓤 H A mem run smallCells))
       (known-more : Triple 𝓤 (C′ #recv-queue·receiving·receive-more) (More 𝓤 H A mem run)) where
-    walk : ent 𝓤 (onEntry 𝓤 H A here.signature (κ₀, (κ₁, (κ₂, (κ₃, tt)))) (q₀, (q₁, (q₂, (q₃, tt)))) (g, (x γ₁, (s, (d, tt))))
-        (vg ∷ [], (vx ∷ [], (vs ∷ [], (vd ∷ [], tt))))) (WpFn 𝓤 H C′ Λ code.function (vg ∷ vx ∷ vs ∷ vd ∷ []) Post)
-    walk =
-        qed W ((‵ (flft κ₀ q₀) ⊛ (‵ (flft κ₁ q₁) ⊛ (‵ (flft κ₂ q₂) ⊛ (‵ (flft κ₃ q₃) ⊛ ‵ ftrue))))
-        ∷ ‵ (owns (MutRef (named 0) κ₀ Q.the-row ∷ MutSlice (named 1) κ₁ C.the-row ∷ MutSlice (named 2) κ₂ u8 ∷ ShrSlice (named 3) κ₃ u8
-        ∷ []) (g, (x γ₁, (s, (d, tt)))) (vg ∷ [], (vx ∷ [], (vs ∷ [], (vd ∷ [], tt))))) ∷ []) ∵
-        enter ! C′ Λ code.function (vg ∷ vx ∷ vs ∷ vd ∷ []) _ $
-        alloc1 ! (λ l₀. alloc1 !
-        (λ l₁. alloc1 !
-        (λ l₂. alloc1 !
-        (λ l₃. alloc1 !
-        (λ l₄. alloc1 !
-        (λ l₅. alloc1 !
-        (λ l₆. alloc1 !
-        (λ l₇. alloc1 !
-        (λ l₈. alloc1 ! (λ l₉. alloc1 ! (λ l₁₀. alloc1 !
-        (λ l₁₁. alloc1 ! (λ l₁₂. alloc1 ! (λ l₁₃. alloc1 !
-        (λ l₁₄. alloc1 ! (λ l₁₅. alloc1 ! (λ l₁₆. alloc1 !
-        (λ l₁₇. alloc1 ! (λ l₁₈. alloc1 ! (λ l₁₉. alloc1 !
-        (λ l₂₀. alloc1 ! (λ l₂₁. alloc1 ! (λ l₂₂. alloc1 !
-        (λ l₂₃. alloc1 ! (λ l₂₄. alloc1 ! (λ l₂₅. alloc1 !
-        (λ l₂₆. alloc1 ! (λ l₂₇. alloc1 ! (λ l₂₈. alloc1 ! (λ l₂₉. alloc1 ! (λ l₃₀. alloc1 ! (λ l₃₁. alloc0 ! $ params1 ! $
-        pass1 ! (init ! 60 refl (tt, tt)) $ pass1 ! (init ! 58 refl (tt, (tt, (record { fits = room₁ .0 }, tt)))) $
-        pass1 ! (init ! 56 refl (tt, (tt, (record { fits = room₂ .0 }, tt)))) $
-        pass1 ! (init ! 54 refl (tt, (tt, (record { fits = room₃ .0 }, tt)))) $ pass0 ! $
-        move ! (65 ∷ []) $ fsplit ! $ move ! (1 ∷ []) $ fsplit ! $ move ! (1 ∷ []) $ fsplit ! $ move ! (1 ∷ []) $ fsplit ! $
-        move ! (69 ∷ []) $ split ! $ move ! (1 ∷ []) $ split ! $ move ! (1 ∷ []) $ split ! $ move ! (1 ∷ []) $ split ! $
-        -- from here on what is owned stands first, then the locals _0, …, _31, then that each dies: with k things owned, local i is at k +
-        -- i
-        keep ! (4 ∷ 3 ∷ 2 ∷ 0 ∷ 9 ∷ 8 ∷ 7 ∷ 5 ∷ entry 10 32) $
+    walk : Begins (Go {0}) W here.signature (Bound .0) C′ Λ code.function Post
+    walk = begins ! (keep ! (4 ∷ 5 ∷ 6 ∷ 7 ∷ 0 ∷ 1 ∷ 2 ∷ 3 ∷ []))
+        ((tt, tt) & (tt, (tt, (record { fits = room₁ .0 }, tt))) & (tt, (tt, (record { fits = room₂ .0 }, tt)))
+        & (tt, (tt, (record { fits = room₃ .0 }, tt))) & tt)
+        (λ l₀ l₁ l₂ l₃ l₄ l₅ l₆ l₇ l₈ l₉ l₁₀ l₁₁ l₁₂ l₁₃ l₁₄ l₁₅ l₁₆ l₁₇ l₁₈ l₁₉ l₂₀ l₂₁ l₂₂ l₂₃ l₂₄ l₂₅ l₂₆ l₂₇ l₂₈ l₂₉ l₃₀ l₃₁.
         -- 8: [[κ₀]; [κ₁]; [κ₂]; [κ₃]; receiver; records; store; datagram]: the records are shared for `last_used`
         move ! (5 ∷ 1 ∷ []) $ sharing C.the-row κ₁ q₁ (x γ₁) (length rs) ! tt (λ α δ.
         -- 9: [the shared records; what is kept; [α]; [κ₀]; [κ₂]; [κ₃]; receiver; store; datagram]
-        assigns ! (addr ! (from ! (fld ! refl (hop ! (look-in ! (9 + 2) (sub ! 0 refl (whole !))) (stop !))))) (from ! (stop !))
-        (init ! (9 + 8) refl (tt, tt)) $
-        assigns ! (agg ! (and-then ! (var ! (9 + 8) refl) (and-then !
-        (load ! (from ! (fld ! refl (stop !))) (look-in ! (9 + 2) (sub ! 1 refl (whole !)))) (no-more !)))) (from ! (stop !))
-        (init ! (9 + 9) refl (tt, (tt, (record { fits = room₁ .0 }, tt)))) $
+        relends ! (9 + 2) (9 + 8) (9 + 9) refl refl (room₁ .0) $
         move ! (2 ∷ 0 ∷ []) $ calls-last 𝓤 H A W mem run (α ∷ []) fullShare (x δ) vx ! fm known-last
         (and-then ! (var ! (8 + 9) refl) (no-more !)) (λ v₅ e₅.
         -- 8: [[α]; what is kept; [κ₀]; [κ₂]; [κ₃]; receiver; store; datagram]
@@ -194,16 +161,8 @@ module _ {M : Type 1} (𝓤 : URA M) (H : Heap 𝓤) (A : Atoms 𝓤) (W : Given
         if-returns ! (var ! (8 + 11) refl)
         (λ few.
         assigns ! (addr ! (from ! (hop ! (look ! (8 + 1) refl) (stop !)))) (from ! (stop !)) (init ! (8 + 12) refl (tt, tt)) $
-        assigns ! (addr ! (from ! (fld ! refl (hop ! (look-in ! (8 + 2) (sub ! 0 refl (whole !))) (stop !))))) (from ! (stop !))
-        (init ! (8 + 13) refl (tt, tt)) $
-        assigns ! (agg ! (and-then ! (var ! (8 + 13) refl) (and-then !
-        (load ! (from ! (fld ! refl (stop !))) (look-in ! (8 + 2) (sub ! 1 refl (whole !)))) (no-more !)))) (from ! (stop !))
-        (init ! (8 + 14) refl (tt, (tt, (record { fits = room₁ .0 }, tt)))) $
-        assigns ! (addr ! (from ! (fld ! refl (hop ! (look-in ! (8 + 3) (sub ! 0 refl (whole !))) (stop !))))) (from ! (stop !))
-        (init ! (8 + 15) refl (tt, tt)) $
-        assigns ! (agg ! (and-then ! (var ! (8 + 15) refl) (and-then !
-        (load ! (from ! (fld ! refl (stop !))) (look-in ! (8 + 3) (sub ! 1 refl (whole !)))) (no-more !)))) (from ! (stop !))
-        (init ! (8 + 16) refl (tt, (tt, (record { fits = room₂ .0 }, tt)))) $
+        relends ! (8 + 2) (8 + 13) (8 + 14) refl refl (room₁ .0) $
+        relends ! (8 + 3) (8 + 15) (8 + 16) refl refl (room₂ .0) $
         calls-sized 𝓤 H A W mem run fewCells κ₀ κ₁ κ₂ κ₃ q₀ q₁ q₂ q₃ g (x γ₁) n s d vg vx vs vd ! fm known-few (refl, leb→le n fewCells few)
         (e₇ .1) (and-then ! (var ! (1 + 12) refl) (and-then ! (var ! (1 + 14) refl)
         (and-then ! (var ! (1 + 7) refl) (and-then ! (var ! (1 + 16) refl) (and-then ! (var ! (1 + 4) refl) (no-more !))))))
@@ -218,16 +177,8 @@ module _ {M : Type 1} (𝓤 : URA M) (H : Heap 𝓤) (A : Atoms 𝓤) (W : Given
         if-returns ! (var ! (8 + 11) refl)
         (λ few.
         assigns ! (addr ! (from ! (hop ! (look ! (8 + 1) refl) (stop !)))) (from ! (stop !)) (init ! (8 + 17) refl (tt, tt)) $
-        assigns ! (addr ! (from ! (fld ! refl (hop ! (look-in ! (8 + 2) (sub ! 0 refl (whole !))) (stop !))))) (from ! (stop !))
-        (init ! (8 + 18) refl (tt, tt)) $
-        assigns ! (agg ! (and-then ! (var ! (8 + 18) refl) (and-then !
-        (load ! (from ! (fld ! refl (stop !))) (look-in ! (8 + 2) (sub ! 1 refl (whole !)))) (no-more !)))) (from ! (stop !))
-        (init ! (8 + 19) refl (tt, (tt, (record { fits = room₁ .0 }, tt)))) $
-        assigns ! (addr ! (from ! (fld ! refl (hop ! (look-in ! (8 + 3) (sub ! 0 refl (whole !))) (stop !))))) (from ! (stop !))
-        (init ! (8 + 20) refl (tt, tt)) $
-        assigns ! (agg ! (and-then ! (var ! (8 + 20) refl) (and-then !
-        (load ! (from ! (fld ! refl (stop !))) (look-in ! (8 + 3) (sub ! 1 refl (whole !)))) (no-more !)))) (from ! (stop !))
-        (init ! (8 + 21) refl (tt, (tt, (record { fits = room₂ .0 }, tt)))) $
+        relends ! (8 + 2) (8 + 18) (8 + 19) refl refl (room₁ .0) $
+        relends ! (8 + 3) (8 + 20) (8 + 21) refl refl (room₂ .0) $
         calls-sized 𝓤 H A W mem run smallCells κ₀ κ₁ κ₂ κ₃ q₀ q₁ q₂ q₃ g (x γ₁) n s d vg vx vs vd ! fm known-small
         (refl, leb→le n smallCells few) (e₇ .1) (and-then ! (var ! (1 + 17) refl)
         (and-then ! (var ! (1 + 19) refl) (and-then ! (var ! (1 + 7) refl)
@@ -242,16 +193,8 @@ module _ {M : Type 1} (𝓤 : URA M) (H : Heap 𝓤) (A : Atoms 𝓤) (W : Given
         if-returns ! (var ! (8 + 11) refl)
         (λ less.
         assigns ! (addr ! (from ! (hop ! (look ! (8 + 1) refl) (stop !)))) (from ! (stop !)) (init ! (8 + 22) refl (tt, tt)) $
-        assigns ! (addr ! (from ! (fld ! refl (hop ! (look-in ! (8 + 2) (sub ! 0 refl (whole !))) (stop !))))) (from ! (stop !))
-        (init ! (8 + 23) refl (tt, tt)) $
-        assigns ! (agg ! (and-then ! (var ! (8 + 23) refl) (and-then !
-        (load ! (from ! (fld ! refl (stop !))) (look-in ! (8 + 2) (sub ! 1 refl (whole !)))) (no-more !)))) (from ! (stop !))
-        (init ! (8 + 24) refl (tt, (tt, (record { fits = room₁ .0 }, tt)))) $
-        assigns ! (addr ! (from ! (fld ! refl (hop ! (look-in ! (8 + 3) (sub ! 0 refl (whole !))) (stop !))))) (from ! (stop !))
-        (init ! (8 + 25) refl (tt, tt)) $
-        assigns ! (agg ! (and-then ! (var ! (8 + 25) refl) (and-then !
-        (load ! (from ! (fld ! refl (stop !))) (look-in ! (8 + 3) (sub ! 1 refl (whole !)))) (no-more !)))) (from ! (stop !))
-        (init ! (8 + 26) refl (tt, (tt, (record { fits = room₂ .0 }, tt)))) $
+        relends ! (8 + 2) (8 + 23) (8 + 24) refl refl (room₁ .0) $
+        relends ! (8 + 3) (8 + 25) (8 + 26) refl refl (room₂ .0) $
         calls-more 𝓤 H A W mem run κ₀ κ₁ κ₂ κ₃ q₀ q₁ q₂ q₃ g (x γ₁) n s d n vg vx vs vd ! fm known-more (refl, omega arith) (e₇ .1) (e₇ .1)
         (and-then ! (var ! (1 + 22) refl) (and-then ! (var ! (1 + 24) refl)
         (and-then ! (var ! (1 + 7) refl) (and-then ! (var ! (1 + 26) refl)
@@ -263,16 +206,8 @@ module _ {M : Type 1} (𝓤 : URA M) (H : Heap 𝓤) (A : Atoms 𝓤) (W : Given
         gone ! 8 refl $ by ! (exits v a h l u (e .2) (e .0) (e .1)))))
         (λ all.
         assigns ! (addr ! (from ! (hop ! (look ! (8 + 1) refl) (stop !)))) (from ! (stop !)) (init ! (8 + 27) refl (tt, tt)) $
-        assigns ! (addr ! (from ! (fld ! refl (hop ! (look-in ! (8 + 2) (sub ! 0 refl (whole !))) (stop !))))) (from ! (stop !))
-        (init ! (8 + 28) refl (tt, tt)) $
-        assigns ! (agg ! (and-then ! (var ! (8 + 28) refl) (and-then !
-        (load ! (from ! (fld ! refl (stop !))) (look-in ! (8 + 2) (sub ! 1 refl (whole !)))) (no-more !)))) (from ! (stop !))
-        (init ! (8 + 29) refl (tt, (tt, (record { fits = room₁ .0 }, tt)))) $
-        assigns ! (addr ! (from ! (fld ! refl (hop ! (look-in ! (8 + 3) (sub ! 0 refl (whole !))) (stop !))))) (from ! (stop !))
-        (init ! (8 + 30) refl (tt, tt)) $
-        assigns ! (agg ! (and-then ! (var ! (8 + 30) refl) (and-then !
-        (load ! (from ! (fld ! refl (stop !))) (look-in ! (8 + 3) (sub ! 1 refl (whole !)))) (no-more !)))) (from ! (stop !))
-        (init ! (8 + 31) refl (tt, (tt, (record { fits = room₂ .0 }, tt)))) $
+        relends ! (8 + 2) (8 + 28) (8 + 29) refl refl (room₁ .0) $
+        relends ! (8 + 3) (8 + 30) (8 + 31) refl refl (room₂ .0) $
         calls-more 𝓤 H A W mem run κ₀ κ₁ κ₂ κ₃ q₀ q₁ q₂ q₃ g (x γ₁) n s d (length rs) vg vx vs vd ! fm known-more
         (refl, enough-few rs st dg n refl .0) (e₇ .1) (room₁ .0)
         (and-then ! (var ! (1 + 27) refl) (and-then ! (var ! (1 + 29) refl)
@@ -282,7 +217,7 @@ module _ {M : Type 1} (𝓤 : URA M) (H : Heap 𝓤) (A : Atoms 𝓤) (W : Given
         peeks ! P.the-row (Is P.the-row) (shows 𝓤 H A P.the-row) a (v ∷ []) (λ isa.
         land ! (from ! (stop !)) (init ! 8 refl (EL.lawful P.the-type P′.the-laws 𝓤 H A W tt .typed a _ isa .0)) $
         returns ! (look ! 8 refl) $
-        gone ! 8 refl $ by ! (exits v a h l u (e .2) (e .0) (e .1))))))))))))))))))))))))))))))))))))))))))
+        gone ! 8 refl $ by ! (exits v a h l u (e .2) (e .0) (e .1)))))))))))
 
 module _ {M : Type 1} (𝓤 : URA M) (H : Heap 𝓤) (A : Atoms 𝓤) (W : Given 𝓤 H A) (mem : Memory → SProp 𝓤) (run : Routine → Fun 𝓤)
     (𝓣 : Tables 𝓤 H) (known-last : Triple 𝓤 (𝓣 .C #recv-queue·last-used) (LastUsed 𝓤 H A mem run))
@@ -290,36 +225,15 @@ module _ {M : Type 1} (𝓤 : URA M) (H : Heap 𝓤) (A : Atoms 𝓤) (W : Given
     (known-few : Triple 𝓤 (𝓣 .C #recv-queue·receiving·receive-few) (Sized 𝓤 H A mem run fewCells))
     (known-small : Triple 𝓤 (𝓣 .C #recv-queue·receiving·receive-small) (Sized 𝓤 H A mem run smallCells))
     (known-more : Triple 𝓤 (𝓣 .C #recv-queue·receiving·receive-more) (More 𝓤 H A mem run)) where
-  here-walks : Walks 𝓤 H A here.ended stayed (WpFn 𝓤 H (𝓣 .C) (𝓣 .Λ) code.function) (here.clauses 𝓤 H A mem run)
-  here-walks = walked 𝓤 H A here.ended stayed (here.clauses 𝓤 H A mem run) (WpFn 𝓤 H (𝓣 .C) (𝓣 .Λ) code.function)
-      (λ κs. (ptr-vals, (slice-vals, (slice-vals, (slice-vals, tt)))))
-      (λ κs. (
-        mut-tells (named 0) (κs .0) Q.the-row,
-        (
-          mut-slice-tells (named 1) (κs .1 .0) C.the-row,
-          (mut-slice-tells (named 2) (κs .1 .1 .0) u8, (shr-slice-tells (named 3) (κs .1 .1 .1 .0) u8, tt)),
-        ),
-      ))
+  here-meets : Meets 𝓤 H A here.signature (WpFn 𝓤 H (𝓣 .C) (𝓣 .Λ) code.function) (here.spec 𝓤 H A mem run)
+  here-meets = meets here.ended ways 𝓤 H A W 𝓣 code.function (here.clauses 𝓤 H A mem run)
       (λ κs qs bounds a _ are. via 𝓤 _ (fst∗ 𝓤 _ (emp 𝓤))
       (walk 𝓤 H A W mem run (κs .0) (κs .1 .0) (κs .1 .1 .0) (κs .1 .1 .1 .0) (qs .0) (qs .1 .0) (qs .1 .1 .0) (qs .1 .1 .1 .0)
       (a .0 .ptr .0) (a .0 .ptr .1) (a .0 .name) (a .0 .now) (a .1 .0 .ptr .0) (a .1 .0 .ptr .1) (a .1 .0 .name) (a .1 .0 .now)
       (a .1 .1 .0 .ptr .0) (a .1 .1 .0 .ptr .1) (a .1 .1 .0 .name) (a .1 .1 .0 .now) (a .1 .1 .1 .0 .ptr .0) (a .1 .1 .1 .0 .ptr .1)
       (a .1 .1 .1 .0 .name) (a .1 .1 .1 .0 .now)
       (are .1 .0 .0 .1) (are .1 .1 .0 .0 .1) (are .1 .1 .1 .0 .0 .1) (𝓣 .C) (𝓣 .Λ) (fmOf 𝓤 H (W .laws) 𝓣) known-last known-needed known-few
-      known-small known-more))
-
-  here-meets : Meets 𝓤 H A here.signature (WpFn 𝓤 H (𝓣 .C) (𝓣 .Λ) code.function) (here.spec 𝓤 H A mem run)
-  here-meets = walk-meets 𝓤 H A here.ended stayed W (
-    goes-gave-ref 𝓤 H A W 4 0 tt (plain (λ _. Q.the-row)),
-    (
-      goes-gave-slice 𝓤 H A W 4 1 tt (plain (λ _. C.the-row)),
-      (
-        goes-gave-slice 𝓤 H A W 4 2 tt (plain (λ _. u8)),
-        (goes-dropped 𝓤 H A W 4 (shrSliceOf (3 ∷ []) tt (plain (λ _. u8))) yes (λ κs x f. refl), tt),
-      ),
-    ),
-  )
-      (here.clauses 𝓤 H A mem run) (WpFn 𝓤 H (𝓣 .C) (𝓣 .Λ) code.function) (WpFn-mono 𝓤 H (W .laws) 𝓣 code.function) here-walks
+      known-small known-more .go))
 
 pub receive-spec : {M : Type 1} → stated.statement M
 unfolding code.routine tablesOf

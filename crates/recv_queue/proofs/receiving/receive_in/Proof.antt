@@ -3,17 +3,12 @@
 -- given up to the core.
 -- Assumes nothing.
 use Rattle.walks.proofs.Walk.{_≡_, refl, sym, _∙_, subst, ℕ, _+_, _<_, _≤_, _*_, _^_, arith, List, [], _∷_, length, T, URA, fullShare}
-use Rattle.walks.proofs.Walk.{named, w64, tyInt, tyUnit, Val, vint, vptr, hasTy, WT, SProp, ent, Lft, GName, Share, ftrue, fat, flft, fres}
-use Rattle.walks.proofs.Walk.{Memory, Routine, Heap, Calls, Loops, WpFn, Tables, Atoms, FmC, fmOf, WpFn-mono, Fun, givenOf, tables}
-use Rattle.walks.proofs.Walk.{tablesOf, Given, Item, ‵, _⊛_, ⋆, _$_, _∵_, !, qed, by, move, keep, split, join, rewrite, fsplit, fjoin}
-use Rattle.walks.proofs.Walk.{suffices, frame}
-use Rattle.walks.proofs.Walk.{done, agg, whole, sub, look-in, look, store, init, stop, hop, fld, from, load, of-opd, addr, and-then}
-use Rattle.walks.proofs.Walk.{no-more, land, assigns, returns, enter, alloc1, alloc0, params1, pass1, pass0, yes, owns, Is, shows}
-use Rattle.walks.proofs.Walk.{uint-vals, uint-tells, u8, u32, usize, RefT, MutRef, now, ptr-vals, mut-tells, sliceVal, MutSlice, ShrSlice}
-use Rattle.walks.proofs.Walk.{Room, finally, slice-vals, mut-slice-tells, shr-slice-tells, plain, shrSliceOf, owned, peeks, nothing}
-use Rattle.walks.proofs.Walk.{onEntry, Triple}
-use Rattle.walks.proofs.Walk.{Meets, tripleOf, entered, cited, says, Stays, stay-dropped, stay-slice, gave-ref, gave-slice, walkOf, Walks}
-use Rattle.walks.proofs.Walk.{ends-at, walked, goes-dropped, goes-slice, goes-gave-ref, goes-gave-slice, walk-meets}
+use Rattle.walks.proofs.Walk.{named, w64, tyInt, tyUnit, Val, vint, vptr, hasTy, WT, SProp, ent, Lft, GName, Share, fat, flft, fres, Memory}
+use Rattle.walks.proofs.Walk.{Routine, Heap, Calls, Loops, WpFn, Tables, Atoms, FmC, fmOf, Fun, givenOf, tables, tablesOf, Given, Item, ‵}
+use Rattle.walks.proofs.Walk.{⋆, _$_, _∵_, !, qed, by, move, keep, join, rewrite, fjoin, suffices, frame, done, whole, sub, look-in, look}
+use Rattle.walks.proofs.Walk.{store, init, stop, hop, fld, from, load, of-opd, addr, and-then, no-more, land, assigns, returns, Is, shows}
+use Rattle.walks.proofs.Walk.{u8, u32, RefT, now, sliceVal, MutSlice, Room, finally, plain, owned, peeks, nothing, Triple, Meets, tripleOf}
+use Rattle.walks.proofs.Walk.{entered, cited, says, Stays, walkOf, ends-at, Go}
 use denote.Enum.Laws as EL
 use denote.Triple.Walked.{needs}
 use Rattle.cells.specs.declared.CellRecord.{CellRecord}
@@ -29,7 +24,10 @@ use Rattle.recv_queue.specs.Records.{loaded, saved}
 use Rattle.recv_queue.specs.Answers.{rowsWritten}
 use Rattle.recv_queue.proofs.Receives.{Enough, enough-few, CallSays, received-in}
 use Rattle.recv_queue.proofs.Written.{written-within}
-use Rattle.walks.proofs.Order.{entry, var, gone}
+use Rattle.walks.proofs.Order.{var, gone}
+use Rattle.walks.proofs.Again.{relends}
+use Rattle.walks.proofs.Begin.{Begins, begins}
+use Rattle.walks.proofs.Ways.{_&_, Ways, had-at-exit, meets, given-ref, given-slice, kept-slice, read-slice, uint}
 use Rattle.walks.proofs.Slices.{lending, returned, sharing, unshared}
 use Rattle.recv_queue.proofs.Calls.{Load, Save, calls-load, calls-save}
 use Rattle.recv_queue.proofs.receiving.Core.{Core, RowsSaved, calls-core, calls-saved}
@@ -52,20 +50,12 @@ use Rattle.recv_queue.proofs.receiving.receive_in.Code as code
 
 -- what the walk still has of each parameter at exit: the number and the datagram nothing, the receiver, the records and the store only
 -- their last values, the words all
+abbrev ways : Ways (here.ended .signature .params) (here.ended .kept)
+ways = given-ref 0 tt (plain (λ _. Q.the-row)) & given-slice 1 tt (plain (λ _. C.the-row)) & kept-slice 2 tt (plain (λ _. u32)) & uint w64
+    & given-slice 3 tt (plain (λ _. u8)) & read-slice 4 tt (plain (λ _. u8)) & tt
+
 abbrev stayed : Stays (here.ended .signature .params) (here.ended .kept)
-stayed = (
-  gave-ref (0 ∷ []) tt (plain (λ _. Q.the-row)),
-  (
-    gave-slice (1 ∷ []) tt (plain (λ _. C.the-row)),
-    (
-      stay-slice (2 ∷ []) tt (plain (λ _. u32)),
-      (
-        stay-dropped (plain (λ _. usize)) yes,
-        (gave-slice (3 ∷ []) tt (plain (λ _. u8)), (stay-dropped (shrSliceOf (4 ∷ []) tt (plain (λ _. u8))) yes, tt)),
-      ),
-    ),
-  ),
-)
+stayed = had-at-exit here.ended ways
 
 module _ {M : Type 1} (𝓤 : URA M) (H : Heap 𝓤) (A : Atoms 𝓤) (W : Given 𝓤 H A) (mem : Memory → SProp 𝓤) (run : Routine → Fun 𝓤)
     (κ₀ κ₁ κ₂ κ₃ κ₄ : Lft) (q₀ q₁ q₂ q₃ q₄ : Share) (b₀ o₀ : ℕ) (γ₀ : GName) (queue : RecvQueue) (b₁ o₁ : ℕ) (γ₁ : GName)
@@ -149,52 +139,18 @@ module _ {M : Type 1} (𝓤 : URA M) (H : Heap 𝓤) (A : Atoms 𝓤) (W : Given
       (known-core : Triple 𝓤 (C′ #recv-lent·receive-with) (Core 𝓤 H A mem run))
       (known-saved : Triple 𝓤 (C′ #recv-queue·receiving·rows-saved) (RowsSaved 𝓤 H A mem run))
       (known-save : Triple 𝓤 (C′ #recv-queue·save) (Save 𝓤 H A mem run)) where
-    walk : ent 𝓤 (onEntry 𝓤 H A here.signature (κ₀, (κ₁, (κ₂, (κ₃, (κ₄, tt))))) (q₀, (q₁, (q₂, (q₃, (q₄, tt)))))
-        (g, (x γ₁, (y γ₂ ws, (n, (s, (d, tt)))))) (vg ∷ [], (vx ∷ [], (vy ∷ [], (vint w64 n ∷ [], (vs ∷ [], (vd ∷ [], tt)))))))
-        (WpFn 𝓤 H C′ Λ code.function (vg ∷ vx ∷ vy ∷ vint w64 n ∷ vs ∷ vd ∷ []) Post)
-    walk =
-        qed W ((‵ (flft κ₀ q₀) ⊛ (‵ (flft κ₁ q₁) ⊛ (‵ (flft κ₂ q₂) ⊛ (‵ (flft κ₃ q₃) ⊛ (‵ (flft κ₄ q₄) ⊛ ‵ ftrue)))))
-        ∷ ‵ (owns (MutRef (named 0) κ₀ Q.the-row ∷ MutSlice (named 1) κ₁ C.the-row ∷ MutSlice (named 2) κ₂ u32 ∷ usize
-        ∷ MutSlice (named 3) κ₃ u8 ∷ ShrSlice (named 4) κ₄ u8 ∷ []) (g, (x γ₁, (y γ₂ ws, (n, (s, (d, tt))))))
-        (vg ∷ [], (vx ∷ [], (vy ∷ [], (vint w64 n ∷ [], (vs ∷ [], (vd ∷ [], tt))))))) ∷ []) ∵
-        enter ! C′ Λ code.function (vg ∷ vx ∷ vy ∷ vint w64 n ∷ vs ∷ vd ∷ []) _ $
-        alloc1 ! (λ l₀. alloc1 !
-        (λ l₁. alloc1 !
-        (λ l₂. alloc1 !
-        (λ l₃. alloc1 !
-        (λ l₄. alloc1 !
-        (λ l₅. alloc1 !
-        (λ l₆. alloc1 !
-        (λ l₇. alloc1 !
-        (λ l₈. alloc1 ! (λ l₉. alloc1 ! (λ l₁₀. alloc1 !
-        (λ l₁₁. alloc1 ! (λ l₁₂. alloc1 ! (λ l₁₃. alloc1 !
-        (λ l₁₄. alloc1 ! (λ l₁₅. alloc1 ! (λ l₁₆. alloc1 !
-        (λ l₁₇. alloc1 ! (λ l₁₈. alloc1 ! (λ l₁₉. alloc1 !
-        (λ l₂₀. alloc1 ! (λ l₂₁. alloc1 ! (λ l₂₂. alloc1 ! (λ l₂₃. alloc0 ! $ params1 ! $
-        pass1 ! (init ! 44 refl (tt, tt)) $ pass1 ! (init ! 42 refl (tt, (tt, (record { fits = room₁ .0 }, tt)))) $
-        pass1 ! (init ! 40 refl (tt, (tt, (record { fits = room₂ .0 }, tt)))) $
-        pass1 ! (init ! 38 refl (tt, record { fits = n-fits })) $ pass1 ! (init ! 36 refl (tt, (tt, (record { fits = room₃ .0 }, tt)))) $
-        pass1 ! (init ! 34 refl (tt, (tt, (record { fits = room₄ .0 }, tt)))) $ pass0 ! $
-        move ! (49 ∷ []) $ fsplit ! $ move ! (1 ∷ []) $ fsplit ! $ move ! (1 ∷ []) $ fsplit ! $ move ! (1 ∷ []) $ fsplit ! $ move ! (1 ∷ [])
-        $ fsplit ! $ move ! (1 ∷ []) $ fsplit ! $ move ! (55 ∷ []) $ split ! $ move ! (1 ∷ []) $ split ! $ move ! (1 ∷ []) $ split ! $
-        move ! (1 ∷ []) $ split ! $ move ! (1 ∷ []) $ split ! $
-        -- from here on what is owned stands first, then the locals _0, _1, …, _23, then that each dies: with k things owned, local i is at
-        -- k + i
-        keep ! (11 ∷ 4 ∷ 10 ∷ 3 ∷ 8 ∷ 2 ∷ 6 ∷ 0 ∷ 12 ∷ 5 ∷ entry 13 24) $
+    walk : Begins (Go {0}) W here.signature (Bound .0) C′ Λ code.function Post
+    walk = begins ! (keep ! (1 ∷ 7 ∷ 2 ∷ 8 ∷ 4 ∷ 9 ∷ 5 ∷ 10 ∷ 0 ∷ 6 ∷ []))
+        ((tt, tt) & (tt, (tt, (record { fits = room₁ .0 }, tt))) & (tt, (tt, (record { fits = room₂ .0 }, tt)))
+        & (tt, record { fits = n-fits })
+        & (tt, (tt, (record { fits = room₃ .0 }, tt))) & (tt, (tt, (record { fits = room₄ .0 }, tt))) & tt)
+        (λ l₀ l₁ l₂ l₃ l₄ l₅ l₆ l₇ l₈ l₉ l₁₀ l₁₁ l₁₂ l₁₃ l₁₄ l₁₅ l₁₆ l₁₇ l₁₈ l₁₉ l₂₀ l₂₁ l₂₂ l₂₃.
         -- 10: [records; [κ₁]; words; [κ₂]; store; [κ₃]; datagram; [κ₄]; receiver; [κ₀]]: the records are shared, and the words lent, for
         -- `load`
         sharing C.the-row κ₁ q₁ (x γ₁) (length rs) ! tt (λ α δ. move ! (3 ∷ 4 ∷ []) $ lending u32 κ₂ q₂ (y γ₂ ws) (length ws) ! tt (λ β ε.
         -- 12: [the lent words; what is kept; [β]; the shared records; what is kept; [α]; store; [κ₃]; datagram; [κ₄]; receiver; [κ₀]]
-        assigns ! (addr ! (from ! (fld ! refl (hop ! (look-in ! (12 + 2) (sub ! 0 refl (whole !))) (stop !))))) (from ! (stop !))
-        (init ! (12 + 10) refl (tt, tt)) $
-        assigns ! (agg ! (and-then ! (var ! (12 + 10) refl) (and-then !
-        (load ! (from ! (fld ! refl (stop !))) (look-in ! (12 + 2) (sub ! 1 refl (whole !)))) (no-more !)))) (from ! (stop !))
-        (init ! (12 + 11) refl (tt, (tt, (record { fits = room₁ .0 }, tt)))) $
-        assigns ! (addr ! (from ! (fld ! refl (hop ! (look-in ! (12 + 3) (sub ! 0 refl (whole !))) (stop !))))) (from ! (stop !))
-        (init ! (12 + 12) refl (tt, tt)) $
-        assigns ! (agg ! (and-then ! (var ! (12 + 12) refl) (and-then !
-        (load ! (from ! (fld ! refl (stop !))) (look-in ! (12 + 3) (sub ! 1 refl (whole !)))) (no-more !)))) (from ! (stop !))
-        (init ! (12 + 13) refl (tt, (tt, (record { fits = room₂ .0 }, tt)))) $
+        relends ! (12 + 2) (12 + 10) (12 + 11) refl refl (room₁ .0) $
+        relends ! (12 + 3) (12 + 12) (12 + 13) refl refl (room₂ .0) $
         move ! (5 ∷ 2 ∷ 3 ∷ 0 ∷ []) $ calls-load 𝓤 H A W mem run (α ∷ []) (β ∷ []) fullShare fullShare (x δ) (y ε ws) n vx vy ! fm
         known-load (all, wide) n-fits (and-then ! (var ! (9 + 11) refl)
         (and-then ! (var ! (9 + 13) refl) (and-then ! (var ! (9 + 4) refl) (no-more !)))) (λ u₀ f.
@@ -206,18 +162,10 @@ module _ {M : Type 1} (𝓤 : URA M) (H : Heap 𝓤) (A : Atoms 𝓤) (W : Given
         lending u32 κ₂ q₂ (y γ₂ w₁) (length ws) ! tt (λ α′ ε′.
         -- 11: [the lent words; what is kept; [α′]; records; [κ₁]; store; [κ₃]; datagram; [κ₄]; receiver; [κ₀]]
         assigns ! (addr ! (from ! (hop ! (look ! (11 + 1) refl) (stop !)))) (from ! (stop !)) (init ! (11 + 14) refl (tt, tt)) $
-        assigns ! (addr ! (from ! (fld ! refl (hop ! (look-in ! (11 + 3) (sub ! 0 refl (whole !))) (stop !))))) (from ! (stop !))
-        (init ! (11 + 15) refl (tt, tt)) $
-        assigns ! (agg ! (and-then ! (var ! (11 + 15) refl) (and-then !
-        (load ! (from ! (fld ! refl (stop !))) (look-in ! (11 + 3) (sub ! 1 refl (whole !)))) (no-more !)))) (from ! (stop !))
-        (init ! (11 + 16) refl (tt, (tt, (record { fits = room₂ .0 }, tt)))) $
+        relends ! (11 + 3) (11 + 15) (11 + 16) refl refl (room₂ .0) $
         assigns ! (of-opd ! (load ! (from ! (fld ! refl (stop !))) (look-in ! (11 + 2) (sub ! 1 refl (whole !))))) (from ! (stop !))
         (init ! (11 + 17) refl (tt, record { fits = room₁ .0 })) $
-        assigns ! (addr ! (from ! (fld ! refl (hop ! (look-in ! (11 + 5) (sub ! 0 refl (whole !))) (stop !))))) (from ! (stop !))
-        (init ! (11 + 18) refl (tt, tt)) $
-        assigns ! (agg ! (and-then ! (var ! (11 + 18) refl) (and-then !
-        (load ! (from ! (fld ! refl (stop !))) (look-in ! (11 + 5) (sub ! 1 refl (whole !)))) (no-more !)))) (from ! (stop !))
-        (init ! (11 + 19) refl (tt, (tt, (record { fits = room₃ .0 }, tt)))) $
+        relends ! (11 + 5) (11 + 18) (11 + 19) refl refl (room₃ .0) $
         move ! (10 ∷ 2 ∷ 6 ∷ 8 ∷ 9 ∷ 0 ∷ 5 ∷ 7 ∷ []) $ calls-core 𝓤 H A W mem run κ₀ (α′ ∷ []) κ₃ κ₄ q₀ fullShare q₃ q₄ g (y ε′ w₁) n
         (length rs) s d vg vy vs vd ! fm known-core n-fits (room₁ .0)
         (and-then ! (var ! (4 + 14) refl) (and-then ! (var ! (4 + 16) refl)
@@ -235,16 +183,8 @@ module _ {M : Type 1} (𝓤 : URA M) (H : Heap 𝓤) (A : Atoms 𝓤) (W : Given
         -- 9: [words; [κ₂]; the store's last value; the receiver's; [κ₄]; [κ₃]; [κ₀]; records; [κ₁]]: the words are shared for `save`
         sharing u32 κ₂ q₂ (y γ₂ w₂) (length ws) ! tt (λ β′ δ′.
         -- 10: [the shared words; what is kept; [β′]; the store's last value; the receiver's; [κ₄]; [κ₃]; [κ₀]; records; [κ₁]]
-        assigns ! (addr ! (from ! (fld ! refl (hop ! (look-in ! (10 + 2) (sub ! 0 refl (whole !))) (stop !))))) (from ! (stop !))
-        (init ! (10 + 20) refl (tt, tt)) $
-        assigns ! (agg ! (and-then ! (var ! (10 + 20) refl) (and-then !
-        (load ! (from ! (fld ! refl (stop !))) (look-in ! (10 + 2) (sub ! 1 refl (whole !)))) (no-more !)))) (from ! (stop !))
-        (init ! (10 + 21) refl (tt, (tt, (record { fits = room₁ .0 }, tt)))) $
-        assigns ! (addr ! (from ! (fld ! refl (hop ! (look-in ! (10 + 3) (sub ! 0 refl (whole !))) (stop !))))) (from ! (stop !))
-        (init ! (10 + 22) refl (tt, tt)) $
-        assigns ! (agg ! (and-then ! (var ! (10 + 22) refl) (and-then !
-        (load ! (from ! (fld ! refl (stop !))) (look-in ! (10 + 3) (sub ! 1 refl (whole !)))) (no-more !)))) (from ! (stop !))
-        (init ! (10 + 23) refl (tt, (tt, (record { fits = room₂ .0 }, tt)))) $
+        relends ! (10 + 2) (10 + 20) (10 + 21) refl refl (room₁ .0) $
+        relends ! (10 + 3) (10 + 22) (10 + 23) refl refl (room₂ .0) $
         move ! (9 ∷ 2 ∷ 8 ∷ 0 ∷ []) $ calls-save 𝓤 H A W mem run κ₁ (β′ ∷ []) q₁ fullShare (x γ₁) (y δ′ w₂) (m a) vx vy ! fm known-save
         (within-records a, within-words a w₂ (e .0 ∙ f .1)) (e₈ .1)
         (and-then ! (var ! (7 + 21) refl) (and-then ! (var ! (7 + 23) refl) (and-then ! (var ! (7 + 8) refl) (no-more !)))) (λ u₁ i.
@@ -257,7 +197,7 @@ module _ {M : Type 1} (𝓤 : URA M) (H : Heap 𝓤) (A : Atoms 𝓤) (W : Given
         owned ! P.the-row (Is P.the-row) ((EL.makes P.the-type P′.the-plain) 𝓤 H A) a (v ∷ []) is $
         returns ! (look ! 10 refl) $ gone ! 10 refl $
         by ! (exits v a h w₂ u (received-in queue rs st dg n enough ws a h w₂ u wide (e .0 ∙ f .1) (e .2)) (i .1) (e .0 ∙ f .1)
-        (e .1)))))))))))))))))))))))))))))))))))
+        (e .1))))))))))))
       where
         all : n ≤ length rs
         all = enough-few rs st dg n enough .0
@@ -274,22 +214,8 @@ module _ {M : Type 1} (𝓤 : URA M) (H : Heap 𝓤) (A : Atoms 𝓤) (W : Given
     (known-core : Triple 𝓤 (𝓣 .C #recv-lent·receive-with) (Core 𝓤 H A mem run))
     (known-saved : Triple 𝓤 (𝓣 .C #recv-queue·receiving·rows-saved) (RowsSaved 𝓤 H A mem run))
     (known-save : Triple 𝓤 (𝓣 .C #recv-queue·save) (Save 𝓤 H A mem run)) where
-  here-walks : Walks 𝓤 H A here.ended stayed (WpFn 𝓤 H (𝓣 .C) (𝓣 .Λ) code.function) (here.clauses 𝓤 H A mem run)
-  here-walks = walked 𝓤 H A here.ended stayed (here.clauses 𝓤 H A mem run) (WpFn 𝓤 H (𝓣 .C) (𝓣 .Λ) code.function)
-      (λ κs. (ptr-vals, (slice-vals, (slice-vals, (uint-vals w64, (slice-vals, (slice-vals, tt)))))))
-      (λ κs. (
-        mut-tells (named 0) (κs .0) Q.the-row,
-        (
-          mut-slice-tells (named 1) (κs .1 .0) C.the-row,
-          (
-            mut-slice-tells (named 2) (κs .1 .1 .0) u32,
-            (
-              uint-tells w64,
-              (mut-slice-tells (named 3) (κs .1 .1 .1 .0) u8, (shr-slice-tells (named 4) (κs .1 .1 .1 .1 .0) u8, tt)),
-            ),
-          ),
-        ),
-      ))
+  here-meets : Meets 𝓤 H A here.signature (WpFn 𝓤 H (𝓣 .C) (𝓣 .Λ) code.function) (here.spec 𝓤 H A mem run)
+  here-meets = meets here.ended ways 𝓤 H A W 𝓣 code.function (here.clauses 𝓤 H A mem run)
       (λ κs qs bounds a _ are. needs 𝓤 (Enough (now (a .1 .0)) (now (a .1 .1 .1 .1 .0)) (now (a .1 .1 .1 .1 .1 .0)) (a .1 .1 .1 .0)
       × (rowWords * a .1 .1 .1 .0 ≤ length (now (a .1 .1 .0)))) _ (λ fits.
       walk 𝓤 H A W mem run (κs .0) (κs .1 .0) (κs .1 .1 .0) (κs .1 .1 .1 .0) (κs .1 .1 .1 .1 .0) (qs .0) (qs .1 .0) (qs .1 .1 .0)
@@ -299,26 +225,7 @@ module _ {M : Type 1} (𝓤 : URA M) (H : Heap 𝓤) (A : Atoms 𝓤) (W : Given
       (a .1 .1 .1 .1 .0 .ptr .1) (a .1 .1 .1 .1 .0 .name) (a .1 .1 .1 .1 .0 .now) (a .1 .1 .1 .1 .1 .0 .ptr .0)
       (a .1 .1 .1 .1 .1 .0 .ptr .1) (a .1 .1 .1 .1 .1 .0 .name) (a .1 .1 .1 .1 .1 .0 .now)
       (are .1 .0 .0 .1) (are .1 .1 .0 .0 .1) (are .1 .1 .1 .1 .0 .0 .1) (are .1 .1 .1 .1 .1 .0 .0 .1) (are .1 .1 .1 .0 .1) (fits .0)
-      (fits .1) (𝓣 .C) (𝓣 .Λ) (fmOf 𝓤 H (W .laws) 𝓣) known-load known-core known-saved known-save))
-
-  here-meets : Meets 𝓤 H A here.signature (WpFn 𝓤 H (𝓣 .C) (𝓣 .Λ) code.function) (here.spec 𝓤 H A mem run)
-  here-meets = walk-meets 𝓤 H A here.ended stayed W (
-    goes-gave-ref 𝓤 H A W 5 0 tt (plain (λ _. Q.the-row)),
-    (
-      goes-gave-slice 𝓤 H A W 5 1 tt (plain (λ _. C.the-row)),
-      (
-        goes-slice 𝓤 H A W 5 2 tt (plain (λ _. u32)),
-        (
-          goes-dropped 𝓤 H A W 5 (plain (λ _. usize)) yes (λ κs x f. refl),
-          (
-            goes-gave-slice 𝓤 H A W 5 3 tt (plain (λ _. u8)),
-            (goes-dropped 𝓤 H A W 5 (shrSliceOf (4 ∷ []) tt (plain (λ _. u8))) yes (λ κs x f. refl), tt),
-          ),
-        ),
-      ),
-    ),
-  )
-      (here.clauses 𝓤 H A mem run) (WpFn 𝓤 H (𝓣 .C) (𝓣 .Λ) code.function) (WpFn-mono 𝓤 H (W .laws) 𝓣 code.function) here-walks
+      (fits .1) (𝓣 .C) (𝓣 .Λ) (fmOf 𝓤 H (W .laws) 𝓣) known-load known-core known-saved known-save .go))
 
 pub receive-in-spec : {M : Type 1} → stated.statement M
 unfolding code.routine tablesOf

@@ -1,18 +1,13 @@
 -- `recv_queue::taking::take` meets its contract: a walk of its MIR, by hand. The records are shared for `last_used`. Each arm of the
 -- branches is one call, to which the records and the joining buffer are given up.
 -- Assumes nothing.
-use Rattle.walks.proofs.Walk.{_≡_, refl, sym, subst, ℕ, _+_, arith, List, [], _∷_, length, T, leb→le, URA, fullShare, named, w64, tyInt}
-use Rattle.walks.proofs.Walk.{Val, vptr, hasTy, WT, SProp, ent, emp, via, fst∗, Lft, GName, Share, ftrue, fat, flft, Memory, Routine, Heap}
-use Rattle.walks.proofs.Walk.{Calls, Loops, WpFn, Tables, Atoms, FmC, fmOf, WpFn-mono, Fun, givenOf, tables, tablesOf, Given, Item, ‵, _⊛_}
-use Rattle.walks.proofs.Walk.{⋆, _$_, _∵_, !, qed, by, move, keep, split, join, rewrite, fsplit, fjoin, suffices, frame, done, agg, whole}
-use Rattle.walks.proofs.Walk.{sub}
-use Rattle.walks.proofs.Walk.{look-in, look, store, init, stop, hop, fld, from, load, lit, of-opd, bin, addr, and-then, no-more, land}
-use Rattle.walks.proofs.Walk.{assigns, returns, returns-within, enter, alloc1, alloc0, params1, pass1, pass0, yes, owns, Is}
-use Rattle.walks.proofs.Walk.{shows, u8, RefT, ShrRef, ptr-vals, shr-tells, sliceVal, MutSlice, ShrSlice, Room, finally, slice-vals}
-use Rattle.walks.proofs.Walk.{mut-slice-tells, shr-slice-tells, plain, shrRefTo, shrSliceOf, peeks, nothing, onEntry, Triple, Meets}
-use Rattle.walks.proofs.Walk.{tripleOf, entered}
-use Rattle.walks.proofs.Walk.{cited, says, Stays, stay-dropped, gave-slice, walkOf, Walks, ends-at, walked, goes-dropped, goes-gave-slice}
-use Rattle.walks.proofs.Walk.{walk-meets}
+use Rattle.walks.proofs.Walk.{_≡_, refl, sym, subst, ℕ, _+_, arith, List, [], _∷_, length, T, leb→le, URA, fullShare, w64, tyInt, Val, vptr}
+use Rattle.walks.proofs.Walk.{hasTy, WT, SProp, ent, emp, via, fst∗, Lft, GName, Share, fat, flft, Memory, Routine, Heap, Calls, Loops}
+use Rattle.walks.proofs.Walk.{WpFn, Tables, Atoms, FmC, fmOf, Fun, givenOf, tables, tablesOf, Given, Item, ‵, ⋆, _$_, _∵_, !, qed, by, move}
+use Rattle.walks.proofs.Walk.{keep, join, rewrite, fjoin, suffices, frame, done, whole, sub, look-in, look, store, init, stop, fld, from}
+use Rattle.walks.proofs.Walk.{load, lit, of-opd, bin, and-then, no-more, land, assigns, returns, returns-within, Is, shows, u8, RefT}
+use Rattle.walks.proofs.Walk.{sliceVal, Room, finally, plain, peeks, nothing, Triple, Meets, tripleOf, entered, cited, says, Stays, walkOf}
+use Rattle.walks.proofs.Walk.{ends-at, Go}
 use denote.Enum.Laws as EL
 use Rattle.cells.specs.declared.CellRecord.{CellRecord}
 use Rattle.cells.proofs.CellRecord as C
@@ -24,7 +19,10 @@ use Rattle.recv_take.proofs.Take.Laws as P′
 use Rattle.recv_prefix.specs.Needs.{lastUsed, takeNeeds}
 use Rattle.recv_queue.specs.Call.{fewCells, smallCells}
 use Rattle.recv_queue.proofs.Takes.{enough-few, CallSays}
-use Rattle.walks.proofs.Order.{entry, var, if-returns, gone}
+use Rattle.walks.proofs.Order.{var, if-returns, gone}
+use Rattle.walks.proofs.Again.{relends}
+use Rattle.walks.proofs.Begin.{Begins, begins}
+use Rattle.walks.proofs.Ways.{_&_, Ways, had-at-exit, meets, given-slice, read-ref, read-slice}
 use Rattle.walks.proofs.Slices.{sharing, unshared}
 use Rattle.recv_queue.proofs.Calls.{LastUsed, calls-last}
 use Rattle.recv_queue.proofs.taking.Sizes.{Sized, calls-sized}
@@ -50,17 +48,12 @@ use Rattle.recv_queue.proofs.taking.take.Statement as stated
 use Rattle.recv_queue.proofs.taking.take.Code as code
 
 -- what the walk still has of each parameter at exit: of the records and of the joining buffer their last values
+abbrev ways : Ways (here.ended .signature .params) (here.ended .kept)
+ways = read-ref 0 tt (plain (λ _. Q.the-row)) & given-slice 1 tt (plain (λ _. C.the-row)) & read-slice 2 tt (plain (λ _. u8))
+    & given-slice 3 tt (plain (λ _. u8)) & tt
+
 abbrev stayed : Stays (here.ended .signature .params) (here.ended .kept)
-stayed = (
-  stay-dropped (shrRefTo (0 ∷ []) tt (plain (λ _. Q.the-row))) yes,
-  (
-    gave-slice (1 ∷ []) tt (plain (λ _. C.the-row)),
-    (
-      stay-dropped (shrSliceOf (2 ∷ []) tt (plain (λ _. u8))) yes,
-      (gave-slice (3 ∷ []) tt (plain (λ _. u8)), tt),
-    ),
-  ),
-)
+stayed = had-at-exit here.ended ways
 
 module _ {M : Type 1} (𝓤 : URA M) (H : Heap 𝓤) (A : Atoms 𝓤) (W : Given 𝓤 H A) (mem : Memory → SProp 𝓤) (run : Routine → Fun 𝓤)
     (κ₀ κ₁ κ₂ κ₃ : Lft) (q₀ q₁ q₂ q₃ : Share) (b₀ o₀ : ℕ) (γ₀ : GName) (queue : RecvQueue) (b₁ o₁ : ℕ) (γ₁ : GName) (rs : List CellRecord)
@@ -132,43 +125,15 @@ module _ {M : Type 1} (𝓤 : URA M) (H : Heap 𝓤) (A : Atoms 𝓤) (W : Given
       (known-few : Triple 𝓤 (C′ #recv-queue·taking·take-few) (Sized 𝓤 H A mem run fewCells))
       (known-small : Triple 𝓤 (C′ #recv-queue·taking·take-small) (Sized 𝓤 H A mem run smallCells))
       (known-more : Triple 𝓤 (C′ #recv-queue·taking·take-more) (More 𝓤 H A mem run)) where
-    walk : ent 𝓤 (onEntry 𝓤 H A here.signature (κ₀, (κ₁, (κ₂, (κ₃, tt)))) (q₀, (q₁, (q₂, (q₃, tt)))) (g, (x γ₁, (s, (j, tt))))
-        (vg ∷ [], (vx ∷ [], (vs ∷ [], (vj ∷ [], tt))))) (WpFn 𝓤 H C′ Λ code.function (vg ∷ vx ∷ vs ∷ vj ∷ []) Post)
-    walk =
-        qed W ((‵ (flft κ₀ q₀) ⊛ (‵ (flft κ₁ q₁) ⊛ (‵ (flft κ₂ q₂) ⊛ (‵ (flft κ₃ q₃) ⊛ ‵ ftrue))))
-        ∷ ‵ (owns (ShrRef (named 0) κ₀ Q.the-row ∷ MutSlice (named 1) κ₁ C.the-row ∷ ShrSlice (named 2) κ₂ u8 ∷ MutSlice (named 3) κ₃ u8
-        ∷ []) (g, (x γ₁, (s, (j, tt)))) (vg ∷ [], (vx ∷ [], (vs ∷ [], (vj ∷ [], tt))))) ∷ []) ∵
-        enter ! C′ Λ code.function (vg ∷ vx ∷ vs ∷ vj ∷ []) _ $
-        alloc1 ! (λ l₀. alloc1 !
-        (λ l₁. alloc1 !
-        (λ l₂. alloc1 !
-        (λ l₃. alloc1 !
-        (λ l₄. alloc1 !
-        (λ l₅. alloc1 !
-        (λ l₆. alloc1 !
-        (λ l₇. alloc1 !
-        (λ l₈. alloc1 ! (λ l₉. alloc1 ! (λ l₁₀. alloc1 !
-        (λ l₁₁. alloc1 ! (λ l₁₂. alloc1 ! (λ l₁₃. alloc1 !
-        (λ l₁₄. alloc1 ! (λ l₁₅. alloc1 ! (λ l₁₆. alloc1 !
-        (λ l₁₇. alloc1 ! (λ l₁₈. alloc1 ! (λ l₁₉. alloc1 !
-        (λ l₂₀. alloc1 ! (λ l₂₁. alloc1 ! (λ l₂₂. alloc1 !
-        (λ l₂₃. alloc1 ! (λ l₂₄. alloc1 ! (λ l₂₅. alloc1 ! (λ l₂₆. alloc1 ! (λ l₂₇. alloc0 ! $ params1 ! $
-        pass1 ! (init ! 52 refl (tt, tt)) $ pass1 ! (init ! 50 refl (tt, (tt, (record { fits = room₁ .0 }, tt)))) $
-        pass1 ! (init ! 48 refl (tt, (tt, (record { fits = room₂ .0 }, tt)))) $
-        pass1 ! (init ! 46 refl (tt, (tt, (record { fits = room₃ .0 }, tt)))) $ pass0 ! $
-        move ! (57 ∷ []) $ fsplit ! $ move ! (1 ∷ []) $ fsplit ! $ move ! (1 ∷ []) $ fsplit ! $ move ! (1 ∷ []) $ fsplit ! $
-        move ! (61 ∷ []) $ split ! $ move ! (1 ∷ []) $ split ! $ move ! (1 ∷ []) $ split ! $ move ! (1 ∷ []) $ split ! $
-        -- from here on what is owned stands first, then the locals _0, …, _27, then that each dies: with k things owned, local i is at k +
-        -- i
-        keep ! (4 ∷ 3 ∷ 2 ∷ 0 ∷ 9 ∷ 8 ∷ 7 ∷ 5 ∷ entry 10 28) $
+    walk : Begins (Go {0}) W here.signature (Bound .0) C′ Λ code.function Post
+    walk = begins ! (keep ! (4 ∷ 5 ∷ 6 ∷ 7 ∷ 0 ∷ 1 ∷ 2 ∷ 3 ∷ []))
+        ((tt, tt) & (tt, (tt, (record { fits = room₁ .0 }, tt))) & (tt, (tt, (record { fits = room₂ .0 }, tt)))
+        & (tt, (tt, (record { fits = room₃ .0 }, tt))) & tt)
+        (λ l₀ l₁ l₂ l₃ l₄ l₅ l₆ l₇ l₈ l₉ l₁₀ l₁₁ l₁₂ l₁₃ l₁₄ l₁₅ l₁₆ l₁₇ l₁₈ l₁₉ l₂₀ l₂₁ l₂₂ l₂₃ l₂₄ l₂₅ l₂₆ l₂₇.
         -- 8: [[κ₀]; [κ₁]; [κ₂]; [κ₃]; receiver; records; store; joining buffer]: the records are shared for `last_used`
         move ! (5 ∷ 1 ∷ []) $ sharing C.the-row κ₁ q₁ (x γ₁) (length rs) ! tt (λ α δ.
         -- 9: [the shared records; what is kept; [α]; [κ₀]; [κ₂]; [κ₃]; receiver; store; joining buffer]
-        assigns ! (addr ! (from ! (fld ! refl (hop ! (look-in ! (9 + 2) (sub ! 0 refl (whole !))) (stop !))))) (from ! (stop !))
-        (init ! (9 + 8) refl (tt, tt)) $
-        assigns ! (agg ! (and-then ! (var ! (9 + 8) refl) (and-then !
-        (load ! (from ! (fld ! refl (stop !))) (look-in ! (9 + 2) (sub ! 1 refl (whole !)))) (no-more !)))) (from ! (stop !))
-        (init ! (9 + 9) refl (tt, (tt, (record { fits = room₁ .0 }, tt)))) $
+        relends ! (9 + 2) (9 + 8) (9 + 9) refl refl (room₁ .0) $
         move ! (2 ∷ 0 ∷ []) $ calls-last 𝓤 H A W mem run (α ∷ []) fullShare (x δ) vx ! fm known-last
         (and-then ! (var ! (8 + 9) refl) (no-more !)) (λ v₅ e₅.
         -- 8: [[α]; what is kept; [κ₀]; [κ₂]; [κ₃]; receiver; store; joining buffer]
@@ -189,16 +154,8 @@ module _ {M : Type 1} (𝓤 : URA M) (H : Heap 𝓤) (A : Atoms 𝓤) (W : Given
         assigns ! (bin ! (var ! (8 + 7) refl) (lit ! tt) tt) (from ! (stop !)) (init ! (8 + 11) refl (tt, tt)) $
         if-returns ! (var ! (8 + 11) refl)
         (λ few.
-        assigns ! (addr ! (from ! (fld ! refl (hop ! (look-in ! (8 + 2) (sub ! 0 refl (whole !))) (stop !))))) (from ! (stop !))
-        (init ! (8 + 12) refl (tt, tt)) $
-        assigns ! (agg ! (and-then ! (var ! (8 + 12) refl) (and-then !
-        (load ! (from ! (fld ! refl (stop !))) (look-in ! (8 + 2) (sub ! 1 refl (whole !)))) (no-more !)))) (from ! (stop !))
-        (init ! (8 + 13) refl (tt, (tt, (record { fits = room₁ .0 }, tt)))) $
-        assigns ! (addr ! (from ! (fld ! refl (hop ! (look-in ! (8 + 4) (sub ! 0 refl (whole !))) (stop !))))) (from ! (stop !))
-        (init ! (8 + 14) refl (tt, tt)) $
-        assigns ! (agg ! (and-then ! (var ! (8 + 14) refl) (and-then !
-        (load ! (from ! (fld ! refl (stop !))) (look-in ! (8 + 4) (sub ! 1 refl (whole !)))) (no-more !)))) (from ! (stop !))
-        (init ! (8 + 15) refl (tt, (tt, (record { fits = room₃ .0 }, tt)))) $
+        relends ! (8 + 2) (8 + 12) (8 + 13) refl refl (room₁ .0) $
+        relends ! (8 + 4) (8 + 14) (8 + 15) refl refl (room₃ .0) $
         calls-sized 𝓤 H A W mem run fewCells κ₀ κ₁ κ₂ κ₃ q₀ q₁ q₂ q₃ g (x γ₁) n s j vg vx vs vj ! fm known-few (refl, leb→le n fewCells few)
         (e₇ .1) (and-then ! (var ! (1 + 1) refl) (and-then ! (var ! (1 + 13) refl)
         (and-then ! (var ! (1 + 7) refl) (and-then ! (var ! (1 + 3) refl) (and-then ! (var ! (1 + 15) refl) (no-more !))))))
@@ -212,16 +169,8 @@ module _ {M : Type 1} (𝓤 : URA M) (H : Heap 𝓤) (A : Atoms 𝓤) (W : Given
         assigns ! (bin ! (var ! (8 + 7) refl) (lit ! tt) tt) (from ! (stop !)) (store ! (8 + 11) refl (tt, tt)) $
         if-returns ! (var ! (8 + 11) refl)
         (λ few.
-        assigns ! (addr ! (from ! (fld ! refl (hop ! (look-in ! (8 + 2) (sub ! 0 refl (whole !))) (stop !))))) (from ! (stop !))
-        (init ! (8 + 16) refl (tt, tt)) $
-        assigns ! (agg ! (and-then ! (var ! (8 + 16) refl) (and-then !
-        (load ! (from ! (fld ! refl (stop !))) (look-in ! (8 + 2) (sub ! 1 refl (whole !)))) (no-more !)))) (from ! (stop !))
-        (init ! (8 + 17) refl (tt, (tt, (record { fits = room₁ .0 }, tt)))) $
-        assigns ! (addr ! (from ! (fld ! refl (hop ! (look-in ! (8 + 4) (sub ! 0 refl (whole !))) (stop !))))) (from ! (stop !))
-        (init ! (8 + 18) refl (tt, tt)) $
-        assigns ! (agg ! (and-then ! (var ! (8 + 18) refl) (and-then !
-        (load ! (from ! (fld ! refl (stop !))) (look-in ! (8 + 4) (sub ! 1 refl (whole !)))) (no-more !)))) (from ! (stop !))
-        (init ! (8 + 19) refl (tt, (tt, (record { fits = room₃ .0 }, tt)))) $
+        relends ! (8 + 2) (8 + 16) (8 + 17) refl refl (room₁ .0) $
+        relends ! (8 + 4) (8 + 18) (8 + 19) refl refl (room₃ .0) $
         calls-sized 𝓤 H A W mem run smallCells κ₀ κ₁ κ₂ κ₃ q₀ q₁ q₂ q₃ g (x γ₁) n s j vg vx vs vj ! fm known-small
         (refl, leb→le n smallCells few) (e₇ .1) (and-then ! (var ! (1 + 1) refl)
         (and-then ! (var ! (1 + 17) refl) (and-then ! (var ! (1 + 7) refl)
@@ -235,16 +184,8 @@ module _ {M : Type 1} (𝓤 : URA M) (H : Heap 𝓤) (A : Atoms 𝓤) (W : Given
         assigns ! (bin ! (var ! (8 + 7) refl) (var ! (8 + 6) refl) tt) (from ! (stop !)) (store ! (8 + 11) refl (tt, tt)) $
         if-returns ! (var ! (8 + 11) refl)
         (λ less.
-        assigns ! (addr ! (from ! (fld ! refl (hop ! (look-in ! (8 + 2) (sub ! 0 refl (whole !))) (stop !))))) (from ! (stop !))
-        (init ! (8 + 20) refl (tt, tt)) $
-        assigns ! (agg ! (and-then ! (var ! (8 + 20) refl) (and-then !
-        (load ! (from ! (fld ! refl (stop !))) (look-in ! (8 + 2) (sub ! 1 refl (whole !)))) (no-more !)))) (from ! (stop !))
-        (init ! (8 + 21) refl (tt, (tt, (record { fits = room₁ .0 }, tt)))) $
-        assigns ! (addr ! (from ! (fld ! refl (hop ! (look-in ! (8 + 4) (sub ! 0 refl (whole !))) (stop !))))) (from ! (stop !))
-        (init ! (8 + 22) refl (tt, tt)) $
-        assigns ! (agg ! (and-then ! (var ! (8 + 22) refl) (and-then !
-        (load ! (from ! (fld ! refl (stop !))) (look-in ! (8 + 4) (sub ! 1 refl (whole !)))) (no-more !)))) (from ! (stop !))
-        (init ! (8 + 23) refl (tt, (tt, (record { fits = room₃ .0 }, tt)))) $
+        relends ! (8 + 2) (8 + 20) (8 + 21) refl refl (room₁ .0) $
+        relends ! (8 + 4) (8 + 22) (8 + 23) refl refl (room₃ .0) $
         calls-more 𝓤 H A W mem run κ₀ κ₁ κ₂ κ₃ q₀ q₁ q₂ q₃ g (x γ₁) n s j n vg vx vs vj ! fm known-more (refl, omega arith) (e₇ .1) (e₇ .1)
         (and-then ! (var ! (1 + 1) refl) (and-then ! (var ! (1 + 21) refl)
         (and-then ! (var ! (1 + 7) refl) (and-then ! (var ! (1 + 3) refl)
@@ -255,16 +196,8 @@ module _ {M : Type 1} (𝓤 : URA M) (H : Heap 𝓤) (A : Atoms 𝓤) (W : Given
         returns-within ! Post refl (look ! 7 refl) $
         gone ! 7 refl $ by ! (exits v a l u (e .2) (e .0) (e .1)))))
         (λ all.
-        assigns ! (addr ! (from ! (fld ! refl (hop ! (look-in ! (8 + 2) (sub ! 0 refl (whole !))) (stop !))))) (from ! (stop !))
-        (init ! (8 + 24) refl (tt, tt)) $
-        assigns ! (agg ! (and-then ! (var ! (8 + 24) refl) (and-then !
-        (load ! (from ! (fld ! refl (stop !))) (look-in ! (8 + 2) (sub ! 1 refl (whole !)))) (no-more !)))) (from ! (stop !))
-        (init ! (8 + 25) refl (tt, (tt, (record { fits = room₁ .0 }, tt)))) $
-        assigns ! (addr ! (from ! (fld ! refl (hop ! (look-in ! (8 + 4) (sub ! 0 refl (whole !))) (stop !))))) (from ! (stop !))
-        (init ! (8 + 26) refl (tt, tt)) $
-        assigns ! (agg ! (and-then ! (var ! (8 + 26) refl) (and-then !
-        (load ! (from ! (fld ! refl (stop !))) (look-in ! (8 + 4) (sub ! 1 refl (whole !)))) (no-more !)))) (from ! (stop !))
-        (init ! (8 + 27) refl (tt, (tt, (record { fits = room₃ .0 }, tt)))) $
+        relends ! (8 + 2) (8 + 24) (8 + 25) refl refl (room₁ .0) $
+        relends ! (8 + 4) (8 + 26) (8 + 27) refl refl (room₃ .0) $
         calls-more 𝓤 H A W mem run κ₀ κ₁ κ₂ κ₃ q₀ q₁ q₂ q₃ g (x γ₁) n s j (length rs) vg vx vs vj ! fm known-more
         (refl, enough-few rs st n refl .0) (e₇ .1) (room₁ .0)
         (and-then ! (var ! (1 + 1) refl) (and-then ! (var ! (1 + 25) refl)
@@ -274,7 +207,7 @@ module _ {M : Type 1} (𝓤 : URA M) (H : Heap 𝓤) (A : Atoms 𝓤) (W : Given
         peeks ! P.the-row (Is P.the-row) (shows 𝓤 H A P.the-row) a (v ∷ []) (λ isa.
         land ! (from ! (stop !)) (init ! 7 refl (EL.lawful P.the-type P′.the-laws 𝓤 H A W tt .typed a _ isa .0)) $
         returns ! (look ! 7 refl) $
-        gone ! 7 refl $ by ! (exits v a l u (e .2) (e .0) (e .1))))))))))))))))))))))))))))))))))))))
+        gone ! 7 refl $ by ! (exits v a l u (e .2) (e .0) (e .1)))))))))))
 
 module _ {M : Type 1} (𝓤 : URA M) (H : Heap 𝓤) (A : Atoms 𝓤) (W : Given 𝓤 H A) (mem : Memory → SProp 𝓤) (run : Routine → Fun 𝓤)
     (𝓣 : Tables 𝓤 H) (known-last : Triple 𝓤 (𝓣 .C #recv-queue·last-used) (LastUsed 𝓤 H A mem run))
@@ -282,36 +215,15 @@ module _ {M : Type 1} (𝓤 : URA M) (H : Heap 𝓤) (A : Atoms 𝓤) (W : Given
     (known-few : Triple 𝓤 (𝓣 .C #recv-queue·taking·take-few) (Sized 𝓤 H A mem run fewCells))
     (known-small : Triple 𝓤 (𝓣 .C #recv-queue·taking·take-small) (Sized 𝓤 H A mem run smallCells))
     (known-more : Triple 𝓤 (𝓣 .C #recv-queue·taking·take-more) (More 𝓤 H A mem run)) where
-  here-walks : Walks 𝓤 H A here.ended stayed (WpFn 𝓤 H (𝓣 .C) (𝓣 .Λ) code.function) (here.clauses 𝓤 H A mem run)
-  here-walks = walked 𝓤 H A here.ended stayed (here.clauses 𝓤 H A mem run) (WpFn 𝓤 H (𝓣 .C) (𝓣 .Λ) code.function)
-      (λ κs. (ptr-vals, (slice-vals, (slice-vals, (slice-vals, tt)))))
-      (λ κs. (
-        shr-tells (named 0) (κs .0) Q.the-row,
-        (
-          mut-slice-tells (named 1) (κs .1 .0) C.the-row,
-          (shr-slice-tells (named 2) (κs .1 .1 .0) u8, (mut-slice-tells (named 3) (κs .1 .1 .1 .0) u8, tt)),
-        ),
-      ))
+  here-meets : Meets 𝓤 H A here.signature (WpFn 𝓤 H (𝓣 .C) (𝓣 .Λ) code.function) (here.spec 𝓤 H A mem run)
+  here-meets = meets here.ended ways 𝓤 H A W 𝓣 code.function (here.clauses 𝓤 H A mem run)
       (λ κs qs bounds a _ are. via 𝓤 _ (fst∗ 𝓤 _ (emp 𝓤))
       (walk 𝓤 H A W mem run (κs .0) (κs .1 .0) (κs .1 .1 .0) (κs .1 .1 .1 .0) (qs .0) (qs .1 .0) (qs .1 .1 .0) (qs .1 .1 .1 .0)
       (a .0 .ptr .0) (a .0 .ptr .1) (a .0 .name) (a .0 .now) (a .1 .0 .ptr .0) (a .1 .0 .ptr .1) (a .1 .0 .name) (a .1 .0 .now)
       (a .1 .1 .0 .ptr .0) (a .1 .1 .0 .ptr .1) (a .1 .1 .0 .name) (a .1 .1 .0 .now) (a .1 .1 .1 .0 .ptr .0) (a .1 .1 .1 .0 .ptr .1)
       (a .1 .1 .1 .0 .name) (a .1 .1 .1 .0 .now)
       (are .1 .0 .0 .1) (are .1 .1 .0 .0 .1) (are .1 .1 .1 .0 .0 .1) (𝓣 .C) (𝓣 .Λ) (fmOf 𝓤 H (W .laws) 𝓣) known-last known-needed known-few
-      known-small known-more))
-
-  here-meets : Meets 𝓤 H A here.signature (WpFn 𝓤 H (𝓣 .C) (𝓣 .Λ) code.function) (here.spec 𝓤 H A mem run)
-  here-meets = walk-meets 𝓤 H A here.ended stayed W (
-    goes-dropped 𝓤 H A W 4 (shrRefTo (0 ∷ []) tt (plain (λ _. Q.the-row))) yes (λ κs x f. refl),
-    (
-      goes-gave-slice 𝓤 H A W 4 1 tt (plain (λ _. C.the-row)),
-      (
-        goes-dropped 𝓤 H A W 4 (shrSliceOf (2 ∷ []) tt (plain (λ _. u8))) yes (λ κs x f. refl),
-        (goes-gave-slice 𝓤 H A W 4 3 tt (plain (λ _. u8)), tt),
-      ),
-    ),
-  )
-      (here.clauses 𝓤 H A mem run) (WpFn 𝓤 H (𝓣 .C) (𝓣 .Λ) code.function) (WpFn-mono 𝓤 H (W .laws) 𝓣 code.function) here-walks
+      known-small known-more .go))
 
 pub take-spec : {M : Type 1} → stated.statement M
 unfolding code.routine tablesOf

@@ -2,17 +2,12 @@
 -- `load` and given up to `free_turn`; the words are lent to `load` and shared for the core; the joining buffer is given up to the core.
 -- Assumes nothing.
 use Rattle.walks.proofs.Walk.{_≡_, refl, sym, subst, ℕ, _+_, _<_, _≤_, _*_, _^_, arith, List, [], _∷_, length, T, URA, fullShare, named}
-use Rattle.walks.proofs.Walk.{w64, tyInt, tyUnit, Val, vint, vptr, hasTy, WT, SProp, ent, Lft, GName, Share, ftrue, fat, flft, Memory}
-use Rattle.walks.proofs.Walk.{Routine, Heap, Calls, Loops, WpFn, Tables, Atoms, FmC, fmOf, WpFn-mono, Fun, givenOf, tables, tablesOf, Given}
-use Rattle.walks.proofs.Walk.{Item, ‵, _⊛_, ⋆, _$_, _∵_, !, qed, by, move, keep, split, join, rewrite, fsplit, fjoin, suffices, frame, done}
-use Rattle.walks.proofs.Walk.{agg}
-use Rattle.walks.proofs.Walk.{whole, sub, look-in, look, store, init, stop, hop, fld, from, load, of-opd, addr, and-then, no-more, land}
-use Rattle.walks.proofs.Walk.{assigns, returns, enter, alloc1, alloc0, params1, pass1, pass0, yes, owns, Is, shows, uint-vals}
-use Rattle.walks.proofs.Walk.{uint-tells, u8, u32, usize, RefT, ShrRef, now, ptr-vals, shr-tells, sliceVal, MutSlice, ShrSlice, Room}
-use Rattle.walks.proofs.Walk.{finally, slice-vals, mut-slice-tells, shr-slice-tells, plain, shrRefTo, shrSliceOf, only, owned, peeks}
-use Rattle.walks.proofs.Walk.{nothing, onEntry}
-use Rattle.walks.proofs.Walk.{Triple, Meets, tripleOf, entered, cited, says, Stays, stay-dropped, stay-slice, gave-slice, walkOf, Walks}
-use Rattle.walks.proofs.Walk.{ends-at, walked, goes-dropped, goes-slice, goes-gave-slice, walk-meets}
+use Rattle.walks.proofs.Walk.{w64, tyInt, tyUnit, Val, vint, vptr, hasTy, WT, SProp, ent, Lft, GName, Share, fat, flft, Memory, Routine}
+use Rattle.walks.proofs.Walk.{Heap, Calls, Loops, WpFn, Tables, Atoms, FmC, fmOf, Fun, givenOf, tables, tablesOf, Given, Item, ‵, ⋆, _$_}
+use Rattle.walks.proofs.Walk.{_∵_, !, qed, by, move, keep, join, rewrite, fjoin, suffices, frame, done, whole, sub, look-in, look, store}
+use Rattle.walks.proofs.Walk.{init, stop, fld, from, load, of-opd, and-then, no-more, land, assigns, returns, Is, shows, u8, u32, RefT, now}
+use Rattle.walks.proofs.Walk.{sliceVal, MutSlice, Room, finally, plain, only, owned, peeks, nothing, Triple, Meets, tripleOf, entered}
+use Rattle.walks.proofs.Walk.{cited, says, Stays, walkOf, ends-at, Go}
 use denote.Struct.Laws as LL
 use denote.Enum.Laws as EL
 use denote.Triple.Walked.{needs}
@@ -31,7 +26,10 @@ use Rattle.recv_queue.specs.Records.{loaded, freedTo}
 use Rattle.recv_queue.specs.Answers.{rowsWritten}
 use Rattle.recv_queue.proofs.Takes.{Enough, enough-few, CallSays, taken-in}
 use Rattle.recv_queue.proofs.Written.{written-within}
-use Rattle.walks.proofs.Order.{entry, var, gone}
+use Rattle.walks.proofs.Order.{var, gone}
+use Rattle.walks.proofs.Again.{relends}
+use Rattle.walks.proofs.Begin.{Begins, begins}
+use Rattle.walks.proofs.Ways.{_&_, Ways, had-at-exit, meets, given-slice, kept-slice, read-ref, read-slice, uint}
 use Rattle.walks.proofs.Slices.{lending, returned, sharing, unshared}
 use Rattle.recv_queue.proofs.Calls.{Load, calls-load}
 use Rattle.recv_queue.proofs.taking.Core.{Core, RowsFreed, FreeTurn, AnswerOf, calls-core, calls-freed, calls-turn, calls-answer}
@@ -57,23 +55,12 @@ use Rattle.recv_queue.proofs.taking.take_in.Code as code
 
 -- what the walk still has of each parameter at exit: the receiver, the number and the store nothing, the records and the joining buffer
 -- only their last values, the words all
+abbrev ways : Ways (here.ended .signature .params) (here.ended .kept)
+ways = read-ref 0 tt (plain (λ _. Q.the-row)) & given-slice 1 tt (plain (λ _. C.the-row)) & kept-slice 2 tt (plain (λ _. u32)) & uint w64
+    & read-slice 3 tt (plain (λ _. u8)) & given-slice 4 tt (plain (λ _. u8)) & tt
+
 abbrev stayed : Stays (here.ended .signature .params) (here.ended .kept)
-stayed = (
-  stay-dropped (shrRefTo (0 ∷ []) tt (plain (λ _. Q.the-row))) yes,
-  (
-    gave-slice (1 ∷ []) tt (plain (λ _. C.the-row)),
-    (
-      stay-slice (2 ∷ []) tt (plain (λ _. u32)),
-      (
-        stay-dropped (plain (λ _. usize)) yes,
-        (
-          stay-dropped (shrSliceOf (3 ∷ []) tt (plain (λ _. u8))) yes,
-          (gave-slice (4 ∷ []) tt (plain (λ _. u8)), tt),
-        ),
-      ),
-    ),
-  ),
-)
+stayed = had-at-exit here.ended ways
 
 module _ {M : Type 1} (𝓤 : URA M) (H : Heap 𝓤) (A : Atoms 𝓤) (W : Given 𝓤 H A) (mem : Memory → SProp 𝓤) (run : Routine → Fun 𝓤)
     (κ₀ κ₁ κ₂ κ₃ κ₄ : Lft) (q₀ q₁ q₂ q₃ q₄ : Share) (b₀ o₀ : ℕ) (γ₀ : GName) (queue : RecvQueue) (b₁ o₁ : ℕ) (γ₁ : GName)
@@ -164,51 +151,18 @@ module _ {M : Type 1} (𝓤 : URA M) (H : Heap 𝓤) (A : Atoms 𝓤) (W : Given
       (RowsFreed 𝓤 H A mem run))
       (known-turn : Triple 𝓤 (C′ #recv-queue·free-turn) (FreeTurn 𝓤 H A mem run)) (known-answer : Triple 𝓤 (C′ #recv-queue·taking·answer-of)
       (AnswerOf 𝓤 H A mem run)) where
-    walk : ent 𝓤 (onEntry 𝓤 H A here.signature (κ₀, (κ₁, (κ₂, (κ₃, (κ₄, tt))))) (q₀, (q₁, (q₂, (q₃, (q₄, tt)))))
-        (g, (x γ₁, (y γ₂ ws, (n, (s, (j, tt)))))) (vg ∷ [], (vx ∷ [], (vy ∷ [], (vint w64 n ∷ [], (vs ∷ [], (vj ∷ [], tt)))))))
-        (WpFn 𝓤 H C′ Λ code.function (vg ∷ vx ∷ vy ∷ vint w64 n ∷ vs ∷ vj ∷ []) Post)
-    walk =
-        qed W ((‵ (flft κ₀ q₀) ⊛ (‵ (flft κ₁ q₁) ⊛ (‵ (flft κ₂ q₂) ⊛ (‵ (flft κ₃ q₃) ⊛ (‵ (flft κ₄ q₄) ⊛ ‵ ftrue)))))
-        ∷ ‵ (owns (ShrRef (named 0) κ₀ Q.the-row ∷ MutSlice (named 1) κ₁ C.the-row ∷ MutSlice (named 2) κ₂ u32 ∷ usize
-        ∷ ShrSlice (named 3) κ₃ u8 ∷ MutSlice (named 4) κ₄ u8 ∷ []) (g, (x γ₁, (y γ₂ ws, (n, (s, (j, tt))))))
-        (vg ∷ [], (vx ∷ [], (vy ∷ [], (vint w64 n ∷ [], (vs ∷ [], (vj ∷ [], tt))))))) ∷ []) ∵
-        enter ! C′ Λ code.function (vg ∷ vx ∷ vy ∷ vint w64 n ∷ vs ∷ vj ∷ []) _ $
-        alloc1 ! (λ l₀. alloc1 !
-        (λ l₁. alloc1 !
-        (λ l₂. alloc1 !
-        (λ l₃. alloc1 !
-        (λ l₄. alloc1 !
-        (λ l₅. alloc1 !
-        (λ l₆. alloc1 !
-        (λ l₇. alloc1 !
-        (λ l₈. alloc1 ! (λ l₉. alloc1 ! (λ l₁₀. alloc1 !
-        (λ l₁₁. alloc1 ! (λ l₁₂. alloc1 ! (λ l₁₃. alloc1 !
-        (λ l₁₄. alloc1 ! (λ l₁₅. alloc1 ! (λ l₁₆. alloc1 !
-        (λ l₁₇. alloc1 ! (λ l₁₈. alloc1 ! (λ l₁₉. alloc1 ! (λ l₂₀. alloc0 ! $ params1 ! $
-        pass1 ! (init ! 38 refl (tt, tt)) $ pass1 ! (init ! 36 refl (tt, (tt, (record { fits = room₁ .0 }, tt)))) $
-        pass1 ! (init ! 34 refl (tt, (tt, (record { fits = room₂ .0 }, tt)))) $
-        pass1 ! (init ! 32 refl (tt, record { fits = n-fits })) $ pass1 ! (init ! 30 refl (tt, (tt, (record { fits = room₃ .0 }, tt)))) $
-        pass1 ! (init ! 28 refl (tt, (tt, (record { fits = room₄ .0 }, tt)))) $ pass0 ! $
-        move ! (43 ∷ []) $ fsplit ! $ move ! (1 ∷ []) $ fsplit ! $ move ! (1 ∷ []) $ fsplit ! $ move ! (1 ∷ []) $ fsplit ! $ move ! (1 ∷ [])
-        $ fsplit ! $ move ! (1 ∷ []) $ fsplit ! $ move ! (49 ∷ []) $ split ! $ move ! (1 ∷ []) $ split ! $ move ! (1 ∷ []) $ split ! $
-        move ! (1 ∷ []) $ split ! $ move ! (1 ∷ []) $ split ! $
-        -- from here on what is owned stands first, then the locals _0, _1, …, _20, then that each dies: with k things owned, local i is at
-        -- k + i
-        keep ! (11 ∷ 4 ∷ 10 ∷ 3 ∷ 8 ∷ 2 ∷ 6 ∷ 0 ∷ 12 ∷ 5 ∷ entry 13 21) $
+    walk : Begins (Go {0}) W here.signature (Bound .0) C′ Λ code.function Post
+    walk = begins ! (keep ! (1 ∷ 7 ∷ 2 ∷ 8 ∷ 4 ∷ 9 ∷ 5 ∷ 10 ∷ 0 ∷ 6 ∷ []))
+        ((tt, tt) & (tt, (tt, (record { fits = room₁ .0 }, tt))) & (tt, (tt, (record { fits = room₂ .0 }, tt)))
+        & (tt, record { fits = n-fits })
+        & (tt, (tt, (record { fits = room₃ .0 }, tt))) & (tt, (tt, (record { fits = room₄ .0 }, tt))) & tt)
+        (λ l₀ l₁ l₂ l₃ l₄ l₅ l₆ l₇ l₈ l₉ l₁₀ l₁₁ l₁₂ l₁₃ l₁₄ l₁₅ l₁₆ l₁₇ l₁₈ l₁₉ l₂₀.
         -- 10: [records; [κ₁]; words; [κ₂]; store; [κ₃]; joining buffer; [κ₄]; receiver; [κ₀]]: the records are shared, and the words lent,
         -- for `load`
         sharing C.the-row κ₁ q₁ (x γ₁) (length rs) ! tt (λ α δ. move ! (3 ∷ 4 ∷ []) $ lending u32 κ₂ q₂ (y γ₂ ws) (length ws) ! tt (λ β ε.
         -- 12: [the lent words; what is kept; [β]; the shared records; what is kept; [α]; store; [κ₃]; joining buffer; [κ₄]; receiver; [κ₀]]
-        assigns ! (addr ! (from ! (fld ! refl (hop ! (look-in ! (12 + 2) (sub ! 0 refl (whole !))) (stop !))))) (from ! (stop !))
-        (init ! (12 + 10) refl (tt, tt)) $
-        assigns ! (agg ! (and-then ! (var ! (12 + 10) refl) (and-then !
-        (load ! (from ! (fld ! refl (stop !))) (look-in ! (12 + 2) (sub ! 1 refl (whole !)))) (no-more !)))) (from ! (stop !))
-        (init ! (12 + 11) refl (tt, (tt, (record { fits = room₁ .0 }, tt)))) $
-        assigns ! (addr ! (from ! (fld ! refl (hop ! (look-in ! (12 + 3) (sub ! 0 refl (whole !))) (stop !))))) (from ! (stop !))
-        (init ! (12 + 12) refl (tt, tt)) $
-        assigns ! (agg ! (and-then ! (var ! (12 + 12) refl) (and-then !
-        (load ! (from ! (fld ! refl (stop !))) (look-in ! (12 + 3) (sub ! 1 refl (whole !)))) (no-more !)))) (from ! (stop !))
-        (init ! (12 + 13) refl (tt, (tt, (record { fits = room₂ .0 }, tt)))) $
+        relends ! (12 + 2) (12 + 10) (12 + 11) refl refl (room₁ .0) $
+        relends ! (12 + 3) (12 + 12) (12 + 13) refl refl (room₂ .0) $
         move ! (5 ∷ 2 ∷ 3 ∷ 0 ∷ []) $ calls-load 𝓤 H A W mem run (α ∷ []) (β ∷ []) fullShare fullShare (x δ) (y ε ws) n vx vy ! fm
         known-load (all, wide) n-fits (and-then ! (var ! (9 + 11) refl)
         (and-then ! (var ! (9 + 13) refl) (and-then ! (var ! (9 + 4) refl) (no-more !)))) (λ u₀ f.
@@ -220,18 +174,10 @@ module _ {M : Type 1} (𝓤 : URA M) (H : Heap 𝓤) (A : Atoms 𝓤) (W : Given
         -- 10: [words; [κ₂]; records; [κ₁]; store; [κ₃]; joining buffer; [κ₄]; receiver; [κ₀]]: the words are shared for the core
         sharing u32 κ₂ q₂ (y γ₂ w₁) (length ws) ! tt (λ α′ ε′.
         -- 11: [the shared words; what is kept; [α′]; records; [κ₁]; store; [κ₃]; joining buffer; [κ₄]; receiver; [κ₀]]
-        assigns ! (addr ! (from ! (fld ! refl (hop ! (look-in ! (11 + 3) (sub ! 0 refl (whole !))) (stop !))))) (from ! (stop !))
-        (init ! (11 + 14) refl (tt, tt)) $
-        assigns ! (agg ! (and-then ! (var ! (11 + 14) refl) (and-then !
-        (load ! (from ! (fld ! refl (stop !))) (look-in ! (11 + 3) (sub ! 1 refl (whole !)))) (no-more !)))) (from ! (stop !))
-        (init ! (11 + 15) refl (tt, (tt, (record { fits = room₂ .0 }, tt)))) $
+        relends ! (11 + 3) (11 + 14) (11 + 15) refl refl (room₂ .0) $
         assigns ! (of-opd ! (load ! (from ! (fld ! refl (stop !))) (look-in ! (11 + 2) (sub ! 1 refl (whole !))))) (from ! (stop !))
         (init ! (11 + 16) refl (tt, record { fits = room₁ .0 })) $
-        assigns ! (addr ! (from ! (fld ! refl (hop ! (look-in ! (11 + 6) (sub ! 0 refl (whole !))) (stop !))))) (from ! (stop !))
-        (init ! (11 + 17) refl (tt, tt)) $
-        assigns ! (agg ! (and-then ! (var ! (11 + 17) refl) (and-then !
-        (load ! (from ! (fld ! refl (stop !))) (look-in ! (11 + 6) (sub ! 1 refl (whole !)))) (no-more !)))) (from ! (stop !))
-        (init ! (11 + 18) refl (tt, (tt, (record { fits = room₄ .0 }, tt)))) $
+        relends ! (11 + 6) (11 + 17) (11 + 18) refl refl (room₄ .0) $
         move ! (10 ∷ 2 ∷ 6 ∷ 8 ∷ 9 ∷ 0 ∷ 5 ∷ 7 ∷ []) $ calls-core 𝓤 H A W mem run κ₀ (α′ ∷ []) κ₃ κ₄ q₀ fullShare q₃ q₄ g (y ε′ w₁) n
         (length rs) s j vg vy vs vj ! fm known-core n-fits (room₁ .0)
         (and-then ! (var ! (4 + 1) refl) (and-then ! (var ! (4 + 15) refl)
@@ -249,11 +195,7 @@ module _ {M : Type 1} (𝓤 : URA M) (H : Heap 𝓤) (A : Atoms 𝓤) (W : Given
         (tt, record { fits = e₈ .1 }))) $ rewrite ! (8 + 8) (λ (z : Val). ‵ (fat fullShare (tyInt w64) l₈ 0 z)) (e₈ .0) refl $
         move ! (3 ∷ 5 ∷ []) $ unshared u32 κ₂ q₂ (y γ₂ w₁) (length ws) ! tt α′ room₂ (f .1) $
         -- 8: [words; [κ₂]; the joining buffer's last value; [κ₄]; [κ₃]; [κ₀]; records; [κ₁]]
-        assigns ! (addr ! (from ! (fld ! refl (hop ! (look-in ! (8 + 2) (sub ! 0 refl (whole !))) (stop !))))) (from ! (stop !))
-        (init ! (8 + 19) refl (tt, tt)) $
-        assigns ! (agg ! (and-then ! (var ! (8 + 19) refl) (and-then !
-        (load ! (from ! (fld ! refl (stop !))) (look-in ! (8 + 2) (sub ! 1 refl (whole !)))) (no-more !)))) (from ! (stop !))
-        (init ! (8 + 20) refl (tt, (tt, (record { fits = room₁ .0 }, tt)))) $
+        relends ! (8 + 2) (8 + 19) (8 + 20) refl refl (room₁ .0) $
         move ! (7 ∷ 6 ∷ []) $ calls-turn 𝓤 H A W mem run κ₁ q₁ (x γ₁) (m r) (r .turn) vx ! fm known-turn (within r) (e₈ .1)
         (turn-fits r v is) (and-then ! (var ! (7 + 20) refl)
         (and-then ! (var ! (7 + 8) refl) (and-then ! (load ! (from ! (fld ! refl (stop !)))
@@ -266,7 +208,7 @@ module _ {M : Type 1} (𝓤 : URA M) (H : Heap 𝓤) (A : Atoms 𝓤) (W : Given
         -- 9: [the answer; [κ₁]; the records' last value; words; [κ₂]; the joining buffer's last value; [κ₄]; [κ₃]; [κ₀]]
         land ! (from ! (stop !)) (init ! (9 + 0) refl (EL.lawful P.the-type P′.the-laws 𝓤 H A W tt .typed (r .answer) _ is₀ .0)) $
         returns ! (look ! 9 refl) $ gone ! 9 refl $
-        by ! (exits v₀ r u (taken-in queue rs st js n enough ws r u wide (e .1)) (i .1) (f .1) (e .0)))))))))))))))))))))))))))))))))
+        by ! (exits v₀ r u (taken-in queue rs st js n enough ws r u wide (e .1)) (i .1) (f .1) (e .0)))))))))))))
       where
         all : n ≤ length rs
         all = enough-few rs st n enough .0
@@ -287,22 +229,8 @@ module _ {M : Type 1} (𝓤 : URA M) (H : Heap 𝓤) (A : Atoms 𝓤) (W : Given
     (RowsFreed 𝓤 H A mem run))
     (known-turn : Triple 𝓤 (𝓣 .C #recv-queue·free-turn) (FreeTurn 𝓤 H A mem run))
     (known-answer : Triple 𝓤 (𝓣 .C #recv-queue·taking·answer-of) (AnswerOf 𝓤 H A mem run)) where
-  here-walks : Walks 𝓤 H A here.ended stayed (WpFn 𝓤 H (𝓣 .C) (𝓣 .Λ) code.function) (here.clauses 𝓤 H A mem run)
-  here-walks = walked 𝓤 H A here.ended stayed (here.clauses 𝓤 H A mem run) (WpFn 𝓤 H (𝓣 .C) (𝓣 .Λ) code.function)
-      (λ κs. (ptr-vals, (slice-vals, (slice-vals, (uint-vals w64, (slice-vals, (slice-vals, tt)))))))
-      (λ κs. (
-        shr-tells (named 0) (κs .0) Q.the-row,
-        (
-          mut-slice-tells (named 1) (κs .1 .0) C.the-row,
-          (
-            mut-slice-tells (named 2) (κs .1 .1 .0) u32,
-            (
-              uint-tells w64,
-              (shr-slice-tells (named 3) (κs .1 .1 .1 .0) u8, (mut-slice-tells (named 4) (κs .1 .1 .1 .1 .0) u8, tt)),
-            ),
-          ),
-        ),
-      ))
+  here-meets : Meets 𝓤 H A here.signature (WpFn 𝓤 H (𝓣 .C) (𝓣 .Λ) code.function) (here.spec 𝓤 H A mem run)
+  here-meets = meets here.ended ways 𝓤 H A W 𝓣 code.function (here.clauses 𝓤 H A mem run)
       (λ κs qs bounds a _ are. needs 𝓤 (Enough (now (a .1 .0)) (now (a .1 .1 .1 .1 .0)) (a .1 .1 .1 .0)
       × (rowWords * a .1 .1 .1 .0 ≤ length (now (a .1 .1 .0)))) _ (λ fits.
       walk 𝓤 H A W mem run (κs .0) (κs .1 .0) (κs .1 .1 .0) (κs .1 .1 .1 .0) (κs .1 .1 .1 .1 .0) (qs .0) (qs .1 .0) (qs .1 .1 .0)
@@ -312,26 +240,7 @@ module _ {M : Type 1} (𝓤 : URA M) (H : Heap 𝓤) (A : Atoms 𝓤) (W : Given
       (a .1 .1 .1 .1 .0 .ptr .1) (a .1 .1 .1 .1 .0 .name) (a .1 .1 .1 .1 .0 .now) (a .1 .1 .1 .1 .1 .0 .ptr .0)
       (a .1 .1 .1 .1 .1 .0 .ptr .1) (a .1 .1 .1 .1 .1 .0 .name) (a .1 .1 .1 .1 .1 .0 .now)
       (are .1 .0 .0 .1) (are .1 .1 .0 .0 .1) (are .1 .1 .1 .1 .0 .0 .1) (are .1 .1 .1 .1 .1 .0 .0 .1) (are .1 .1 .1 .0 .1) (fits .0)
-      (fits .1) (𝓣 .C) (𝓣 .Λ) (fmOf 𝓤 H (W .laws) 𝓣) known-load known-core known-freed known-turn known-answer))
-
-  here-meets : Meets 𝓤 H A here.signature (WpFn 𝓤 H (𝓣 .C) (𝓣 .Λ) code.function) (here.spec 𝓤 H A mem run)
-  here-meets = walk-meets 𝓤 H A here.ended stayed W (
-    goes-dropped 𝓤 H A W 5 (shrRefTo (0 ∷ []) tt (plain (λ _. Q.the-row))) yes (λ κs x f. refl),
-    (
-      goes-gave-slice 𝓤 H A W 5 1 tt (plain (λ _. C.the-row)),
-      (
-        goes-slice 𝓤 H A W 5 2 tt (plain (λ _. u32)),
-        (
-          goes-dropped 𝓤 H A W 5 (plain (λ _. usize)) yes (λ κs x f. refl),
-          (
-            goes-dropped 𝓤 H A W 5 (shrSliceOf (3 ∷ []) tt (plain (λ _. u8))) yes (λ κs x f. refl),
-            (goes-gave-slice 𝓤 H A W 5 4 tt (plain (λ _. u8)), tt),
-          ),
-        ),
-      ),
-    ),
-  )
-      (here.clauses 𝓤 H A mem run) (WpFn 𝓤 H (𝓣 .C) (𝓣 .Λ) code.function) (WpFn-mono 𝓤 H (W .laws) 𝓣 code.function) here-walks
+      (fits .1) (𝓣 .C) (𝓣 .Λ) (fmOf 𝓤 H (W .laws) 𝓣) known-load known-core known-freed known-turn known-answer .go))
 
 pub take-in-spec : {M : Type 1} → stated.statement M
 unfolding code.routine tablesOf

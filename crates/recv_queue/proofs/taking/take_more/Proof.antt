@@ -1,17 +1,12 @@
 -- `recv_queue::taking::take_more` meets its contract: a walk of its MIR, by hand. Each arm of the branches is one call, to which the
 -- records and the joining buffer are given up.
 -- Assumes nothing.
-use Rattle.walks.proofs.Walk.{_≡_, refl, ℕ, _+_, _<_, _≤_, _^_, arith, List, [], _∷_, length, leb→le, URA, named, w64, Val, vint, vptr}
-use Rattle.walks.proofs.Walk.{SProp, ent, Lft, GName, Share, ftrue, flft, Memory, Routine, Heap, Calls, Loops, WpFn, Tables, Atoms, FmC}
-use Rattle.walks.proofs.Walk.{fmOf, WpFn-mono, Fun, givenOf, tables, tablesOf, Given, Item, ‵, _⊛_, ⋆, _$_, _∵_, !, qed, by, move, keep}
-use Rattle.walks.proofs.Walk.{split, join, fsplit, fjoin, suffices, frame, done, agg, whole, sub, look-in, look, store, init, stop, hop}
-use Rattle.walks.proofs.Walk.{fld, from}
-use Rattle.walks.proofs.Walk.{load, lit, bin, addr, and-then, no-more, land, assigns, returns, returns-within, enter, alloc1, alloc0}
-use Rattle.walks.proofs.Walk.{params1, pass1, pass0, yes, owns, Is, shows, uint-vals, uint-tells, u8, usize, RefT, ShrRef}
-use Rattle.walks.proofs.Walk.{now, ptr-vals, shr-tells, sliceVal, MutSlice, ShrSlice, Room, finally, slice-vals, mut-slice-tells}
-use Rattle.walks.proofs.Walk.{shr-slice-tells, plain, shrRefTo, shrSliceOf, peeks, nothing, onEntry, Triple, Meets, tripleOf, entered}
-use Rattle.walks.proofs.Walk.{cited, says, Stays}
-use Rattle.walks.proofs.Walk.{stay-dropped, gave-slice, walkOf, Walks, ends-at, walked, goes-dropped, goes-gave-slice, walk-meets}
+use Rattle.walks.proofs.Walk.{_≡_, refl, ℕ, _+_, _<_, _≤_, _^_, arith, List, [], _∷_, length, leb→le, URA, w64, Val, vint, vptr, SProp, ent}
+use Rattle.walks.proofs.Walk.{Lft, GName, Share, flft, Memory, Routine, Heap, Calls, Loops, WpFn, Tables, Atoms, FmC, fmOf, Fun, givenOf}
+use Rattle.walks.proofs.Walk.{tables, tablesOf, Given, Item, ‵, ⋆, _$_, _∵_, !, qed, by, move, keep, join, fjoin, suffices, frame, done}
+use Rattle.walks.proofs.Walk.{look, store, init, stop, from, lit, bin, and-then, no-more, land, assigns, returns, returns-within, Is, shows}
+use Rattle.walks.proofs.Walk.{u8, RefT, now, sliceVal, Room, finally, plain, peeks, nothing, Triple, Meets, tripleOf, entered, cited, says}
+use Rattle.walks.proofs.Walk.{Stays, walkOf, ends-at, Go}
 use denote.Enum.Laws as EL
 use denote.Triple.Walked.{needs}
 use Rattle.cells.specs.declared.CellRecord.{CellRecord}
@@ -23,7 +18,10 @@ use Rattle.recv_take.proofs.Take as P
 use Rattle.recv_take.proofs.Take.Laws as P′
 use Rattle.recv_queue.specs.Call.{middleCells, manyCells, mostCells}
 use Rattle.recv_queue.proofs.Takes.{Enough, enough-few, CallSays}
-use Rattle.walks.proofs.Order.{entry, var, if-returns, big-lit, gone}
+use Rattle.walks.proofs.Order.{var, if-returns, big-lit, gone}
+use Rattle.walks.proofs.Again.{relends}
+use Rattle.walks.proofs.Begin.{Begins, begins}
+use Rattle.walks.proofs.Ways.{_&_, Ways, had-at-exit, meets, given-slice, read-ref, read-slice, uint}
 use Rattle.recv_queue.proofs.taking.Sizes.{Sized, calls-sized}
 use Rattle.recv_queue.proofs.taking.take_middle.Symbol as middle-def
 use Rattle.recv_queue.proofs.taking.take_middle.Symbol.{name as #recv-queue·taking·take-middle}
@@ -40,20 +38,12 @@ use Rattle.recv_queue.proofs.taking.take_more.Statement as stated
 use Rattle.recv_queue.proofs.taking.take_more.Code as code
 
 -- what the walk still has of each parameter at exit: of the records and of the joining buffer their last values
+abbrev ways : Ways (here.ended .signature .params) (here.ended .kept)
+ways = read-ref 0 tt (plain (λ _. Q.the-row)) & given-slice 1 tt (plain (λ _. C.the-row)) & uint w64 & read-slice 2 tt (plain (λ _. u8))
+    & given-slice 3 tt (plain (λ _. u8)) & uint w64 & tt
+
 abbrev stayed : Stays (here.ended .signature .params) (here.ended .kept)
-stayed = (
-  stay-dropped (shrRefTo (0 ∷ []) tt (plain (λ _. Q.the-row))) yes,
-  (
-    gave-slice (1 ∷ []) tt (plain (λ _. C.the-row)),
-    (
-      stay-dropped (plain (λ _. usize)) yes,
-      (
-        stay-dropped (shrSliceOf (2 ∷ []) tt (plain (λ _. u8))) yes,
-        (gave-slice (3 ∷ []) tt (plain (λ _. u8)), (stay-dropped (plain (λ _. usize)) yes, tt)),
-      ),
-    ),
-  ),
-)
+stayed = had-at-exit here.ended ways
 
 module _ {M : Type 1} (𝓤 : URA M) (H : Heap 𝓤) (A : Atoms 𝓤) (W : Given 𝓤 H A) (mem : Memory → SProp 𝓤) (run : Routine → Fun 𝓤)
     (κ₀ κ₁ κ₂ κ₃ : Lft) (q₀ q₁ q₂ q₃ : Share) (b₀ o₀ : ℕ) (γ₀ : GName) (queue : RecvQueue) (b₁ o₁ : ℕ) (γ₁ : GName) (rs : List CellRecord)
@@ -124,49 +114,18 @@ module _ {M : Type 1} (𝓤 : URA M) (H : Heap 𝓤) (A : Atoms 𝓤) (W : Given
     up-to : (b : ℕ) → m ≤ b → n ≤ b
     up-to b l = omega (arith, within)
 
-    walk : ent 𝓤 (onEntry 𝓤 H A here.signature (κ₀, (κ₁, (κ₂, (κ₃, tt)))) (q₀, (q₁, (q₂, (q₃, tt)))) (g, (x γ₁, (n, (s, (j, (m, tt))))))
-        (vg ∷ [], (vx ∷ [], (vint w64 n ∷ [], (vs ∷ [], (vj ∷ [], (vint w64 m ∷ [], tt)))))))
-        (WpFn 𝓤 H C′ Λ code.function (vg ∷ vx ∷ vint w64 n ∷ vs ∷ vj ∷ vint w64 m ∷ []) Post)
-    walk =
-        qed W ((‵ (flft κ₀ q₀) ⊛ (‵ (flft κ₁ q₁) ⊛ (‵ (flft κ₂ q₂) ⊛ (‵ (flft κ₃ q₃) ⊛ ‵ ftrue))))
-        ∷ ‵ (owns (ShrRef (named 0) κ₀ Q.the-row ∷ MutSlice (named 1) κ₁ C.the-row ∷ usize ∷ ShrSlice (named 2) κ₂ u8
-        ∷ MutSlice (named 3) κ₃ u8 ∷ usize ∷ []) (g, (x γ₁, (n, (s, (j, (m, tt))))))
-        (vg ∷ [], (vx ∷ [], (vint w64 n ∷ [], (vs ∷ [], (vj ∷ [], (vint w64 m ∷ [], tt))))))) ∷ []) ∵
-        enter ! C′ Λ code.function (vg ∷ vx ∷ vint w64 n ∷ vs ∷ vj ∷ vint w64 m ∷ []) _ $
-        alloc1 ! (λ l₀. alloc1 !
-        (λ l₁. alloc1 !
-        (λ l₂. alloc1 !
-        (λ l₃. alloc1 !
-        (λ l₄. alloc1 !
-        (λ l₅. alloc1 !
-        (λ l₆. alloc1 !
-        (λ l₇. alloc1 !
-        (λ l₈. alloc1 ! (λ l₉. alloc1 ! (λ l₁₀. alloc1 !
-        (λ l₁₁. alloc1 ! (λ l₁₂. alloc1 ! (λ l₁₃. alloc1 !
-        (λ l₁₄. alloc1 ! (λ l₁₅. alloc1 ! (λ l₁₆. alloc1 ! (λ l₁₇. alloc1 ! (λ l₁₈. alloc1 ! (λ l₁₉. alloc0 ! $ params1 ! $
-        pass1 ! (init ! 36 refl (tt, tt)) $ pass1 ! (init ! 34 refl (tt, (tt, (record { fits = room₁ .0 }, tt)))) $
-        pass1 ! (init ! 32 refl (tt, record { fits = n-fits })) $ pass1 ! (init ! 30 refl (tt, (tt, (record { fits = room₂ .0 }, tt))))
-        $ pass1 ! (init ! 28 refl (tt, (tt, (record { fits = room₃ .0 }, tt)))) $
-        pass1 ! (init ! 26 refl (tt, record { fits = m-fits })) $ pass0 ! $
-        move ! (41 ∷ []) $ fsplit ! $ move ! (1 ∷ []) $ fsplit ! $ move ! (1 ∷ []) $ fsplit ! $ move ! (1 ∷ []) $ fsplit ! $ move ! (1 ∷ [])
-        $ fsplit ! $ move ! (46 ∷ []) $ split ! $ move ! (1 ∷ []) $ split ! $ move ! (1 ∷ []) $ split ! $ move ! (1 ∷ []) $ split ! $
-        -- from here on what is owned stands first, then the locals _0, …, _19, then that each dies: with k things owned, local i is at k +
-        -- i
-        keep ! (4 ∷ 3 ∷ 2 ∷ 0 ∷ 10 ∷ 9 ∷ 7 ∷ 5 ∷ entry 11 20) $
+    walk : Begins (Go {0}) W here.signature (Bound .0) C′ Λ code.function Post
+    walk = begins ! (keep ! (6 ∷ 7 ∷ 8 ∷ 9 ∷ 0 ∷ 1 ∷ 3 ∷ 4 ∷ []))
+        ((tt, tt) & (tt, (tt, (record { fits = room₁ .0 }, tt))) & (tt, record { fits = n-fits })
+        & (tt, (tt, (record { fits = room₂ .0 }, tt))) & (tt, (tt, (record { fits = room₃ .0 }, tt))) & (tt, record { fits = m-fits })
+        & tt)
+        (λ l₀ l₁ l₂ l₃ l₄ l₅ l₆ l₇ l₈ l₉ l₁₀ l₁₁ l₁₂ l₁₃ l₁₄ l₁₅ l₁₆ l₁₇ l₁₈ l₁₉.
         -- 8: [[κ₀]; [κ₁]; [κ₂]; [κ₃]; receiver; records; store; joining buffer]
         assigns ! (bin ! (var ! (8 + 6) refl) (lit ! tt) tt) (from ! (stop !)) (init ! (8 + 7) refl (tt, tt)) $
         if-returns ! (var ! (8 + 7) refl)
         (λ few.
-        assigns ! (addr ! (from ! (fld ! refl (hop ! (look-in ! (8 + 2) (sub ! 0 refl (whole !))) (stop !))))) (from ! (stop !))
-        (init ! (8 + 8) refl (tt, tt)) $
-        assigns ! (agg ! (and-then ! (var ! (8 + 8) refl) (and-then !
-        (load ! (from ! (fld ! refl (stop !))) (look-in ! (8 + 2) (sub ! 1 refl (whole !)))) (no-more !)))) (from ! (stop !))
-        (init ! (8 + 9) refl (tt, (tt, (record { fits = room₁ .0 }, tt)))) $
-        assigns ! (addr ! (from ! (fld ! refl (hop ! (look-in ! (8 + 5) (sub ! 0 refl (whole !))) (stop !))))) (from ! (stop !))
-        (init ! (8 + 10) refl (tt, tt)) $
-        assigns ! (agg ! (and-then ! (var ! (8 + 10) refl) (and-then !
-        (load ! (from ! (fld ! refl (stop !))) (look-in ! (8 + 5) (sub ! 1 refl (whole !)))) (no-more !)))) (from ! (stop !))
-        (init ! (8 + 11) refl (tt, (tt, (record { fits = room₃ .0 }, tt)))) $
+        relends ! (8 + 2) (8 + 8) (8 + 9) refl refl (room₁ .0) $
+        relends ! (8 + 5) (8 + 10) (8 + 11) refl refl (room₃ .0) $
         calls-sized 𝓤 H A W mem run middleCells κ₀ κ₁ κ₂ κ₃ q₀ q₁ q₂ q₃ g (x γ₁) n s j vg vx vs vj ! fm known-middle
         (enough, up-to middleCells (leb→le m middleCells few)) n-fits
         (and-then ! (var ! (1 + 1) refl) (and-then ! (var ! (1 + 9) refl)
@@ -182,16 +141,8 @@ module _ {M : Type 1} (𝓤 : URA M) (H : Heap 𝓤) (A : Atoms 𝓤) (W : Given
         (store ! (8 + 7) refl (tt, tt)) $
         if-returns ! (var ! (8 + 7) refl)
         (λ few.
-        assigns ! (addr ! (from ! (fld ! refl (hop ! (look-in ! (8 + 2) (sub ! 0 refl (whole !))) (stop !))))) (from ! (stop !))
-        (init ! (8 + 12) refl (tt, tt)) $
-        assigns ! (agg ! (and-then ! (var ! (8 + 12) refl) (and-then !
-        (load ! (from ! (fld ! refl (stop !))) (look-in ! (8 + 2) (sub ! 1 refl (whole !)))) (no-more !)))) (from ! (stop !))
-        (init ! (8 + 13) refl (tt, (tt, (record { fits = room₁ .0 }, tt)))) $
-        assigns ! (addr ! (from ! (fld ! refl (hop ! (look-in ! (8 + 5) (sub ! 0 refl (whole !))) (stop !))))) (from ! (stop !))
-        (init ! (8 + 14) refl (tt, tt)) $
-        assigns ! (agg ! (and-then ! (var ! (8 + 14) refl) (and-then !
-        (load ! (from ! (fld ! refl (stop !))) (look-in ! (8 + 5) (sub ! 1 refl (whole !)))) (no-more !)))) (from ! (stop !))
-        (init ! (8 + 15) refl (tt, (tt, (record { fits = room₃ .0 }, tt)))) $
+        relends ! (8 + 2) (8 + 12) (8 + 13) refl refl (room₁ .0) $
+        relends ! (8 + 5) (8 + 14) (8 + 15) refl refl (room₃ .0) $
         calls-sized 𝓤 H A W mem run manyCells κ₀ κ₁ κ₂ κ₃ q₀ q₁ q₂ q₃ g (x γ₁) n s j vg vx vs vj ! fm known-many
         (enough, up-to manyCells (leb→le m manyCells few)) n-fits
         (and-then ! (var ! (1 + 1) refl) (and-then ! (var ! (1 + 13) refl)
@@ -203,16 +154,8 @@ module _ {M : Type 1} (𝓤 : URA M) (H : Heap 𝓤) (A : Atoms 𝓤) (W : Given
         returns-within ! Post refl (look ! 7 refl) $
         gone ! 7 refl $ by ! (exits v a l u (e .2) (e .0) (e .1)))))
         (λ many.
-        assigns ! (addr ! (from ! (fld ! refl (hop ! (look-in ! (8 + 2) (sub ! 0 refl (whole !))) (stop !))))) (from ! (stop !))
-        (init ! (8 + 16) refl (tt, tt)) $
-        assigns ! (agg ! (and-then ! (var ! (8 + 16) refl) (and-then !
-        (load ! (from ! (fld ! refl (stop !))) (look-in ! (8 + 2) (sub ! 1 refl (whole !)))) (no-more !)))) (from ! (stop !))
-        (init ! (8 + 17) refl (tt, (tt, (record { fits = room₁ .0 }, tt)))) $
-        assigns ! (addr ! (from ! (fld ! refl (hop ! (look-in ! (8 + 5) (sub ! 0 refl (whole !))) (stop !))))) (from ! (stop !))
-        (init ! (8 + 18) refl (tt, tt)) $
-        assigns ! (agg ! (and-then ! (var ! (8 + 18) refl) (and-then !
-        (load ! (from ! (fld ! refl (stop !))) (look-in ! (8 + 5) (sub ! 1 refl (whole !)))) (no-more !)))) (from ! (stop !))
-        (init ! (8 + 19) refl (tt, (tt, (record { fits = room₃ .0 }, tt)))) $
+        relends ! (8 + 2) (8 + 16) (8 + 17) refl refl (room₁ .0) $
+        relends ! (8 + 5) (8 + 18) (8 + 19) refl refl (room₃ .0) $
         calls-sized 𝓤 H A W mem run mostCells κ₀ κ₁ κ₂ κ₃ q₀ q₁ q₂ q₃ g (x γ₁) n s j vg vx vs vj ! fm known-large
         (enough, enough-few rs st n enough .1) n-fits (and-then ! (var ! (1 + 1) refl)
         (and-then ! (var ! (1 + 17) refl) (and-then ! (var ! (1 + 3) refl)
@@ -221,28 +164,14 @@ module _ {M : Type 1} (𝓤 : URA M) (H : Heap 𝓤) (A : Atoms 𝓤) (W : Given
         peeks ! P.the-row (Is P.the-row) (shows 𝓤 H A P.the-row) a (v ∷ []) (λ isa.
         land ! (from ! (stop !)) (init ! 7 refl (EL.lawful P.the-type P′.the-laws 𝓤 H A W tt .typed a _ isa .0)) $
         returns ! (look ! 7 refl) $
-        gone ! 7 refl $ by ! (exits v a l u (e .2) (e .0) (e .1))))))))))))))))))))))))))
+        gone ! 7 refl $ by ! (exits v a l u (e .2) (e .0) (e .1)))))))
 
 module _ {M : Type 1} (𝓤 : URA M) (H : Heap 𝓤) (A : Atoms 𝓤) (W : Given 𝓤 H A) (mem : Memory → SProp 𝓤) (run : Routine → Fun 𝓤)
     (𝓣 : Tables 𝓤 H) (known-middle : Triple 𝓤 (𝓣 .C #recv-queue·taking·take-middle) (Sized 𝓤 H A mem run middleCells))
     (known-many : Triple 𝓤 (𝓣 .C #recv-queue·taking·take-many) (Sized 𝓤 H A mem run manyCells))
     (known-large : Triple 𝓤 (𝓣 .C #recv-queue·taking·take-large) (Sized 𝓤 H A mem run mostCells)) where
-  here-walks : Walks 𝓤 H A here.ended stayed (WpFn 𝓤 H (𝓣 .C) (𝓣 .Λ) code.function) (here.clauses 𝓤 H A mem run)
-  here-walks = walked 𝓤 H A here.ended stayed (here.clauses 𝓤 H A mem run) (WpFn 𝓤 H (𝓣 .C) (𝓣 .Λ) code.function)
-      (λ κs. (ptr-vals, (slice-vals, (uint-vals w64, (slice-vals, (slice-vals, (uint-vals w64, tt)))))))
-      (λ κs. (
-        shr-tells (named 0) (κs .0) Q.the-row,
-        (
-          mut-slice-tells (named 1) (κs .1 .0) C.the-row,
-          (
-            uint-tells w64,
-            (
-              shr-slice-tells (named 2) (κs .1 .1 .0) u8,
-              (mut-slice-tells (named 3) (κs .1 .1 .1 .0) u8, (uint-tells w64, tt)),
-            ),
-          ),
-        ),
-      ))
+  here-meets : Meets 𝓤 H A here.signature (WpFn 𝓤 H (𝓣 .C) (𝓣 .Λ) code.function) (here.spec 𝓤 H A mem run)
+  here-meets = meets here.ended ways 𝓤 H A W 𝓣 code.function (here.clauses 𝓤 H A mem run)
       (λ κs qs bounds a _ are. needs 𝓤 (Enough (now (a .1 .0)) (now (a .1 .1 .1 .0)) (a .1 .1 .0) × (a .1 .1 .0 ≤ a .1 .1 .1 .1 .1 .0)) _
       (λ fits.
       walk 𝓤 H A W mem run (κs .0) (κs .1 .0) (κs .1 .1 .0) (κs .1 .1 .1 .0) (qs .0) (qs .1 .0) (qs .1 .1 .0) (qs .1 .1 .1 .0)
@@ -251,23 +180,7 @@ module _ {M : Type 1} (𝓤 : URA M) (H : Heap 𝓤) (A : Atoms 𝓤) (W : Given
       (a .1 .1 .1 .0 .ptr .0) (a .1 .1 .1 .0 .ptr .1) (a .1 .1 .1 .0 .name) (a .1 .1 .1 .0 .now) (a .1 .1 .1 .1 .0 .ptr .0)
       (a .1 .1 .1 .1 .0 .ptr .1) (a .1 .1 .1 .1 .0 .name) (a .1 .1 .1 .1 .0 .now) (a .1 .1 .1 .1 .1 .0)
       (are .1 .0 .0 .1) (are .1 .1 .1 .0 .0 .1) (are .1 .1 .1 .1 .0 .0 .1) (are .1 .1 .0 .1) (are .1 .1 .1 .1 .1 .0 .1) (fits .0) (fits .1)
-      (𝓣 .C) (𝓣 .Λ) (fmOf 𝓤 H (W .laws) 𝓣) known-middle known-many known-large))
-
-  here-meets : Meets 𝓤 H A here.signature (WpFn 𝓤 H (𝓣 .C) (𝓣 .Λ) code.function) (here.spec 𝓤 H A mem run)
-  here-meets = walk-meets 𝓤 H A here.ended stayed W (
-    goes-dropped 𝓤 H A W 4 (shrRefTo (0 ∷ []) tt (plain (λ _. Q.the-row))) yes (λ κs x f. refl),
-    (
-      goes-gave-slice 𝓤 H A W 4 1 tt (plain (λ _. C.the-row)),
-      (
-        goes-dropped 𝓤 H A W 4 (plain (λ _. usize)) yes (λ κs x f. refl),
-        (
-          goes-dropped 𝓤 H A W 4 (shrSliceOf (2 ∷ []) tt (plain (λ _. u8))) yes (λ κs x f. refl),
-          (goes-gave-slice 𝓤 H A W 4 3 tt (plain (λ _. u8)), (goes-dropped 𝓤 H A W 4 (plain (λ _. usize)) yes (λ κs x f. refl), tt)),
-        ),
-      ),
-    ),
-  )
-      (here.clauses 𝓤 H A mem run) (WpFn 𝓤 H (𝓣 .C) (𝓣 .Λ) code.function) (WpFn-mono 𝓤 H (W .laws) 𝓣 code.function) here-walks
+      (𝓣 .C) (𝓣 .Λ) (fmOf 𝓤 H (W .laws) 𝓣) known-middle known-many known-large .go))
 
 pub take-more-spec : {M : Type 1} → stated.statement M
 unfolding code.routine tablesOf

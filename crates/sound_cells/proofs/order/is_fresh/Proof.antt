@@ -8,5 +8,5 @@ is-fresh-spec = tie.close (tie.spec
     (λ c κs. tt)
     (λ c κs. tt)
     (λ c κs. tt)
-    (λ c. fresh-is _ _ _ (c .before .before .before .word-of .ensures) (c .before .before .entry-at .ensures) (c .before .mark .ensures)
+    (λ c. fresh-is _ _ _ (c .before .before .before .word-of .ensures) (c .before .before .bits-of .ensures) (c .before .mark .ensures)
     (c .has-bit .ensures)))

@@ -177,7 +177,8 @@ fn certified(
     p: Prepared,
     counts: &mut [u32],
 ) -> bool
-    requires { ⌜ (p .rise ≡ allRise (now entries) (p .count)) × (rowCount (now words) ≤ maxCells) × ((g : ℕ) → getD (now counts) g 0 ≡ 0) ⌝ }
+    requires { ⌜ (p .rise ≡ allRise (now entries) (p .count)) × (rowCount (now words) ≤ maxCells)
+        × ((g : ℕ) → getD (now counts) g 0 ≡ 0) ⌝ }
     ensures { λ b. ⌜ (b ≡ true → soundCells (cellsIn (now (words .entry))) (nextAt (now (nexts .entry))) ≡ true) ⌝ }
 {
     let k = p.count;

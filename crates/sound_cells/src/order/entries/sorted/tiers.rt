@@ -12,14 +12,10 @@ ghost use Rattle.cells.specs.Sound.{soundCells};
 ghost use Rattle.rows.specs.Rows.{cellsIn};
 ghost use Rattle.receiver.specs.Parts.{nextAt};
 
-// Are the cells' records sound beside these channels' next order numbers? The order of the rows tells it soonest, then sorted entries of
-// them.
-pub fn sound_cells(words: &[u32], nexts: &[u32]) -> bool
+// By sorted entries, or by each two where the rows are few.
+fn by_lists(words: &[u32], nexts: &[u32]) -> bool
     ensures { λ r. ⌜ r ≡ soundCells (cellsIn (now (words .entry))) (nextAt (now (nexts .entry))) ⌝ }
 {
-    if by_order(words, nexts) {
-        return true;
-    }
     let n = words.len() / ROW;
     if n <= PAIRS {
         return by_pairs(words, nexts);
@@ -33,4 +29,15 @@ pub fn sound_cells(words: &[u32], nexts: &[u32]) -> bool
         return by_entries(words, nexts, n);
     }
     by_entries(words, nexts, words.len())
+}
+
+// Are the cells' records sound beside these channels' next order numbers? The order of the rows tells it soonest, then sorted entries of
+// them. For these the slices are made anew: LLVM then keeps no copy of them in memory on the common path.
+pub fn sound_cells(words: &[u32], nexts: &[u32]) -> bool
+    ensures { λ r. ⌜ r ≡ soundCells (cellsIn (now (words .entry))) (nextAt (now (nexts .entry))) ⌝ }
+{
+    if by_order(words, nexts) {
+        return true;
+    }
+    by_lists(&words[0..], &nexts[0..])
 }
