@@ -205,7 +205,10 @@ static void state(void) {
     printf("lows %u %u next", q->datagrams.low, q->reliables.low);
     for (int i = 0; i < 32; i++)
         printf(" %u", q->channels[i].next);
-    printf(" unsent");
+    printf("\nnewest");
+    for (int i = 0; i < 32; i++)
+        printf(" %u", q->channels[i].newest);
+    printf(" %u unsent", q->newest);
     for (uint32_t i = 0; i < q->pending; i++)
         printf(" %u", q->unsent[i]);
     printf("\n");
@@ -259,10 +262,27 @@ static void all_receiving(void) {
     taken(5);
     taken(6);
     taken(6);
+
+    /* late on channel 6 and in kind 4, not on channel 7 */
+    poghduka_write_head(out, sizeof out, 3);
+    PoghdukaFrame other = {.kind = 1, .sequence = 3, .channel = 7}, stop = {.kind = 4, .reliable = 2, .sequence = 0xffffff};
+    end = add(add(add(4, whole, "late"), other, "new"), stop, "stop");
+    stop.reliable = 3;
+    received(out, add(end, stop, "late"));
+    state();
+    taken(STORE);
+    taken(STORE);
     missing(sizeof out);
     unsent(sizeof out);
     unsent(sizeof out);
     unsent(2);
+    lent.queue.newest = 0x1000001;
+    unsent(sizeof out);
+    lent.queue.newest = 0x1000000, lent.queue.channels[31].newest = 0x1000001;
+    missing(sizeof out);
+    received(out, 4);
+    lent.queue.channels[31].newest = 0x1000000;
+    unsent(sizeof out);
     lent.queue.pending = 1025;
     unsent(sizeof out);
 

@@ -172,8 +172,10 @@ impl Receiver {
     fn state(&self) {
         let q = &self.queue;
         let next: String = q.channels.iter().map(|c| format!(" {}", c.next)).collect();
+        let newest: String = q.channels.iter().map(|c| format!(" {}", c.newest)).collect();
         let unsent: String = q.unsent[..q.pending as usize].iter().map(|n| format!(" {n}")).collect();
-        println!("lows {} {} next{next} unsent{unsent}", q.datagrams.low, q.reliables.low);
+        println!("lows {} {} next{next}", q.datagrams.low, q.reliables.low);
+        println!("newest{newest} {} unsent{unsent}", q.newest);
         for r in self.records.iter().filter(|r| r.used != 0) {
             print!("cell used {} kind {} channel {} id {} index {} ", r.used, r.kind, r.channel, r.id, r.index);
             println!("count {} length {} sequence {} order {} turn {}", r.count, r.length, r.sequence, r.order, r.turn);
@@ -224,10 +226,31 @@ fn all_receiving(out: &mut [u8]) {
     receiver.taken(5);
     receiver.taken(6);
     receiver.taken(6);
+
+    // late on channel 6 and in kind 4, not on channel 7
+    write_head(out, 3).expect("a head is written");
+    let other = Frame { kind: 1, sequence: 3, channel: 7, ..Frame::default() };
+    let stop = Frame { kind: 4, reliable: 2, sequence: 0xffffff, ..Frame::default() };
+    let at = add(out, 4, whole, b"late");
+    let at = add(out, at, other, b"new");
+    let at = add(out, at, stop, b"stop");
+    let end = add(out, at, Frame { reliable: 3, ..stop }, b"late");
+    receiver.received(&out[..end]);
+    receiver.state();
+    receiver.taken(STORE);
+    receiver.taken(STORE);
     receiver.missing(out);
     receiver.unsent(out);
     receiver.unsent(out);
     receiver.unsent(&mut out[..2]);
+    receiver.queue.newest = 0x1000001;
+    receiver.unsent(out);
+    receiver.queue.newest = 0x1000000;
+    receiver.queue.channels[31].newest = 0x1000001;
+    receiver.missing(out);
+    receiver.received(&out[..4]);
+    receiver.queue.channels[31].newest = 0x1000000;
+    receiver.unsent(out);
     receiver.queue.pending = 1025;
     receiver.unsent(out);
 

@@ -44,11 +44,14 @@ pub struct ReliableWindow {
     pub bits: [u8; 256],
 }
 
-/// An ordered channel: the order number that is made ready next.
+/// A channel. `newest` is at most 2^24, and 0 where no message of kind 1 has been ready.
 #[repr(C)]
 #[derive(Clone, Copy)]
 pub struct Channel {
+    /// The order number that is made ready next.
     pub next: u32,
+    /// One more than the newest sequence number made ready by kind 1; a number below it is late, and dropped.
+    pub newest: u32,
 }
 
 /// A receiver. The first `pending` of `unsent` are the datagram numbers not yet acknowledged.
@@ -60,7 +63,12 @@ pub struct RecvQueue {
     pub channels: [Channel; 32],
     pub unsent: [u32; 1024],
     pub pending: u32,
+    /// One more than the newest sequence number made ready by kind 4, as a channel's is by kind 1.
+    pub newest: u32,
 }
+
+// The libraries lay them out so.
+const _: () = assert!(core::mem::size_of::<Channel>() == 8 && core::mem::size_of::<RecvQueue>() == 4880);
 
 /// One record stands beside each cell; `used` is 0 where the cell is free.
 #[repr(C)]
@@ -88,9 +96,10 @@ impl RecvQueue {
     pub const BLANK: RecvQueue = RecvQueue {
         datagrams: ReliableWindow::NEW,
         reliables: ReliableWindow::NEW,
-        channels: [Channel { next: 0 }; 32],
+        channels: [Channel { next: 0, newest: 0 }; 32],
         unsent: [0; 1024],
         pending: 0,
+        newest: 0,
     };
 }
 

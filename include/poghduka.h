@@ -86,18 +86,20 @@ typedef struct {
     uint8_t bits[256];
 } PoghdukaReliableWindow;
 
-/* An ordered channel: the order number that is made ready next. */
+/* A channel. `newest` is at most 2^24, and 0 where no message of kind 1 has been ready. */
 typedef struct {
-    uint32_t next;
+    uint32_t next;   /* the order number that is made ready next */
+    uint32_t newest; /* one more than the newest sequence number made ready by kind 1; a number below it is late, and dropped */
 } PoghdukaChannel;
 
-/* A receiver, 4,748 bytes. poghduka_make_new fills it in, the calls change it, and nobody else writes it. */
+/* A receiver, 4,880 bytes. poghduka_make_new fills it in, the calls change it, and nobody else writes it. */
 typedef struct {
     PoghdukaReliableWindow datagrams; /* datagram numbers accepted */
     PoghdukaReliableWindow reliables; /* reliable numbers accepted */
     PoghdukaChannel channels[32];
     uint32_t unsent[1024]; /* the first `pending` are datagram numbers not yet acknowledged */
     uint32_t pending;
+    uint32_t newest; /* one more than the newest sequence number made ready by kind 4, as a channel's is by kind 1 */
 } PoghdukaRecvQueue;
 
 /* One record stands beside each cell, 40 bytes. poghduka_make_new fills them in, the calls change them, and nobody else writes them. */
@@ -285,13 +287,15 @@ POGHDUKA_LAYOUT(sizeof(size_t) == 8 && sizeof(bool) == 1);
 POGHDUKA_SIZE(PoghdukaReliableWindow, 260);
 POGHDUKA_FIELD(PoghdukaReliableWindow, bits, 4);
 
-POGHDUKA_SIZE(PoghdukaChannel, 4);
+POGHDUKA_SIZE(PoghdukaChannel, 8);
+POGHDUKA_FIELD(PoghdukaChannel, newest, 4);
 
-POGHDUKA_SIZE(PoghdukaRecvQueue, 4748);
+POGHDUKA_SIZE(PoghdukaRecvQueue, 4880);
 POGHDUKA_FIELD(PoghdukaRecvQueue, reliables, 260);
 POGHDUKA_FIELD(PoghdukaRecvQueue, channels, 520);
-POGHDUKA_FIELD(PoghdukaRecvQueue, unsent, 648);
-POGHDUKA_FIELD(PoghdukaRecvQueue, pending, 4744);
+POGHDUKA_FIELD(PoghdukaRecvQueue, unsent, 776);
+POGHDUKA_FIELD(PoghdukaRecvQueue, pending, 4872);
+POGHDUKA_FIELD(PoghdukaRecvQueue, newest, 4876);
 
 POGHDUKA_SIZE(PoghdukaCellRecord, 40);
 POGHDUKA_FIELD(PoghdukaCellRecord, kind, 4);

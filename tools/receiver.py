@@ -1,9 +1,9 @@
 #!/usr/bin/env python3
-"""A receiver of its own, written from document 01's sentences and not from the crates: it makes the stored input and the expected
-output of the programs trace and calls.
+"""A receiver of its own, written from the sentences of document 01 and of document 02's request 1, and not from the crates: it makes the
+stored input and the expected output of the programs trace and calls.
 
   receiver.py recording FILE      a recording for trace (datagrams, each after a 16-bit big-endian length)
-  receiver.py list FILE SEED N    a list of N calls for calls
+  receiver.py list FILE SEED N    a list for calls: N random ones, and among them levers that come late (stored: seed 26, 700 calls)
   receiver.py trace FILE          what trace prints for the recording
   receiver.py calls FILE          what calls prints for the list
 """
@@ -71,6 +71,7 @@ class State:
         self.open = {}
         self.held = {}
         self.next = [0] * 32
+        self.newest = {}  # the highest sequence number made ready: of kind 1 by channel, of kind 4 under None
         self.line = []  # ready and not yet taken: kind, channel, order number, bodies
 
     def used(self):
@@ -89,8 +90,13 @@ def make_ready(s, m):
     return made
 
 
-def order(s, m):
-    """Step 4: (made ready, dropped)."""
+def order(s, m, sequence):
+    """Step 4 for a message and its sequence number: (made ready, dropped)."""
+    if m[0] in SEQUENCE:
+        memory = m[1] if m[0] == 1 else None
+        if memory in s.newest and sequence <= s.newest[memory]:
+            return 0, 1
+        s.newest[memory] = sequence
     if m[0] in (3, 7):
         if m[2] < s.next[m[1]] or (m[1], m[2]) in s.held:
             return 0, 1
@@ -109,7 +115,7 @@ def step(s, f):
     if f["channel"] > 31 or f["piece"] and not (1 <= f["count"] <= 1024 and f["index"] < f["count"]):
         return 0, 1, 0
     if not f["piece"]:
-        ready, dropped = order(s, (f["kind"], f["channel"], f["order"], [f["body"]]))
+        ready, dropped = order(s, (f["kind"], f["channel"], f["order"], [f["body"]]), f["sequence"])
         return ready, dropped, 1 - dropped
     alike = (f["count"], f["kind"], f["sequence"], f["order"], f["channel"])
     m = s.open.setdefault(f["id"], dict(alike=alike, pieces={}))
@@ -120,7 +126,7 @@ def step(s, f):
         return 0, 0, 1
     del s.open[f["id"]]
     bodies = [m["pieces"][i] for i in range(f["count"])]
-    ready, dropped = order(s, (f["kind"], f["channel"], f["order"], bodies))
+    ready, dropped = order(s, (f["kind"], f["channel"], f["order"], bodies), f["sequence"])
     return ready, dropped, 1
 
 
@@ -205,8 +211,11 @@ def trace(data):
 
 def calls(data):
     cells = int.from_bytes(data[:2], "big") if len(data) >= 2 else 0
-    if not 1 <= cells <= 256:
-        return ["- 9"]
+    return run(data, cells)[0] if 1 <= cells <= 256 else ["- 9"]
+
+
+def run(data, cells):
+    """The lines of a list of calls, and the receiver after it."""
     s, at, out = State(cells), 2, []
     while at + 3 <= len(data):
         what, n = data[at], int.from_bytes(data[at + 1:at + 3], "big")
@@ -229,7 +238,7 @@ def calls(data):
                 out.append(f"{letter} 0 {len(w)} {checksum(w)}")
         except Refused as e:
             out.append(f"{letter} {e.args[0]}")
-    return out
+    return out, s
 
 
 # ---- input
@@ -256,8 +265,52 @@ def put(d):
     return len(d).to_bytes(2, "big") + d
 
 
+def levers(number, reliable, room):
+    """Lever positions that come late: datagrams from this number on, reliable numbers from that one on, to a receiver that has so many
+    cells free (which is few enough for one datagram) and takes all ready after each."""
+    def at(n, channel, body, order=0):
+        return frame(1, body, sequence=n, order=order, channel=channel)
+
+    def halves(n, channel, ident):
+        return [frame(1, b"ab"[i:i + 1] * n, sequence=n, channel=channel, piece=(2, ident, i)) for i in range(2)]
+
+    def stop(n, body, piece=None):
+        nonlocal reliable
+        reliable += 1
+        return frame(4, body, reliable=reliable - 1, sequence=n, piece=piece)
+
+    hums = [frame(0, b"hum") for _ in range(room)]
+    on7, on8, on12 = halves(5, 7, 11), halves(5, 8, 12), halves(5, 12, 13)
+    groups = [
+        # 5, 4, 5 again, 6; the order number has no say
+        [at(5, 4, b"5")], [at(4, 4, b"44", order=9)], [at(5, 4, b"555", order=10)], [at(6, 4, b"6666")],
+        # the first is always made ready, also number 0; on channel 32 step 2 drops it
+        [at(0, 5, b"0"), at(0, 5, b"00"), at(1, 5, b"111"), at(0, 5, b"0000")], [at(9, 32, b"far")],
+        # the same in two pieces each: joined, and late in step 4
+        halves(5, 6, 20), halves(4, 6, 21), halves(5, 6, 22)[:1], halves(5, 6, 22)[1:], halves(6, 6, 23),
+        # a whole one overtakes the pieces: newer, then equal
+        on7[:1], [at(6, 7, b"newer")], on7[1:], on8[:1], [at(5, 8, b"equal")], on8[1:],
+        # each channel has its own memory, and kind 4 another
+        [at(8, 9, b"8"), at(7, 10, b"77"), at(7, 9, b"777"), at(8, 10, b"8888")],
+        [stop(900, b"900"), at(3, 9, b"3"), at(9, 9, b"9"), stop(899, b"899"), stop(900, b"again"), at(901, 10, b"901"), stop(901, b"901")],
+        [stop(905, b"half", (2, 24, 0))], [stop(906, b"906")], [stop(905, b"other", (2, 24, 1))], [stop(907, b"one piece", (1, 25, 0))],
+        # a late whole frame needs no cell; the pieces of a late message do, until the datagram's end
+        [at(5, 12, b"5")] + hums[1:] + [at(5, 12, b"late"), at(4, 12, b"later")], [at(5, 12, b"5")] + hums,
+        on12[:1] + [at(7, 12, b"7")], on12[1:] + hums[:-1], on12[1:] + hums[:-2], hums,
+        # a refused datagram is not remembered
+        [at(20, 12, b"20")] + hums, [at(19, 12, b"19"), at(20, 12, b"20")],
+        # numbers of one, two and three bytes
+        [at(n, 13, b"up") for n in (255, 256, 65535, 65536, 65535, 256)],
+        # up to the last number, after which all are late
+        [at(TOP - 2, 11, b"-2")], [at(TOP - 1, 11, b"-1")], [at(TOP - 1, 11, b"again"), at(TOP - 2, 11, b"older"), at(0, 11, b"0")],
+        [stop(TOP - 1, b"-1"), stop(TOP - 2, b"-2"), stop(TOP - 1, b"again"), at(2, 0, b"2"), stop(0, b"0")],
+    ]
+    return [datagram(number + i, *fs) for i, fs in enumerate(groups)]
+
+
 def recording():
-    """Document 01's own input for trace; then a shift's worth of lever commands: in order, out of order, twice, in pieces, damaged."""
+    """Document 01's own input for trace; then a shift's worth of lever commands: in order, out of order, twice, in pieces, damaged; then
+    lever positions that come late."""
     first = [datagram(0, frame(3, b"B", reliable=0, order=1)), datagram(1, frame(3, b"A", reliable=1, order=0))]
     o = [frame(3, b"lift %d" % i, reliable=2 + i, order=i, channel=1) for i in range(8)]
     long = bytes(range(256)) * 11
@@ -272,18 +325,44 @@ def recording():
                   datagram(16, frame(2, b"cut", reliable=35)[:-1]), b"", b"\x84\0\0", datagram(17, first=0xC0), bytes(1501),
                   datagram(3000), datagram(17, frame(2, b"beyond", reliable=9000)), datagram(18), datagram(19, b"\0\0\0")]
     many = [frame(0, b"%d" % i) for i in range(33)]
-    ds += [datagram(20, *many), datagram(21, *many[:32])]
+    ds += [datagram(20, *many), datagram(21, *many[:32])] + levers(22, 40, 32)
     return b"".join(put(d) for d in ds)
 
 
+TAKE = b"\1\xff\xff"
+
+
+def late_levers(s, number, reliable):
+    """The calls for `levers`, each with takes until none is ready; s is the receiver before them."""
+    def take_all():
+        made = b""
+        while s.line:
+            take(s, 65535)
+            made += TAKE
+        return made + TAKE
+
+    out = take_all()
+    for d in levers(number, reliable, s.cells - s.used()):
+        try:
+            s = receive(s, d)[0]
+        except Refused:
+            pass
+        out += b"\0" + put(d) + take_all()
+    return out
+
+
 def random_list(seed, count):
-    """Calls of all kinds: a few senders' worth of frames, reordered, doubled, lost, damaged."""
+    """Calls of all kinds: a few senders' worth of frames, reordered, doubled, lost, damaged. After two thirds of them lever positions that
+    come late."""
     r = random.Random(seed)
     cells = r.choice((1, 2, 5, 32, 32, 100, 256))
     out, kept = cells.to_bytes(2, "big"), []
     number = reliable = ident = 0
-    orders = [0] * 34
-    for _ in range(count):
+    orders, newest = [0] * 34, [0] * 35
+    for i in range(count):
+        if i == 2 * count // 3:
+            late = late_levers(run(out, cells)[1], number + 1, reliable + 1)
+            number, reliable, out = number + 40, reliable + 20, out + late
         what = r.choices((0, 1, 2, 3), (60, 25, 8, 7))[0]
         if what:
             room = r.choice((0, 2, 3, 7, 10, 20, 100, 1500, 20000, 65535))
@@ -309,7 +388,10 @@ def random_list(seed, count):
                     piece = (n, ident, r.randrange(0, 4))
                     kind = 2 if r.random() < 0.6 else kind
                     o = o if r.random() < 0.3 else 3
-                fs.append(frame(kind, body, rel, r.randrange(3), o, channel, piece, r.choice((0, 0, 0, 5)),
+                memory = channel if kind == 1 else 34
+                sequence = max(0, newest[memory] + r.choice((-1, 0, 1)))
+                newest[memory] = max(newest[memory], sequence) if kind in SEQUENCE else newest[memory]
+                fs.append(frame(kind, body, rel, sequence, o, channel, piece, r.choice((0, 0, 0, 5)),
                                 len(body) * 8 + r.randrange(8) if r.random() < 0.1 else None))
             number += r.choice((1, 1, 1, 1, 2, 3))
             n = number if r.random() < 0.9 else max(0, number - r.randrange(9))

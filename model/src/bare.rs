@@ -12,6 +12,8 @@ pub struct Bare {
     open: HashMap<u16, (Agreed, BTreeMap<u32, Vec<u8>>)>,
     next: HashMap<u8, u32>,
     held: HashMap<(u8, u32), Message>,
+    /// "Document 01's bare receiver remembers the same": newest sequence numbers, by kind and, for kind 1, channel.
+    newest: HashMap<(u8, u8), u32>,
     pub line: Vec<Message>,
 }
 
@@ -32,9 +34,10 @@ impl Bare {
         if over_limit(&f) {
             return false;
         }
+        let sequence = f.sequence;
         let message = |body| Message { kind: f.kind, channel: f.channel, order: f.order, body };
         let Some(p) = f.piece else {
-            return self.put(message(f.body));
+            return self.put(message(f.body), sequence);
         };
         let agreed = (p.count, f.kind, f.sequence, f.order, f.channel);
         let (known, pieces) = self.open.entry(p.id).or_insert_with(|| (agreed, BTreeMap::new()));
@@ -46,11 +49,14 @@ impl Bare {
             return true;
         }
         let (_, pieces) = self.open.remove(&p.id).unwrap();
-        self.put(message(pieces.into_values().flatten().collect()))
+        self.put(message(pieces.into_values().flatten().collect()), sequence)
     }
 
-    /// Step 4.
-    fn put(&mut self, m: Message) -> bool {
+    /// Step 4, on a message and its sequence number.
+    fn put(&mut self, m: Message, sequence: u32) -> bool {
+        if m.kind == 1 || m.kind == 4 {
+            return self.put_sequenced(m, sequence);
+        }
         if !ordered(m.kind) {
             self.line.push(m);
             return true;
@@ -66,5 +72,19 @@ impl Bare {
             *next += 1;
         }
         true
+    }
+
+    /// Only a message above the highest that its memory has goes into the line. Kind 4 carries no channel: its is 0.
+    fn put_sequenced(&mut self, m: Message, sequence: u32) -> bool {
+        let memory = (m.kind, m.channel);
+        let newer = match self.newest.get(&memory) {
+            Some(highest) => sequence > *highest,
+            None => true,
+        };
+        if newer {
+            self.newest.insert(memory, sequence);
+            self.line.push(m);
+        }
+        newer
     }
 }

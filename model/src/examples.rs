@@ -1,10 +1,10 @@
 //! Random examples for the definitions, as a file of proofs by computation: what every call is told and the state after it, from the model.
 use crate::bare::Bare;
-use crate::model::{Cell, Message, Receiver, Use};
+use crate::model::{Cell, Message, Receiver, Use, CHANNELS, MEMORIES};
 use crate::rng::Rng;
 use crate::sender::datagram;
-use crate::sound::sound_cells;
-use crate::window::REACH;
+use crate::sound::{sound_cells, sound_values};
+use crate::window::{NUMBERS, REACH};
 use crate::wire::{frame_bytes, frames, Frame, Piece, KINDS};
 use std::fmt::Display;
 
@@ -58,13 +58,24 @@ fn message(m: &Message) -> String {
 }
 
 /// A sender of small frames: reliable numbers mostly new, and pieces that wait for their turn.
-#[derive(Default)]
 struct Small {
+    kinds: &'static [u8],
+    channels: &'static [u8],
     reliable: u32,
     waiting: Vec<Frame>,
 }
 
 impl Small {
+    /// All kinds; or lever positions above all, on two channels.
+    fn new(rng: &mut Rng) -> Small {
+        let (kinds, channels): (&[u8], &[u8]) = if rng.percent(40) {
+            (&[1, 1, 1, 4, 4, 3], &[0, 0, 0, 1])
+        } else {
+            (&[0, 1, 1, 2, 3, 3, 3, 3, 4, 5, 6, 7, 7], &[0, 0, 0, 0, 0, 1, 1, 31, 32])
+        };
+        Small { kinds, channels, reliable: 0, waiting: Vec::new() }
+    }
+
     fn reliable(&mut self, rng: &mut Rng) -> u32 {
         self.reliable += 1;
         if rng.percent(90) {
@@ -82,12 +93,12 @@ impl Small {
             f.reliable = if f.fields().reliable { self.reliable(rng) } else { 0 };
             return f;
         }
-        let kind = rng.pick(&[0, 1, 2, 3, 3, 3, 3, 4, 5, 6, 7, 7]);
+        let kind = rng.pick(self.kinds);
         let fields = &KINDS[kind as usize];
         let reliable = if fields.reliable { self.reliable(rng) } else { 0 };
-        let sequence = if fields.sequence { rng.below(2) as u32 } else { 0 };
+        let sequence = if fields.sequence { rng.pick(&[0, 1, 1, 2, 2, 3]) } else { 0 };
         let order = if fields.order { rng.pick(&[0, 0, 1, 1, 2, 3]) } else { 0 };
-        let channel = if fields.order { rng.pick(&[0, 0, 0, 0, 0, 1, 1, 31, 32]) } else { 0 };
+        let channel = if fields.order { rng.pick(self.channels) } else { 0 };
         let mut f = Frame { kind, reliable, sequence, order, channel, piece: None, body: body(rng) };
         match rng.below(20) {
             0 => f.piece = Some(Piece { count: rng.pick(&[0, 1023, 1024, 1025]), id: 7, index: rng.pick(&[0, 1023, 1024]) }),
@@ -131,7 +142,7 @@ fn cells_example(rng: &mut Rng, name: &str) -> String {
     let cells = rng.from_to(1, 6);
     let mut r = Receiver::new(cells);
     let mut bare = Bare::default();
-    let mut small = Small::default();
+    let mut small = Small::new(rng);
     let (mut calls, mut seen, mut fed, mut counts) = (Vec::new(), Vec::new(), Vec::new(), Vec::new());
     for number in 0..rng.from_to(2, 6) as u32 {
         let told = if rng.percent(70) {
@@ -164,6 +175,11 @@ fn cells_example(rng: &mut Rng, name: &str) -> String {
         lines(&seen),
         lines(&fed)
     )
+}
+
+/// A memory as it is kept: the newest number plus 1, 0 for none.
+fn stored(memory: Option<u32>) -> u32 {
+    memory.map_or(0, |n| n + 1)
 }
 
 /// A list with one item to a line.
@@ -233,13 +249,14 @@ fn bytes_call(rng: &mut Rng, small: &mut Small, r: &mut Receiver) -> (String, St
 fn bytes_example(rng: &mut Rng, name: &str) -> String {
     let cells = rng.from_to(1, 4);
     let mut r = Receiver::new(cells);
-    let mut small = Small::default();
+    let mut small = Small::new(rng);
     let (mut calls, mut seen) = (Vec::new(), Vec::new());
     for _ in 0..rng.from_to(2, 6) {
         let (call, told) = bytes_call(rng, &mut small, &mut r);
         let lows = arg([r.datagrams.low, r.reliables.low]);
         let nexts = arg([r.next[0], r.next[1]]);
-        seen.push(format!("saw {told} {lows} {} {nexts} {}", arg(&r.unsent), arg(r.cells.iter().map(slot))));
+        let memories = arg([0, 1, MEMORIES - 1].map(|m| stored(r.newest[m])));
+        seen.push(format!("saw {told} {lows} {} {nexts} {memories} {}", arg(&r.unsent), arg(r.cells.iter().map(slot))));
         calls.push(call);
     }
     format!("pub {name} :\n    run {cells} ({})\n    ≡ {}\nunfolding run\n{name} = refl\n", lines(&calls), lines(&seen))
@@ -254,7 +271,7 @@ fn spoil(rng: &mut Rng, cells: &mut [Cell]) {
         0 => c.used = rng.pick(&[Use::Unused, Use::Open, Use::Held, Use::Ready, Use::Released]),
         1 => c.id = rng.pick(&[0, 7]),
         2 => c.index = small,
-        3 => c.kind = rng.pick(&[0, 3, 7, 8]),
+        3 => c.kind = rng.pick(&[0, 1, 3, 4, 7, 8]),
         4 => c.channel = rng.pick(&[0, 1, 31, 32]),
         5 => c.count = rng.pick(&[0, 1, 2, 3, 1024, 1025]),
         6 => c.sequence = rng.pick(&[0, 1, (1 << 24) - 1, 1 << 24]),
@@ -270,7 +287,7 @@ fn spoil(rng: &mut Rng, cells: &mut [Cell]) {
 /// A state that calls lead to, and what becomes of it where fields are changed: sound or not.
 fn sound_example(rng: &mut Rng, name: &str) -> String {
     let mut r = Receiver::new(rng.from_to(2, 6));
-    let mut small = Small::default();
+    let mut small = Small::new(rng);
     for number in 0..rng.from_to(3, 8) as u32 {
         let all = small.frames(rng, 4);
         let _ = r.receive(&bytes_of(number, &all));
@@ -287,6 +304,31 @@ fn sound_example(rng: &mut Rng, name: &str) -> String {
     }
     let proofs = vec!["refl"; states.len()].join(", ");
     format!("pub {name} :\n    {}\nunfolding run soundAt\n{name} = ({proofs})\n", states.join("\n    × "))
+}
+
+/// A new receiver's own values with some of them changed: sound or not.
+fn values_example(rng: &mut Rng, name: &str) -> String {
+    let mut states = Vec::new();
+    for _ in 0..4 {
+        let mut r = Receiver::new(1);
+        let channel = rng.pick(&[0, 1, 30, CHANNELS as usize - 1]);
+        let near_top = [0, 1, NUMBERS - 1, NUMBERS];
+        let beyond = NUMBERS + 1;
+        let limit = |rng: &mut Rng, bad: usize| if rng.percent(bad) { beyond } else { rng.pick(&near_top) };
+        r.datagrams.low = if rng.percent(5) { beyond } else { rng.pick(&[0, 3, 3, NUMBERS - 3000]) };
+        r.reliables.low = if rng.percent(5) { beyond } else { rng.pick(&[0, 0, NUMBERS - 3000]) };
+        r.next[channel] = limit(rng, 8);
+        // kept as the number plus 1
+        r.newest[channel] = limit(rng, 15).checked_sub(1);
+        r.newest[MEMORIES - 1] = limit(rng, 15).checked_sub(1);
+        r.unsent = (0..rng.below(3)).map(|_| rng.pick(&[0, 1, 2, 2, NUMBERS - 1])).collect();
+        let verdict = if sound_values(&r) { "true" } else { "false" };
+        let lows = format!("{} {}", r.datagrams.low, r.reliables.low);
+        let at = format!("{channel} {} {}", r.next[channel], stored(r.newest[channel]));
+        states.push(format!("(soundValues {lows} {at} {} {} ≡ {verdict})", stored(r.newest[MEMORIES - 1]), arg(&r.unsent)));
+    }
+    let proofs = vec!["refl"; states.len()].join(", ");
+    format!("pub {name} :\n    {}\nunfolding run soundValues\n{name} = ({proofs})\n", states.join("\n    × "))
 }
 
 const CELLS_HEAD: &str = "use mathlib.Core.Path.{_≡_, refl}
@@ -314,7 +356,13 @@ use Rattle.cells.specs.Cell.{emptySlot}
 use Rattle.cells.proofs.Shown.{slot, run, soundAt}
 ";
 
-/// A file of n examples: `cells`, `bytes` or `sound`.
+const VALUES_HEAD: &str = "use mathlib.Core.Path.{_≡_, refl}
+use mathlib.Core.Bool.{true, false}
+use mathlib.Core.List.{List, [], _∷_}
+use Rattle.examples.proofs.Shown.{run, soundValues}
+";
+
+/// A file of n examples: `cells`, `bytes`, `sound` or `values`.
 pub fn file(what: &str, seed: u64, n: u64) -> Option<String> {
     type Maker = fn(&mut Rng, &str) -> String;
     let (about, head, one): (&str, &str, Maker) = match what {
@@ -325,6 +373,7 @@ pub fn file(what: &str, seed: u64, n: u64) -> Option<String> {
         ),
         "bytes" => ("bytes on a receiver, with what it keeps after every call", BYTES_HEAD, bytes_example),
         "sound" => ("states that calls lead to, and the same with fields changed: sound or not", SOUND_HEAD, sound_example),
+        "values" => ("a receiver's own values, sound or not: lows, a next, memories and unsent numbers", VALUES_HEAD, values_example),
         _ => return None,
     };
     let mut text = format!("-- Random examples: {about}.\n-- Made by `model examples {what} {seed} {n}` (folder model/), an independent model of document 01; here they are computed.\n-- Assumes nothing.\n{head}");
@@ -332,5 +381,23 @@ pub fn file(what: &str, seed: u64, n: u64) -> Option<String> {
         text += "\n";
         text += &one(&mut Rng::new(seed * 1000 + i), &format!("{what}-{seed}-{i}"));
     }
-    Some(text)
+    Some(text.lines().map(folded).collect())
+}
+
+/// A line of a file has no more columns than this.
+const COLUMNS: usize = 140;
+
+/// A line, broken before a ∷ where it is too long.
+fn folded(line: &str) -> String {
+    let columns = |text: &str| text.chars().count();
+    let mut out = String::new();
+    let mut rest = line.to_string();
+    while columns(&rest) > COLUMNS {
+        let fits = |at: &usize| columns(&rest[..*at]) <= COLUMNS;
+        let places = rest.match_indices(" ∷ ").map(|(at, _)| at).take_while(fits);
+        let Some(at) = places.last().filter(|at| !rest[..*at].trim().is_empty()) else { break };
+        out += &format!("{}\n", &rest[..at]);
+        rest = format!("    {}", &rest[at + 1..]);
+    }
+    out + &rest + "\n"
 }

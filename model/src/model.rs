@@ -1,4 +1,5 @@
-//! The receiver of document 01 with its cells, written from document 01's sentences alone; nothing here comes from crates/.
+//! The receiver of document 01 with its cells, and document 02's request 1; written from their sentences alone, nothing here comes from
+//! crates/.
 use crate::window::Window;
 use crate::wire::{self, Frame};
 
@@ -6,6 +7,9 @@ pub const CHANNELS: u8 = 32;
 pub const MAX_FRAGS: u32 = 1024;
 pub const UNSENT: usize = 1024;
 pub const CELL_BYTES: usize = 1500;
+
+/// A memory for each channel, and the last for the whole receiver.
+pub const MEMORIES: usize = CHANNELS as usize + 1;
 
 /// What a cell is used for. `Released` only stands within a datagram: a joined message that step 4 dropped, whose cells are unused after it.
 #[derive(Clone, Copy, PartialEq, Eq, Debug, Default)]
@@ -54,7 +58,7 @@ pub enum Fate {
     AcceptedBefore,
     OverLimit,
     PieceRefused,
-    OldOrder,
+    Late,
     PieceKept,
     Held,
     Ready,
@@ -70,6 +74,8 @@ pub struct Receiver {
     pub datagrams: Window,
     pub reliables: Window,
     pub next: [u32; CHANNELS as usize],
+    /// The highest sequence numbers made ready: by kind 1 on each channel, then by kind 4.
+    pub newest: [Option<u32>; MEMORIES],
     pub unsent: Vec<u32>,
     pub cells: Vec<Cell>,
     /// Frames by kind and fate, over the accepted datagrams.
@@ -79,6 +85,16 @@ pub struct Receiver {
 /// "Kinds 3 and 7" go through a channel.
 pub fn ordered(kind: u8) -> bool {
     kind == 3 || kind == 7
+}
+
+/// "each channel remembers the highest sequence number it made ready by kind 1 .. Kind 4 has no channel and gets one such memory for the
+/// whole receiver": which memory a frame's message goes by.
+pub fn memory(kind: u8, channel: u8) -> Option<usize> {
+    match kind {
+        1 => Some(channel as usize),
+        4 => Some(MEMORIES - 1),
+        _ => None,
+    }
 }
 
 /// "Channel, count or index over its limit"
@@ -93,6 +109,7 @@ impl Receiver {
             datagrams: Window::default(),
             reliables: Window::default(),
             next: [0; CHANNELS as usize],
+            newest: [None; MEMORIES],
             unsent: Vec::new(),
             cells: vec![Cell::default(); cells],
             fates: [[0; FATES]; 8],
@@ -211,7 +228,7 @@ impl Pass {
     /// The four steps on one frame. 8 is the only refusal left.
     fn frame(&mut self, f: &Frame) -> Result<(), u8> {
         let fate = self.steps(f)?;
-        let dropped = [Fate::AcceptedBefore, Fate::OverLimit, Fate::PieceRefused, Fate::OldOrder, Fate::JoinedDropped];
+        let dropped = [Fate::AcceptedBefore, Fate::OverLimit, Fate::PieceRefused, Fate::Late, Fate::JoinedDropped];
         self.dropped += dropped.contains(&fate) as u32;
         self.receiver.fates[f.kind as usize][fate as usize] += 1;
         Ok(())
@@ -230,32 +247,51 @@ impl Pass {
         }
     }
 
-    /// Step 4's rule: "order number below the channel's next, or held: drop. Above: hold. Equal: ready".
-    fn channel(&self, kind: u8, channel: u8, order: u32) -> Channel {
-        if !ordered(kind) {
-            return Channel::Ready;
+    /// Step 4's rule for the message of this frame.
+    fn channel(&self, f: &Frame) -> Channel {
+        if ordered(f.kind) {
+            return self.ordered(f);
         }
-        let next = self.receiver.next[channel as usize];
-        if order < next || !self.receiver.held(channel, order).is_empty() {
+        // "a frame or joined message of kind 1 at or below it is dropped in step 4 .. The first is always made ready."
+        let newest = memory(f.kind, f.channel).and_then(|m| self.receiver.newest[m]);
+        if newest.is_some_and(|n| f.sequence <= n) {
+            Channel::Drop
+        } else {
+            Channel::Ready
+        }
+    }
+
+    /// "order number below the channel's next, or held: drop. Above: hold. Equal: ready"
+    fn ordered(&self, f: &Frame) -> Channel {
+        let next = self.receiver.next[f.channel as usize];
+        if f.order < next || !self.receiver.held(f.channel, f.order).is_empty() {
             return Channel::Drop;
         }
-        if order > next {
+        if f.order > next {
             Channel::Hold
         } else {
             Channel::Ready
         }
     }
 
+    /// The frame's message is made ready: its sequence number, if its kind is sequenced, is remembered.
+    fn remember(&mut self, f: &Frame) {
+        if let Some(m) = memory(f.kind, f.channel) {
+            self.receiver.newest[m] = Some(f.sequence);
+        }
+    }
+
     fn whole(&mut self, f: &Frame) -> Result<Fate, u8> {
-        let rule = self.channel(f.kind, f.channel, f.order);
+        let rule = self.channel(f);
         if let Channel::Drop = rule {
-            return Ok(Fate::OldOrder);
+            return Ok(Fate::Late);
         }
         let cell = self.keep(f, wire::Piece { count: 1, id: 0, index: 0 })?;
         if let Channel::Hold = rule {
             self.receiver.cells[cell].used = Use::Held;
             return Ok(Fate::Held);
         }
+        self.remember(f);
         self.make_ready(vec![cell]);
         Ok(Fate::Ready)
     }
@@ -273,7 +309,7 @@ impl Pass {
         if (cells.len() as u32) < p.count {
             return Ok(Fate::PieceKept);
         }
-        match self.channel(f.kind, f.channel, f.order) {
+        match self.channel(f) {
             Channel::Drop => {
                 self.mark(&cells, Use::Released);
                 Ok(Fate::JoinedDropped)
@@ -283,6 +319,7 @@ impl Pass {
                 Ok(Fate::JoinedHeld)
             }
             Channel::Ready => {
+                self.remember(f);
                 self.make_ready(cells);
                 Ok(Fate::JoinedReady)
             }

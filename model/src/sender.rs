@@ -1,5 +1,5 @@
 //! A sender that keeps to the rules: numbers its messages, splits long ones, packs frames into datagrams.
-use crate::model::ordered;
+use crate::model::{memory, ordered, MEMORIES};
 use crate::rng::Rng;
 use crate::wire::{frame_bytes, little24, Frame, Piece, KINDS};
 
@@ -42,6 +42,18 @@ pub const IN_PIECES: Style = Style {
     per_datagram: 8,
 };
 
+/// Lever positions above all, on few channels, whole and in pieces.
+pub const LEVERS: Style = Style {
+    kinds: &[1, 1, 1, 4, 4, 3],
+    channels: &[0, 0, 5, 31],
+    lengths: &[0, 1, 2, 9],
+    split: 35,
+    pieces: 4,
+    chunks: &[0, 1, 3, 60],
+    ids: 5,
+    per_datagram: 4,
+};
+
 /// Ordered messages alone, for channels that hold much.
 pub const ORDERED: Style =
     Style { kinds: &[3, 7], channels: &[0, 0, 0, 31], lengths: &[0, 1, 5], split: 15, pieces: 3, chunks: &[1, 2], ids: 4, per_datagram: 4 };
@@ -49,14 +61,15 @@ pub const ORDERED: Style =
 pub struct Sender {
     pub number: u32,
     pub reliable: u32,
-    pub sequence: u32,
+    /// The next sequence number of each memory.
+    pub sequences: [u32; MEMORIES],
     pub next: [u32; 32],
     pub id: u16,
 }
 
 impl Default for Sender {
     fn default() -> Sender {
-        Sender { number: 0, reliable: 0, sequence: 0, next: [0; 32], id: 0 }
+        Sender { number: 0, reliable: 0, sequences: [0; MEMORIES], next: [0; 32], id: 0 }
     }
 }
 
@@ -70,21 +83,33 @@ impl Sender {
         f
     }
 
+    /// A memory's next sequence number, or one beyond it; at times the last again or an older one, under which the message is late.
+    fn sequence(&mut self, rng: &mut Rng, memory: usize) -> u32 {
+        let next = &mut self.sequences[memory];
+        let n = match rng.below(10) {
+            0 => next.saturating_sub(1),
+            1 => next.saturating_sub(rng.from_to(2, 4) as u32),
+            2 => *next + rng.from_to(1, 3) as u32,
+            _ => *next,
+        };
+        *next = (n + 1).max(*next);
+        n
+    }
+
     /// The frames of one more message.
     pub fn message(&mut self, rng: &mut Rng, style: &Style) -> Vec<Frame> {
         let kind = rng.pick(style.kinds);
         let fields = &KINDS[kind as usize];
         let mut like = Frame { kind, reliable: 0, sequence: 0, order: 0, channel: 0, piece: None, body: Vec::new() };
-        if fields.sequence {
-            like.sequence = self.sequence;
-            self.sequence += 1;
-        }
         if fields.order {
             like.channel = rng.pick(style.channels);
             let next = &mut self.next[like.channel as usize];
             like.order = *next;
             // kind 1 passes its channel by: a number of its own would leave a gap
             *next += ordered(kind) as u32;
+        }
+        if let Some(m) = memory(kind, like.channel) {
+            like.sequence = self.sequence(rng, m);
         }
         if !rng.percent(style.split) {
             let n = rng.pick(style.lengths);

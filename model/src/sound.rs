@@ -1,4 +1,5 @@
-//! Document 01's sentence "Sound means no more than this", clause by clause, over the model's receiver.
+//! Document 01's sentence "Sound means no more than this", clause by clause, over the model's receiver. A memory of a newest sequence
+//! number is a value too: it obeys the limit on numbers.
 use crate::model::{Cell, Receiver, Use, CELL_BYTES, CHANNELS, MAX_FRAGS, UNSENT};
 use crate::window::{Window, NUMBERS, REACH};
 
@@ -45,13 +46,18 @@ pub fn sound_cells(next: &[u32], cells: &[Cell]) -> bool {
     })
 }
 
-pub fn sound(r: &Receiver) -> bool {
+/// "only the rules on values and unsent numbers"
+pub fn sound_values(r: &Receiver) -> bool {
     let differ = r.unsent.iter().enumerate().all(|(i, n)| !r.unsent[..i].contains(n));
     sound_window(&r.datagrams)
         && sound_window(&r.reliables)
         && r.next.iter().all(|n| *n <= NUMBERS)
+        && r.newest.iter().flatten().all(|n| *n < NUMBERS)
         && r.unsent.len() <= UNSENT
         && differ
         && r.unsent.iter().all(|n| *n < NUMBERS && r.datagrams.accepted(*n))
-        && sound_cells(&r.next, &r.cells)
+}
+
+pub fn sound(r: &Receiver) -> bool {
+    sound_values(r) && sound_cells(&r.next, &r.cells)
 }

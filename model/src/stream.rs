@@ -1,7 +1,7 @@
 //! Datagrams by mode: what a sender, a network and a vandal make. The receiver as it stands is looked at, so that numbers fall on its edges.
-use crate::model::{Cell, Receiver, Use};
+use crate::model::{memory, Cell, Receiver, Use};
 use crate::rng::Rng;
-use crate::sender::{datagram, Sender, Style, IN_PIECES, MAX_DATAGRAM, ORDERED, PLAIN};
+use crate::sender::{datagram, Sender, Style, IN_PIECES, LEVERS, MAX_DATAGRAM, ORDERED, PLAIN};
 use crate::window::{Window, NUMBERS, REACH};
 use crate::wire::{frame_bytes, Frame, Piece};
 use std::collections::VecDeque;
@@ -17,11 +17,12 @@ pub enum Mode {
     Pieces,
     Edges,
     Crowded,
+    Levers,
     Full,
     Mixed,
 }
 
-pub const MODES: [Mode; 11] = [
+pub const MODES: [Mode; 12] = [
     Mode::Valid,
     Mode::Reordered,
     Mode::Duplicated,
@@ -31,6 +32,7 @@ pub const MODES: [Mode; 11] = [
     Mode::Pieces,
     Mode::Edges,
     Mode::Crowded,
+    Mode::Levers,
     Mode::Full,
     Mode::Mixed,
 ];
@@ -65,6 +67,19 @@ fn wild_piece(rng: &mut Rng) -> Piece {
     Piece { count, id: rng.pick(&[0, 0, 0, 1, 2, 256, 65535]), index }
 }
 
+/// A sequence number about the newest of its memory; seldom one of the last, after which all of that memory are late.
+fn wild_sequence(rng: &mut Rng, newest: Option<u32>) -> u32 {
+    let next = newest.map_or(0, |n| n + 1);
+    match rng.below(24) {
+        0 => rng.pick(&[255, 256, 65535, 65536]),
+        1 if rng.percent(20) => rng.pick(&[NUMBERS - 1, NUMBERS - 2]),
+        2..=5 => next.saturating_sub(1),
+        6..=8 => next.saturating_sub(2),
+        9..=11 => (next + rng.from_to(1, 3) as u32).min(NUMBERS - 1),
+        _ => next.min(NUMBERS - 1),
+    }
+}
+
 fn wild_frame(rng: &mut Rng, live: &Receiver, reliable: u32, pieces: usize) -> Vec<u8> {
     let kind = rng.pick(&[0, 1, 2, 2, 3, 3, 3, 4, 5, 6, 7, 7]);
     let channel = if rng.percent(10) { rng.pick(&[30, 31, 32, 33, 255]) } else { rng.pick(&[0, 0, 1]) };
@@ -76,7 +91,8 @@ fn wild_frame(rng: &mut Rng, live: &Receiver, reliable: u32, pieces: usize) -> V
         4 => rng.pick(&[NUMBERS - 1, NUMBERS - 2, NUMBERS / 2, 256, 65536]),
         _ => next,
     };
-    let sequence = rng.pick(&[0, 0, 0, 1, 2, 255, 256, NUMBERS - 1]);
+    let newest = memory(kind, channel.min(31)).and_then(|m| live.newest[m]);
+    let sequence = wild_sequence(rng, newest);
     let piece = if rng.percent(pieces) { Some(wild_piece(rng)) } else { None };
     let length = rng.pick(&[0, 0, 1, 1, 2, 7, 33, 100, 400]);
     let f = Frame { kind, reliable, sequence, order, channel, piece, body: rng.bytes(length) };
@@ -84,7 +100,8 @@ fn wild_frame(rng: &mut Rng, live: &Receiver, reliable: u32, pieces: usize) -> V
     frame_bytes(&f, flag_bits, length_bits)
 }
 
-/// A frame that meets an open message: one more of its pieces, or a whole message with its channel and order number, which makes it late.
+/// A frame that meets an open message: one more of its pieces, or a whole message with its channel, order and sequence number (or the
+/// sequence number after it), which makes it late.
 fn follow(rng: &mut Rng, live: &Receiver, reliable: u32) -> Option<Vec<u8>> {
     let open: Vec<&Cell> = live.cells.iter().filter(|c| c.used == Use::Open).collect();
     if open.is_empty() {
@@ -93,7 +110,9 @@ fn follow(rng: &mut Rng, live: &Receiver, reliable: u32) -> Option<Vec<u8>> {
     let c = open[rng.below(open.len())];
     let lacking = (0..c.count).find(|i| !open.iter().any(|d| d.id == c.id && d.index == *i))?;
     let piece = if rng.percent(60) { Some(Piece { count: c.count, id: c.id, index: lacking }) } else { None };
-    let f = Frame { kind: c.kind, reliable, sequence: c.sequence, order: c.order, channel: c.channel, piece, body: rng.bytes(1) };
+    let later = (piece.is_none() && rng.percent(50)) as u32;
+    let sequence = (c.sequence + later).min(NUMBERS - 1);
+    let f = Frame { kind: c.kind, reliable, sequence, order: c.order, channel: c.channel, piece, body: rng.bytes(1) };
     Some(frame_bytes(&f, 0, 0))
 }
 
@@ -163,6 +182,7 @@ fn style(rng: &mut Rng, mode: Mode) -> Style {
     match mode {
         Mode::Pieces => Style { pieces: rng.pick(&[2, 4, 12, 40]), ..IN_PIECES },
         Mode::Crowded => ORDERED,
+        Mode::Levers => LEVERS,
         _ => PLAIN,
     }
 }
@@ -180,14 +200,16 @@ fn again(rng: &mut Rng, sender: &mut Sender, style: &Style, frames: &[Frame], al
     all.splice(at..at, more);
 }
 
-/// Puts whole frames between the pieces, with the pieces' channel and order number, so that messages are joined too late.
+/// Puts whole frames between the pieces, with the pieces' channel, order and sequence number (or one just above), so that messages are
+/// joined too late.
 fn overtake(rng: &mut Rng, sender: &mut Sender, frames: &mut Vec<Frame>) {
     for _ in 0..rng.below(frames.len()) / 4 {
         let at = rng.below(frames.len());
-        if frames[at].piece.is_some() && frames[at].fields().order {
+        if frames[at].piece.is_some() && (frames[at].fields().order || frames[at].fields().sequence) {
             let reliable = sender.reliable;
             sender.reliable += 1;
-            let whole = Frame { reliable, piece: None, body: rng.bytes(1), ..frames[at].clone() };
+            let sequence = frames[at].sequence + rng.below(2) as u32;
+            let whole = Frame { reliable, sequence, piece: None, body: rng.bytes(1), ..frames[at].clone() };
             frames.insert(at, whole);
         }
     }
@@ -203,12 +225,18 @@ fn planned(rng: &mut Rng, mode: Mode, messages: usize) -> Vec<Vec<u8>> {
             rng.shuffle(&mut frames, span);
             overtake(rng, &mut sender, &mut frames);
         }
+        Mode::Levers => {
+            let near = rng.pick(&[1, 2, 4, 8]);
+            rng.shuffle(&mut frames, near);
+            overtake(rng, &mut sender, &mut frames);
+        }
         Mode::Crowded => frames.reverse(),
         _ => {}
     }
     let mut all = sender.pack(rng, style, &frames);
     match mode {
         Mode::Reordered => rng.shuffle(&mut all, span),
+        Mode::Levers if rng.percent(30) => again(rng, &mut sender, style, &frames, &mut all),
         Mode::Duplicated => again(rng, &mut sender, style, &frames, &mut all),
         Mode::Lossy | Mode::Mixed => {
             let loss = rng.from_to(5, 40);

@@ -4,8 +4,18 @@ use crate::model::FATES;
 use crate::programs::{expected, Input, Program};
 use std::collections::BTreeMap;
 
-const FATE_NAMES: [&str; FATES] =
-    ["accepted before", "over a limit", "piece refused", "old order", "piece kept", "held", "ready", "joined dropped", "joined held", "joined ready"];
+const FATE_NAMES: [&str; FATES] = [
+    "accepted before",
+    "over a limit",
+    "piece refused",
+    "late",
+    "piece kept",
+    "held",
+    "ready",
+    "joined dropped",
+    "joined held",
+    "joined ready",
+];
 
 #[derive(Default)]
 pub struct Tally {

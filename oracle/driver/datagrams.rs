@@ -24,7 +24,7 @@ pub fn has_reliable(kind: u8) -> bool {
     matches!(kind, 2 | 3 | 4 | 7)
 }
 
-fn has_sequence(kind: u8) -> bool {
+pub fn has_sequence(kind: u8) -> bool {
     matches!(kind, 1 | 4)
 }
 

@@ -59,6 +59,11 @@ fn ordered(kind: u8, reliable: u32, order: u32) -> Fields {
     Fields { kind, reliable, order, body: vec![0x40 + order as u8], ..Fields::default() }
 }
 
+/// One frame of kind 1 on channel 0 or of kind 4, its body one byte.
+fn sequenced(kind: u8, reliable: u32, sequence: u32) -> Fields {
+    Fields { kind, reliable, sequence, body: vec![0x40 + sequence as u8], ..Fields::default() }
+}
+
 fn piece(kind: u8, reliable: u32, count: u32, index: u32) -> Fields {
     Fields { kind, reliable, piece: Some((count, 0, index)), body: vec![0x40 + index as u8], ..Fields::default() }
 }
@@ -105,6 +110,9 @@ fn receivers() {
         ("pieces of one id with counts 2 and 3", vec![d(0, vec![piece(2, 0, 2, 0)]), d(1, vec![piece(2, 1, 3, 1)])]),
         ("pieces of one id with kinds 2 and 0", vec![d(0, vec![piece(2, 0, 2, 0)]), d(1, vec![piece(0, 0, 2, 1)])]),
         ("reliable number 2049 on a new receiver", vec![d(0, vec![Fields { kind: 2, reliable: 2049, ..Fields::default() }])]),
+        ("kind 1, sequence number 1 before 0", vec![d(0, vec![sequenced(1, 0, 1)]), d(1, vec![sequenced(1, 0, 0)])]),
+        ("kind 4, sequence number 0 twice, reliable numbers 0 and 1", vec![d(0, vec![sequenced(4, 0, 0)]), d(1, vec![sequenced(4, 1, 0)])]),
+        ("kind 1, sequence number 0 as one piece of count 1, twice", vec![d(0, vec![piece(1, 0, 1, 0)]), d(1, vec![piece(1, 0, 1, 0)])]),
         ("datagrams 2 and 1: the missing", vec![d(2, vec![]), d(1, vec![])]),
         ("33 frames of kind 0 on 32 cells", vec![d(0, vec![Fields::default(); 33])]),
         ("1,025 datagrams and no acknowledgement sent", (0..1025).map(|n| d(n, vec![])).collect()),

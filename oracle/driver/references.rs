@@ -1,7 +1,11 @@
 //! Document 01's 'References': where the original's `RecvQueue` is the reference. Nothing gets 2 or 6 to 8 or is dropped in step 2, kinds 3 and 7 come
 //! whole and in order from 0, the pieces of an id agree. An order number that came with kind 7 doesn't come again under a fresh reliable number:
 //! the original delivers it twice. What a refused datagram or a frame with a reliable number accepted before holds doesn't matter.
-use crate::datagrams::{has_order, has_reliable, Fields};
+//!
+//! Document 02, request 1: "Runs against the Rust keep to rising sequence numbers." The original makes kinds 1 and 4 ready on acceptance.
+//! So on each channel the messages of kind 1, and all messages of kind 4, bear rising sequence numbers in the order in which they become
+//! whole: they are numbered by arrival.
+use crate::datagrams::{has_order, has_reliable, has_sequence, Fields};
 use crate::receivers::Step;
 use std::collections::{BTreeMap, BTreeSet};
 
@@ -10,6 +14,14 @@ pub const MAX_DATAGRAM: usize = 1500;
 const MAX_UNSENT: usize = 1024;
 const MAX_PIECES: u32 = 1024;
 const CHANNELS: usize = 32;
+
+/// The sequence numbers that a message may bear are below this.
+pub const NUMBERS: u32 = 1 << 24;
+
+/// Where the newest sequence number of a kind and channel is remembered: each channel's for kind 1, then one for kind 4.
+fn memory(kind: u8, channel: u8) -> usize {
+    if kind == 1 { channel as usize } else { CHANNELS }
+}
 
 /// The numbers that a window has accepted.
 #[derive(Default)]
@@ -57,6 +69,8 @@ pub struct Session {
     /// one above the highest order number that came with kind 3
     pub next_3: [u32; CHANNELS],
     pub open: BTreeMap<u16, Open>,
+    /// one above the newest sequence number that became whole, by memory
+    newest: [u32; CHANNELS + 1],
     unsent: usize,
 }
 
@@ -69,12 +83,37 @@ impl Session {
             next: [0; CHANNELS],
             next_3: [0; CHANNELS],
             open: BTreeMap::new(),
+            newest: [0; CHANNELS + 1],
             unsent: 0,
         }
     }
 
     pub fn used(&self) -> usize {
         self.open.values().map(|o| o.came.len()).sum()
+    }
+
+    /// The sequence numbers that a whole message may bear now, so that it and the open messages of its memory can all become whole with
+    /// rising numbers: from the newest on, up to the first of an open message, which is not among them.
+    pub fn rising(&self, kind: u8, channel: u8) -> std::ops::Range<u32> {
+        let m = memory(kind, channel);
+        let alike = self.open.values().map(|o| &o.first).filter(|f| has_sequence(f.kind) && memory(f.kind, f.channel) == m);
+        self.newest[m]..alike.map(|f| f.sequence).min().unwrap_or(NUMBERS)
+    }
+
+    /// Is a message of this memory open?
+    pub fn is_open(&self, kind: u8, channel: u8) -> bool {
+        self.rising(kind, channel).end < NUMBERS
+    }
+
+    /// A message is whole. If its kind is sequenced, its number must be newer than its memory's.
+    fn rises(&mut self, f: &Fields) -> bool {
+        if !has_sequence(f.kind) {
+            return true;
+        }
+        let newest = &mut self.newest[memory(f.kind, f.channel)];
+        let newer = *newest <= f.sequence;
+        *newest = f.sequence + 1;
+        newer
     }
 
     /// Takes note of the step; false where it is outside.
@@ -145,7 +184,7 @@ impl Session {
                 self.next_3[c] = self.next[c];
             }
         }
-        true
+        self.rises(f)
     }
 
     fn takes_piece(&mut self, f: &Fields, dropped: bool) -> bool {
@@ -162,6 +201,7 @@ impl Session {
         }
         if open.came.len() == count as usize {
             self.open.remove(&id);
+            return self.rises(f);
         }
         true
     }

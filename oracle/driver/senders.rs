@@ -1,8 +1,8 @@
-//! Random datagrams within document 01's 'References'.
-use crate::datagrams::{has_order, has_reliable, Datagram, Fields};
+//! Random datagrams within document 01's 'References', with rising sequence numbers (references.rs).
+use crate::datagrams::{has_order, has_reliable, has_sequence, Datagram, Fields};
 use crate::random::Random;
 use crate::receivers::Step;
-use crate::references::{Numbers, Session, REACH};
+use crate::references::{Numbers, Session, NUMBERS, REACH};
 
 fn fresh_number(numbers: &Numbers, r: &mut Random) -> u32 {
     let ahead = match r.below(40) {
@@ -106,7 +106,20 @@ impl Sender {
         f
     }
 
-    /// A whole message; kinds 3 and 7 in order, kind 3 at times again.
+    /// A sequence number for a whole message of this kind and channel: rising, and below those of open messages.
+    fn sequence(&self, kind: u8, channel: u8, r: &mut Random) -> Option<u32> {
+        let rising = self.session.rising(kind, channel);
+        let places = rising.end.checked_sub(rising.start).filter(|&n| n > 0)?;
+        let ahead = match r.below(16) {
+            0 if rising.start == 0 => r.below(places),
+            0 => r.below(places.min(3_000)),
+            1..=5 => r.below(places.min(4)),
+            _ => 0,
+        };
+        Some(rising.start + ahead)
+    }
+
+    /// A whole message; kinds 3 and 7 in order, kind 3 at times again. Where no sequence number is left, one of kind 0.
     fn whole(&self, r: &mut Random) -> Fields {
         let kind = r.below(8) as u8;
         let channel = *r.pick(&[0, 0, 0, 1, 5, 31]);
@@ -116,11 +129,33 @@ impl Sender {
             3 | 7 => self.session.next[c],
             _ => r.below(1 << 24),
         };
-        let sequence = r.below(1 << 24);
+        let mut sequence = 0;
+        if has_sequence(kind) {
+            let Some(n) = self.sequence(kind, channel, r) else { return Fields::default() };
+            sequence = n;
+        }
         if has_order(kind) {
             return Fields { kind, sequence, order, channel, ..Fields::default() };
         }
         Fields { kind, sequence, ..Fields::default() }
+    }
+
+    /// The kind, channel and sequence number of a message that is to come in pieces. No two of one memory are open at once, so they become
+    /// whole one after the other. Its number leaves some room for whole ones that overtake it.
+    fn to_split(&self, r: &mut Random) -> (u8, u8, u32) {
+        let kind = *r.pick(&[0, 1, 2, 4, 5, 6]);
+        let any = r.below(32) as u8;
+        let channel = if has_order(kind) { *r.pick(&[0, 1, 5, 31, any, any]) } else { 0 };
+        if !has_sequence(kind) {
+            return (kind, channel, 0);
+        }
+        if self.session.is_open(kind, channel) {
+            return (0, 0, 0);
+        }
+        let least = self.session.rising(kind, channel).start;
+        let room = *r.pick(&[1, 30, 5_000]);
+        let sequence = (least + r.below(room)).min(NUMBERS - 1);
+        if sequence < least { (0, 0, 0) } else { (kind, channel, sequence) }
     }
 
     /// A piece of an open id, or of a new one where the cells are sure to suffice until it is whole.
@@ -131,12 +166,12 @@ impl Sender {
         let room = (self.session.cells as u32 / 2).saturating_sub(promised);
         let id = r.below(40) as u16;
         if room > 0 && !open.contains_key(&id) && (ids.is_empty() || r.one_in(4)) {
-            let kind = *r.pick(&[0, 1, 2, 4, 5, 6]);
+            let (kind, channel, sequence) = self.to_split(r);
             let most = room.min(*r.pick(&[3, 3, 10, 60, 1024]));
             let count = r.between(1, most);
-            let (order, channel) = if has_order(kind) { (r.below(1 << 24), r.below(32) as u8) } else { (0, 0) };
+            let order = if has_order(kind) { r.below(1 << 24) } else { 0 };
             let piece = Some((count, id, r.below(count)));
-            return Some(Fields { kind, sequence: r.below(1 << 24), order, channel, piece, ..Fields::default() });
+            return Some(Fields { kind, sequence, order, channel, piece, ..Fields::default() });
         }
         if ids.is_empty() {
             return None;

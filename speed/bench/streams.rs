@@ -21,8 +21,10 @@ const ACKS_AFTER: usize = 32;
 /// Whole groups of sixteen, and whole messages of ten pieces.
 const WHOLE: u32 = 80;
 
+/// Kind 3 has rising order numbers and kind 1 rising sequence numbers, on channel 0.
 fn one_frame(kind: u8, n: u32, len: usize) -> Datagram {
-    Datagram { number: n, frames: vec![Fields { kind, reliable: n, order: if kind == 3 { n } else { 0 }, body: vec![n as u8; len], ..Fields::default() }] }
+    let (order, sequence) = (if kind == 3 { n } else { 0 }, if kind == 1 { n } else { 0 });
+    Datagram { number: n, frames: vec![Fields { kind, reliable: n, sequence, order, body: vec![n as u8; len], ..Fields::default() }] }
 }
 
 /// Each sixteen datagrams in another order.
@@ -53,6 +55,7 @@ pub fn all(datagrams: u32) -> Vec<Stream> {
     let in_order = |kind| (0..n).map(|i| one_frame(kind, i, 100)).collect::<Vec<Datagram>>();
     vec![
         stream("one kind-3 frame of 100 bytes, in order", in_order(3)),
+        stream("one kind-1 frame of 100 bytes, rising sequence numbers", in_order(1)),
         stream("kind-2 frames of 100 bytes, shuffled within 16", shuffled(in_order(2))),
         stream("ordered frames of 100 bytes, shuffled within 16", shuffled(in_order(3))),
         stream("ten pieces of 1,400 bytes, one a datagram", (0..n).map(piece).collect()),

@@ -54,7 +54,7 @@ kind-7-held-and-released = refl
 
 -- The last order number there is: next becomes 2^24, and nothing comes after it.
 unfoldable pub at-the-end : Out
-at-the-end = record { next = λ c. 16777215; held = []; line = [] }
+at-the-end = record { next = λ c. 16777215; newest = λ m. 0; held = []; line = [] }
 
 pub last-number : (queue (msg 3 0 16777215 []) at-the-end .after .next 0 ≡ numbers24)
     × (queue (msg 3 0 16777215 []) (queue (msg 3 0 16777215 []) at-the-end .after) .dropped ≡ 1)
@@ -184,12 +184,12 @@ pub one-window : run ((whole-frame 2 5 0 0 1 ∷ whole-frame 3 5 0 0 2 ∷ whole
 unfolding run
 one-window = refl
 
--- Kind 1 has an order number and channel, is ready at once, and leaves next alone; so does a joined one. Kinds 0, 5 and 6 carry no reliable
--- number.
-pub other-kinds : run ((whole-frame 1 0 0 5 1 ∷ whole-frame 1 0 0 5 2 ∷ whole-frame 3 0 0 0 3 ∷ piece-frame 1 0 0 0 2 7 1 5
-    ∷ piece-frame 1 0 0 0 2 7 0 4 ∷ whole-frame 0 0 0 0 6 ∷ whole-frame 5 0 0 0 7 ∷ whole-frame 6 0 0 0 8 ∷ whole-frame 6 0 0 0 9 ∷ [])
+-- Kind 1 has an order number and channel, is ready at once where it is not late, and leaves next alone; so does a joined one. Kinds 0, 5
+-- and 6 carry no reliable number.
+pub other-kinds : run ((whole-frame 1 0 0 5 1 ∷ whole-frame 1 0 1 5 2 ∷ whole-frame 3 0 0 0 3 ∷ piece-frame 1 0 2 0 2 7 1 5
+    ∷ piece-frame 1 0 2 0 2 7 0 4 ∷ whole-frame 0 0 0 0 6 ∷ whole-frame 5 0 0 0 7 ∷ whole-frame 6 0 0 0 8 ∷ whole-frame 6 0 0 0 9 ∷ [])
     ∷ [])
-    ≡ seen (gave 8 0 ∷ []) (msg 1 0 5 (1 ∷ []) ∷ msg 1 0 5 (2 ∷ []) ∷ msg 3 0 0 (3 ∷ []) ∷ msg 1 0 0 (4 ∷ 5 ∷ []) ∷ msg 0 0 0 (6 ∷ [])
+    ≡ seen (gave 8 0 ∷ []) (msg 1 0 5 (1 ∷ []) ∷ msg 1 1 5 (2 ∷ []) ∷ msg 3 0 0 (3 ∷ []) ∷ msg 1 2 0 (4 ∷ 5 ∷ []) ∷ msg 0 0 0 (6 ∷ [])
     ∷ msg 5 0 0 (7 ∷ []) ∷ msg 6 0 0 (8 ∷ []) ∷ msg 6 0 0 (9 ∷ []) ∷ [])
 unfolding run
 other-kinds = refl

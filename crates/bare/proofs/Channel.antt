@@ -13,8 +13,9 @@ use Rattle.base.specs.Lists.{find, any, only}
 use Rattle.base.proofs.Choices.{byBool, cases, byOption, or-left, neither}
 use Rattle.base.proofs.Lists.{find-some, find-none, any-true, without-mem, mem-without, only-pass, only-fail, length-positive}
 use Rattle.base.proofs.EachAt.{EachAt}
-use Rattle.bare.specs.Frame.{Message, ordered}
-use Rattle.bare.specs.Bare.{Out, Sent, isAt, bump, emit, follow, quiet, hold, append, queue, deliver}
+use Rattle.bare.specs.Frame.{Message, ordered, sequenced}
+use Rattle.bare.specs.Bare.{Out, Sent, isAt, bump, emit, follow, quiet, hold, append, queue, memoryOf, older, remember}
+use Rattle.bare.specs.Bare.{ready, sequence, deliver}
 use Rattle.bare.specs.Order.{onChannel}
 use Rattle.bare.proofs.Tests.{bump-same, bump-other, isAt-true, isAt-false, onChannel-true, onChannel-other, onChannel-unordered}
 use Rattle.bare.proofs.Tests.{emit-not-longer, emit-shorter}
@@ -188,19 +189,34 @@ module _ (G : ℕ → ℕ → Message → Type 0) where
         line-good = ch .line-good;
       }
 
+  -- A message without order number made ready, or dropped: no channel is touched.
+  unordered : (m : Message) (o o′ : Out) → ordered (m .kind) ≡ false → o′ .next ≡ o .next → o′ .held ≡ o .held
+      → ((c : ℕ) → only (onChannel c) (o′ .line) ≡ only (onChannel c) (o .line)) → Chan o → Delivered m o o′
+  unordered m o o′ t next held line ch = record {
+    chan = record {
+      ahead = rw (next, held) (ch .ahead);
+      held-ordered = rw held (ch .held-ordered);
+      held-good = rw held (ch .held-good);
+      line-good = λ c. rw (next, line c) (ch .line-good c);
+    };
+    passed = λ c n p. rw (next, held) p;
+    self = λ u. neither (ordered (m .kind)) u t;
+  }
+
+  ready-delivers : (m : Message) (o o′ : Out) → ordered (m .kind) ≡ false → o′ .next ≡ o .next → o′ .held ≡ o .held → o′ .line ≡ o .line
+      → Chan o → Delivered m o (ready m o′ .after)
+  unfolding ready append
+  ready-delivers m o o′ t next held line ch = unordered m o (append m o′) t next held
+      (λ c. rw line (only-fail (onChannel c) (o .line) m (onChannel-unordered c m t))) ch
+
   -- Step 4 keeps the channels' order: what may be made ready is put in its place, held, or was there before.
-  pub deliver-delivers : (m : Message) (o : Out) → Chan o → (ordered (m .kind) ≡ true → G (m .channel) (m .order) m)
-      → Delivered m o (deliver m o .after)
-  unfolding deliver append
-  deliver-delivers m o ch g = byBool (λ (s : Sent). Delivered m o (s .after)) (ordered (m .kind))
+  pub deliver-delivers : (n : ℕ) (m : Message) (o : Out) → Chan o → (ordered (m .kind) ≡ true → G (m .channel) (m .order) m)
+      → Delivered m o (deliver n m o .after)
+  unfolding deliver sequence remember quiet
+  deliver-delivers n m o ch g = byBool (λ (s : Sent). Delivered m o (s .after)) (ordered (m .kind))
       (λ t. queue-delivers m o ch t (g t))
-      (λ t. record {
-        chan = record {
-          ahead = ch .ahead;
-          held-ordered = ch .held-ordered;
-          held-good = ch .held-good;
-          line-good = λ c. rw (only-fail (onChannel c) (o .line) m (onChannel-unordered c m t)) (ch .line-good c);
-        };
-        passed = λ c n p. p;
-        self = λ u. neither (ordered (m .kind)) u t;
-      })
+      (λ t. byBool (λ (s : Sent). Delivered m o (s .after)) (sequenced (m .kind))
+      (λ u. byBool (λ (s : Sent). Delivered m o (s .after)) (older (o .newest) (memoryOf (m .kind) (m .channel)) n)
+      (λ v. unordered m o o t refl refl (λ c. refl) ch)
+      (λ v. ready-delivers m o (remember (memoryOf (m .kind) (m .channel)) n o) t refl refl refl ch))
+      (λ u. ready-delivers m o o t refl refl refl ch))

@@ -320,7 +320,7 @@ module _ (B : Frame → Type 0) (book : Book B) where
           whole-good R (v .sub) x bx t,
         ))
 
-    finish-inv : (k : Kept) → After k → Inv (And R x) (finish (acceptReliable x (b .accepted)) (b .pieces) (b .out) k .after)
+    finish-inv : (k : Kept) → After k → Inv (And R x) (finish (x .sequence) (acceptReliable x (b .accepted)) (b .pieces) (b .out) k .after)
     unfolding finish dropIn
     finish-inv refused h = record {
       sub = sub-more R (v .sub) x bx;
@@ -335,7 +335,7 @@ module _ (B : Frame → Type 0) (book : Book B) where
       chan = Chan-more (λ f r. inl r) (b .out) (v .chan);
     }
     finish-inv (complete l m) h =
-        let d = deliver-delivers (Good (And R x)) m (b .out) (Chan-more (λ f r. inl r) (b .out) (v .chan)) (h .1) in
+        let d = deliver-delivers (Good (And R x)) (x .sequence) m (b .out) (Chan-more (λ f r. inl r) (b .out) (v .chan)) (h .1) in
         record {
           sub = sub-more R (v .sub) x bx;
           numbers = accept-numbers R (v .sub) x bx _ (v .numbers);

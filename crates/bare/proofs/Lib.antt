@@ -6,7 +6,9 @@ pub mod Invariant
 pub mod InOrder
 pub mod Feed
 pub mod Same
+pub mod Sequenced
 pub mod IsBook
 pub mod Shown
 pub mod ByExample
+pub mod ByExampleSequenced
 pub mod ByExampleBook

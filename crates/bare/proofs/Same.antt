@@ -12,8 +12,9 @@ use Rattle.base.specs.Lists.{find, any, without}
 use Rattle.base.proofs.Choices.{byBool, byOption, same-cond, same-option, and-both, or-right, neither}
 use Rattle.base.proofs.Lists.{find-some, any-false, without-mem}
 use Rattle.base.proofs.Alike.{Alike, any-alike, without-alike, cons-alike, find-alike}
-use Rattle.bare.specs.Frame.{Frame, Piece, Message, ordered, inLimits, pieceOf}
-use Rattle.bare.specs.Bare.{Out, Bare, Sent, Fed, new, isAt, bump, emit, follow, quiet, hold, append, queue, deliver, conflict}
+use Rattle.bare.specs.Frame.{Frame, Piece, Message, ordered, sequenced, inLimits, pieceOf}
+use Rattle.bare.specs.Bare.{Out, Bare, Sent, Fed, new, isAt, bump, emit, follow, quiet, hold, append, queue, memoryOf, older, noted}
+use Rattle.bare.specs.Bare.{remember, ready, sequence, deliver, conflict}
 use Rattle.bare.specs.Bare.{isPieceAt, joined, Kept, refused, waiting, complete, keep, assemble, seenBefore, acceptReliable, dropIn}
 use Rattle.bare.specs.Bare.{finish, step, feed}
 use Rattle.bare.proofs.Tests.{isPiece-true, isAt-true, isAt-false, emit-not-longer, emit-shorter}
@@ -59,9 +60,12 @@ queue-once m o h = byBool (λ (s : Sent). HeldOnce (s .after .held)) (ltb (m .or
         (q ∙ ap (λ (k : Message). k .order) e′))
     more none-at x y (List·Memᴰ·tail i) (List·Memᴰ·tail j) c q = h x y i j c q
 
-deliver-once : (m : Message) (o : Out) → HeldOnce (o .held) → HeldOnce (deliver m o .after .held)
-unfolding deliver append
-deliver-once m o h = byBool (λ (s : Sent). HeldOnce (s .after .held)) (ordered (m .kind)) (λ t. queue-once m o h) (λ t. h)
+deliver-once : (n : ℕ) (m : Message) (o : Out) → HeldOnce (o .held) → HeldOnce (deliver n m o .after .held)
+unfolding deliver sequence remember quiet ready append
+deliver-once n m o h = byBool (λ (s : Sent). HeldOnce (s .after .held)) (ordered (m .kind)) (λ t. queue-once m o h)
+    (λ t. byBool (λ (s : Sent). HeldOnce (s .after .held)) (sequenced (m .kind))
+    (λ u. byBool (λ (s : Sent). HeldOnce (s .after .held)) (older (o .newest) (memoryOf (m .kind) (m .channel)) n) (λ v. h) (λ v. h))
+    (λ u. h))
 
 -- Step 3.
 
@@ -136,18 +140,19 @@ pub record Once (b : Bare) : Type 0 where
   pub pieces : PieceOnce (b .pieces)
   pub held : HeldOnce (b .out .held)
 
-finish-once : (a : ℕ → Bool) (l : List Piece) (o : Out) → PieceOnce l → HeldOnce (o .held) → (k : Kept) → KeptOnce k
-    → Once (finish a l o k .after)
+finish-once : (n : ℕ) (a : ℕ → Bool) (l : List Piece) (o : Out) → PieceOnce l → HeldOnce (o .held) → (k : Kept) → KeptOnce k
+    → Once (finish n a l o k .after)
 unfolding finish dropIn
-finish-once a l o p h refused u = record { pieces = p; held = h }
-finish-once a l o p h (waiting k) u = record { pieces = u; held = h }
-finish-once a l o p h (complete k m) u = record { pieces = u; held = deliver-once m o h }
+finish-once n a l o p h refused u = record { pieces = p; held = h }
+finish-once n a l o p h (waiting k) u = record { pieces = u; held = h }
+finish-once n a l o p h (complete k m) u = record { pieces = u; held = deliver-once n m o h }
 
 step-once : (b : Bare) (f : Frame) → Once b → Once (step b f .after)
 unfolding step dropIn
 step-once b f h = byBool (λ (a : Fed). Once (a .after)) (seenBefore f (b .accepted)) (λ t. h)
     (λ t. byBool (λ (a : Fed). Once (a .after)) (inLimits f)
-    (λ u. finish-once _ (b .pieces) (b .out) (h .pieces) (h .held) (assemble f (b .pieces)) (assemble-once f (b .pieces) (h .pieces)))
+    (λ u. finish-once (f .sequence) _ (b .pieces) (b .out) (h .pieces) (h .held) (assemble f (b .pieces))
+    (assemble-once f (b .pieces) (h .pieces)))
     (λ u. record { pieces = h .pieces; held = h .held }))
 
 feed-once : (b : Bare) (fs : List Frame) → Once b → Once (feed b fs .after)
@@ -165,6 +170,7 @@ module _ (taken : List Message) where
   -- Step 4.
   pub record SameOut (o o′ : Out) : Type 0 where
     pub next : (c : ℕ) → o .next c ≡ o′ .next c
+    pub newest : (c : ℕ) → o .newest c ≡ o′ .newest c
     pub held : Alike (o .held) (o′ .held)
     pub line : o .line ≡ taken ++ o′ .line
 
@@ -178,6 +184,7 @@ module _ (taken : List Message) where
   emit-same m s s′ r = record {
     after = record {
       next = λ c. rw (r .after .next c);
+      newest = r .after .newest;
       held = without-alike _ _ _ (r .after .held);
       line = rw (r .after .line) (append-assoc taken (s′ .after .line) (m ∷ []));
     };
@@ -210,21 +217,49 @@ module _ (taken : List Message) where
       (λ u. follow-same _ _ (m .channel) (emit m (quiet o 0)) (emit m (quiet o′ 0))
       (emit-same m (quiet o 0) (quiet o′ 0) (record { after = r; ready = refl; dropped = refl })) (emit-once m (quiet o 0) h)
       (emit-not-longer m (quiet o 0)) (emit-not-longer m (quiet o′ 0)))
-      (λ u. record { after = record { next = r .next; held = cons-alike m _ _ (r .held); line = r .line }; ready = refl; dropped = refl }))
+      (λ u. record {
+        after = record { next = r .next; newest = r .newest; held = cons-alike m _ _ (r .held); line = r .line };
+        ready = refl;
+        dropped = refl;
+      }))
     where
       test : (ltb (m .order) (o .next (m .channel)) || any (isAt (m .channel) (m .order)) (o .held))
           ≡ (ltb (m .order) (o′ .next (m .channel)) || any (isAt (m .channel) (m .order)) (o′ .held))
       test = rw (r .next (m .channel), any-alike (isAt (m .channel) (m .order)) (o .held) (o′ .held) (r .held))
 
-  deliver-same : (m : Message) (o o′ : Out) → SameOut o o′ → HeldOnce (o .held) → SameSent (deliver m o) (deliver m o′)
-  unfolding deliver append
-  deliver-same m o o′ r h = same-cond SameSent (ordered (m .kind)) (ordered (m .kind)) refl
+  ready-same : (m : Message) (o o′ : Out) → SameOut o o′ → SameSent (ready m o) (ready m o′)
+  unfolding ready append
+  ready-same m o o′ r = record {
+    after = record {
+      next = r .next;
+      newest = r .newest;
+      held = r .held;
+      line = rw (r .line) (append-assoc taken (o′ .line) (m ∷ []));
+    };
+    ready = refl;
+    dropped = refl;
+  }
+
+  sequence-same : (n : ℕ) (m : Message) (o o′ : Out) → SameOut o o′ → SameSent (sequence n m o) (sequence n m o′)
+  unfolding sequence older remember noted quiet
+  sequence-same n m o o′ r = same-cond SameSent _ _ test
+      (λ t. record { after = r; ready = refl; dropped = refl })
+      (λ t. ready-same m _ _ (record { next = r .next; newest = noted-same; held = r .held; line = r .line }))
+    where
+      i : ℕ
+      i = memoryOf (m .kind) (m .channel)
+
+      test : older (o .newest) i n ≡ older (o′ .newest) i n
+      test = rw (r .newest i)
+
+      noted-same : (d : ℕ) → noted i n (o .newest) d ≡ noted i n (o′ .newest) d
+      noted-same d = rw (r .newest d)
+
+  deliver-same : (n : ℕ) (m : Message) (o o′ : Out) → SameOut o o′ → HeldOnce (o .held) → SameSent (deliver n m o) (deliver n m o′)
+  unfolding deliver
+  deliver-same n m o o′ r h = same-cond SameSent (ordered (m .kind)) (ordered (m .kind)) refl
       (λ t. queue-same m o o′ r h)
-      (λ t. record {
-        after = record { next = r .next; held = r .held; line = rw (r .line) (append-assoc taken (o′ .line) (m ∷ [])) };
-        ready = refl;
-        dropped = refl;
-      })
+      (λ t. same-cond SameSent (sequenced (m .kind)) (sequenced (m .kind)) refl (λ u. sequence-same n m o o′ r) (λ u. ready-same m o o′ r))
 
   -- All four steps.
   pub record Same (b b′ : Bare) : Type 0 where
@@ -237,24 +272,24 @@ module _ (taken : List Message) where
     pub ready : a .ready ≡ a′ .ready
     pub dropped : a .dropped ≡ a′ .dropped
 
-  finish-same : (a a′ : ℕ → Bool) (l l′ : List Piece) (o o′ : Out) → ((n : ℕ) → a n ≡ a′ n) → Alike l l′ → SameOut o o′ → HeldOnce (o .held)
-      → (k k′ : Kept) → SameKept k k′ → SameAnswer (finish a l o k) (finish a′ l′ o′ k′)
+  finish-same : (n : ℕ) (a a′ : ℕ → Bool) (l l′ : List Piece) (o o′ : Out) → ((i : ℕ) → a i ≡ a′ i) → Alike l l′ → SameOut o o′
+      → HeldOnce (o .held) → (k k′ : Kept) → SameKept k k′ → SameAnswer (finish n a l o k) (finish n a′ l′ o′ k′)
   unfolding finish dropIn
-  finish-same a a′ l l′ o o′ e s r h refused refused u = record {
+  finish-same n a a′ l l′ o o′ e s r h refused refused u = record {
     after = record { accepted = e; pieces = s; out = r };
     ready = refl;
     dropped = refl;
   }
-  finish-same a a′ l l′ o o′ e s r h refused (waiting k) u = absurd u
-  finish-same a a′ l l′ o o′ e s r h refused (complete k m) u = absurd u
-  finish-same a a′ l l′ o o′ e s r h (waiting k) refused u = absurd u
-  finish-same a a′ l l′ o o′ e s r h (waiting k) (waiting k′) u =
+  finish-same n a a′ l l′ o o′ e s r h refused (waiting k) u = absurd u
+  finish-same n a a′ l l′ o o′ e s r h refused (complete k m) u = absurd u
+  finish-same n a a′ l l′ o o′ e s r h (waiting k) refused u = absurd u
+  finish-same n a a′ l l′ o o′ e s r h (waiting k) (waiting k′) u =
       record { after = record { accepted = e; pieces = u; out = r }; ready = refl; dropped = refl }
-  finish-same a a′ l l′ o o′ e s r h (waiting k) (complete k′ m) u = absurd u
-  finish-same a a′ l l′ o o′ e s r h (complete k m) refused u = absurd u
-  finish-same a a′ l l′ o o′ e s r h (complete k m) (waiting k′) u = absurd u
-  finish-same a a′ l l′ o o′ e s r h (complete k m) (complete k′ m′) u =
-      let d = subst (λ (n : Message). SameSent (deliver m o) (deliver n o′)) (u .1) (deliver-same m o o′ r h) in
+  finish-same n a a′ l l′ o o′ e s r h (waiting k) (complete k′ m) u = absurd u
+  finish-same n a a′ l l′ o o′ e s r h (complete k m) refused u = absurd u
+  finish-same n a a′ l l′ o o′ e s r h (complete k m) (waiting k′) u = absurd u
+  finish-same n a a′ l l′ o o′ e s r h (complete k m) (complete k′ m′) u =
+      let d = subst (λ (x : Message). SameSent (deliver n m o) (deliver n x o′)) (u .1) (deliver-same n m o o′ r h) in
       record { after = record { accepted = e; pieces = u .0; out = d .after }; ready = d .ready; dropped = d .dropped }
 
   step-same : (b b′ : Bare) (f : Frame) → Same b b′ → Once b → SameAnswer (step b f) (step b′ f)
@@ -262,7 +297,8 @@ module _ (taken : List Message) where
   step-same b b′ f s h = same-cond SameAnswer (seenBefore f (b .accepted)) (seenBefore f (b′ .accepted)) (rw (s .accepted (f .reliable)))
       (λ t. record { after = s; ready = refl; dropped = refl })
       (λ t. same-cond SameAnswer (inLimits f) (inLimits f) refl
-      (λ u. finish-same _ _ _ _ (b .out) (b′ .out) numbers (s .pieces) (s .out) (h .held) (assemble f (b .pieces)) (assemble f (b′ .pieces))
+      (λ u. finish-same (f .sequence) _ _ _ _ (b .out) (b′ .out) numbers (s .pieces) (s .out) (h .held) (assemble f (b .pieces))
+      (assemble f (b′ .pieces))
       (assemble-same f _ _ (s .pieces) (h .pieces)))
       (λ u. record { after = record { accepted = numbers; pieces = s .pieces; out = s .out }; ready = refl; dropped = refl }))
     where

@@ -4,8 +4,9 @@ use Prim.Native.Nat.{ℕ}
 use mathlib.Core.Bool.{true, false}
 use mathlib.Core.List.{List, [], _∷_, flatten}
 use Rattle.base.specs.Lists.{find, any, without}
-use Rattle.bare.specs.Frame.{Frame, Message, carriesReliable, ordered, inLimits, pieceOf, message}
-use Rattle.bare.specs.Bare.{Bare, new, isAt, bump, emit, follow, quiet, hold, append, queue, deliver, conflict, isPieceAt, hasId}
+use Rattle.bare.specs.Frame.{Frame, Message, carriesReliable, ordered, sequenced, inLimits, pieceOf, message}
+use Rattle.bare.specs.Bare.{Bare, new, isAt, bump, emit, follow, quiet, hold, append, queue, memoryOf, older, noted, remember}
+use Rattle.bare.specs.Bare.{ready, sequence, deliver, conflict, isPieceAt, hasId}
 use Rattle.bare.specs.Bare.{joined, keep, assemble, seenBefore, acceptReliable, dropIn, finish, step, feed}
 use Rattle.bare.specs.Order.{lineFor}
 
@@ -60,7 +61,7 @@ answersOf b (fs ∷ ds) = gave (feed b fs .ready) (feed b fs .dropped) ∷ answe
 
 -- `unfolding run` opens every definition that a run computes with.
 unfoldable pub run : List (List Frame) → Seen
-unfolding whole-frame piece-frame msg gave seen answersOf flatten find any without carriesReliable ordered isAt bump emit follow quiet hold
-    append queue deliver pieceOf conflict isPieceAt hasId joined message keep assemble inLimits acceptReliable seenBefore dropIn finish step
-    feed new lineFor
+unfolding whole-frame piece-frame msg gave seen answersOf flatten find any without carriesReliable ordered sequenced isAt bump emit follow
+    quiet hold append queue memoryOf older noted remember ready sequence deliver pieceOf conflict isPieceAt hasId joined message keep
+    assemble inLimits acceptReliable seenBefore dropIn finish step feed new lineFor
 run ds = seen (answersOf new ds) (lineFor (flatten ds))

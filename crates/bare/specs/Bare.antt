@@ -1,18 +1,22 @@
 -- The bare receiver of document 01 ("The line, the book and demand 3"): no cells, and four steps for each frame ("A datagram's frames, in
--- order").
+-- order"); with document 02's request 1, late sequenced messages.
 use Prim.Native.Nat.{ℕ, zero, suc, _+_}
 use mathlib.Core.Bool.{Bool, true, false, cond, not, _&&_, _||_}
 use mathlib.Core.Option.{Option, none, some}
 use mathlib.Core.List.{List, [], _∷_, _++_}
 use lib.Dec.{eqb}
 use lib.ListN.{length}
+use Rattle.base.specs.Limits.{maxOrdChans}
 use Rattle.base.specs.Numbers.{behind, following}
 use Rattle.base.specs.Lists.{option, find, any, without}
-use Rattle.bare.specs.Frame.{Frame, Piece, Message, carriesReliable, ordered, inLimits, pieceOf, message}
+use Rattle.bare.specs.Frame.{Frame, Piece, Message, carriesReliable, ordered, sequenced, inLimits, pieceOf, message}
 
--- "for each channel a next order number and held messages, and the line": what step 4 works on
+-- "for each channel a next order number and held messages, and the line": what step 4 works on. newest: the memories of request 1,
+-- "Document 01's bare receiver remembers the same": that of each channel and, as number 32, the receiver's own. A memory is the newest
+-- sequence number plus 1, and 0 where there is none.
 pub record Out : Type 0 where
   pub next : ℕ → ℕ
+  pub newest : ℕ → ℕ
   pub held : List Message
   pub line : List Message
 
@@ -35,7 +39,7 @@ pub record Fed : Type 0 where
 
 -- "At first each next is 0 and all else is empty."
 unfoldable pub new : Bare
-new = record { accepted = λ n. false; pieces = []; out = record { next = λ c. 0; held = []; line = [] } }
+new = record { accepted = λ n. false; pieces = []; out = record { next = λ c. 0; newest = λ m. 0; held = []; line = [] } }
 
 -- ---- step 4
 
@@ -52,6 +56,7 @@ unfoldable pub emit : Message → Sent → Sent
 emit m s = record {
   after = record {
     next = bump (m .channel) (s .after .next);
+    newest = s .after .newest;
     held = without (isAt (m .channel) (m .order)) (s .after .held);
     line = s .after .line ++ (m ∷ []);
   };
@@ -69,10 +74,10 @@ unfoldable pub quiet : Out → ℕ → Sent
 quiet o n = record { after = o; ready = 0; dropped = n }
 
 unfoldable pub hold : Message → Out → Out
-hold m o = record { next = o .next; held = m ∷ o .held; line = o .line }
+hold m o = record { next = o .next; newest = o .newest; held = m ∷ o .held; line = o .line }
 
 unfoldable pub append : Message → Out → Out
-append m o = record { next = o .next; held = o .held; line = o .line ++ (m ∷ []) }
+append m o = record { next = o .next; newest = o .newest; held = o .held; line = o .line ++ (m ∷ []) }
 
 -- "order number below the channel's next, or held: drop. Above: hold. Equal: ready, with the held ones that follow."
 unfoldable pub queue : Message → Out → Sent
@@ -81,9 +86,35 @@ queue m o =
     (cond (eqb (m .order) (o .next (m .channel))) (follow (length (o .held)) (m .channel) (emit m (quiet o 0)))
     (quiet (hold m o) 0))
 
--- "Kinds 3 and 7: .. Other kinds: ready."
-unfoldable pub deliver : Message → Out → Sent
-deliver m o = cond (ordered (m .kind)) (queue m o) (record { after = append m o; ready = 1; dropped = 0 })
+-- "each channel remembers the highest sequence number it made ready by kind 1 .. Kind 4 has no channel and gets one such memory for the
+-- whole receiver": the memory of a sequenced kind and channel
+unfoldable pub memoryOf : ℕ → ℕ → ℕ
+memoryOf kind channel = cond (eqb kind 1) channel maxOrdChans
+
+-- "at or below it": is n no newer than memory m? "The first is always made ready": no number is, where there is none
+unfoldable pub older : (ℕ → ℕ) → ℕ → ℕ → Bool
+older newest m n = behind (newest m) n
+
+-- memory m is n from now on
+unfoldable pub noted : ℕ → ℕ → (ℕ → ℕ) → ℕ → ℕ
+noted m n newest d = cond (eqb d m) (following n) (newest d)
+
+unfoldable pub remember : ℕ → ℕ → Out → Out
+remember m n o = record { next = o .next; newest = noted m n (o .newest); held = o .held; line = o .line }
+
+unfoldable pub ready : Message → Out → Sent
+ready m o = record { after = append m o; ready = 1; dropped = 0 }
+
+-- a message of a sequenced kind and sequence number n: "a frame or joined message of kind 1 at or below [its memory] is dropped in step 4",
+-- and so is one of kind 4; else it is ready, and the memory is its number
+unfoldable pub sequence : ℕ → Message → Out → Sent
+sequence n m o =
+    cond (older (o .newest) (memoryOf (m .kind) (m .channel)) n) (quiet o 1)
+    (ready m (remember (memoryOf (m .kind) (m .channel)) n o))
+
+-- "Kinds 3 and 7: .. Other kinds: ready", where a sequenced one is not late; n is the message's sequence number
+unfoldable pub deliver : ℕ → Message → Out → Sent
+deliver n m o = cond (ordered (m .kind)) (queue m o) (cond (sequenced (m .kind)) (sequence n m o) (ready m o))
 
 -- ---- step 3
 
@@ -134,19 +165,19 @@ acceptReliable f a n = (carriesReliable (f .kind) && eqb n (f .reliable)) || a n
 unfoldable pub dropIn : Bare → Fed
 dropIn b = record { after = b; ready = 0; dropped = 1 }
 
--- what step 3 gave goes on to step 4
-unfoldable pub finish : (ℕ → Bool) → List Piece → Out → Kept → Fed
-finish a l o refused = dropIn (record { accepted = a; pieces = l; out = o })
-finish a l o (waiting l′) = record { after = record { accepted = a; pieces = l′; out = o }; ready = 0; dropped = 0 }
-finish a l o (complete l′ m) =
-    let s = deliver m o in
+-- what step 3 gave goes on to step 4; n is the frame's sequence number, which all pieces of its message have
+unfoldable pub finish : ℕ → (ℕ → Bool) → List Piece → Out → Kept → Fed
+finish n a l o refused = dropIn (record { accepted = a; pieces = l; out = o })
+finish n a l o (waiting l′) = record { after = record { accepted = a; pieces = l′; out = o }; ready = 0; dropped = 0 }
+finish n a l o (complete l′ m) =
+    let s = deliver n m o in
     record { after = record { accepted = a; pieces = l′; out = s .after }; ready = s .ready; dropped = s .dropped }
 
 -- the four steps: step 2 is "Channel, count or index over its limit: drop."
 unfoldable pub step : Bare → Frame → Fed
 step b f =
     cond (seenBefore f (b .accepted)) (dropIn b)
-    (cond (inLimits f) (finish (acceptReliable f (b .accepted)) (b .pieces) (b .out) (assemble f (b .pieces)))
+    (cond (inLimits f) (finish (f .sequence) (acceptReliable f (b .accepted)) (b .pieces) (b .out) (assemble f (b .pieces)))
     (dropIn (record { accepted = acceptReliable f (b .accepted); pieces = b .pieces; out = b .out })))
 
 -- "Every frame read goes through the four steps", with the counts of ready and dropped

@@ -4,7 +4,7 @@ use mathlib.Core.Bool.{Bool, _&&_, _||_, not}
 use mathlib.Core.List.{List}
 use lib.Dec.{ltb, leb, eqb}
 use Rattle.base.specs.Limits.{maxOrdChans, maxFrags}
-use Rattle.reliability.specs.Kinds.{hasReliable}
+use Rattle.reliability.specs.Kinds.{hasReliable, hasSequence}
 
 -- A frame as the reader gives it. "Uncarried fields are 0": those that its kind lacks, and count, id and index of a frame that is no piece.
 pub record Frame : Type 0 where
@@ -44,6 +44,10 @@ carriesReliable k = hasReliable k
 -- "Kinds 3 and 7": the ordered messages. (They are the kinds that carry a reliable and an order number: proofs/OrderedKinds.antt.)
 unfoldable pub ordered : ℕ → Bool
 ordered k = eqb k 3 || eqb k 7
+
+-- Kinds 1 and 4: the sequenced messages, "Sequence number: 1, 4", by the one table.
+unfoldable pub sequenced : ℕ → Bool
+sequenced k = hasSequence k
 
 -- Step 2's limits: "channel 0 to 31; piece count 1 to 1,024 (`MAX_FRAGS`), index below it". Count 0 is over its limit too.
 unfoldable pub inLimits : Frame → Bool

@@ -2,3 +2,4 @@ pub mod Frame
 pub mod Bare
 pub mod Book
 pub mod Order
+pub mod Sequenced

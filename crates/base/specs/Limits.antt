@@ -13,6 +13,14 @@ numbers16 = 65536
 abbrev pub maxOrdChans : ℕ
 maxOrdChans = 32
 
+-- request 1, "each channel remembers ..", "Kind 4 .. gets one such memory for the whole receiver": how many memories there are
+abbrev pub memories : ℕ
+memories = 33
+
+-- the numbers that step 4 compares with: a next for each channel, and the memories
+abbrev pub manyNexts : ℕ
+manyNexts = 65
+
 -- "piece count 1 to 1,024 (`MAX_FRAGS`)"
 abbrev pub maxFrags : ℕ
 maxFrags = 1024

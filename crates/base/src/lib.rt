@@ -13,6 +13,8 @@ pub const NUMBERS_16: u32 = 65536;
 
 pub const MAX_ORD_CHANS: u8 = 32;
 
+pub const NEXTS: usize = 65;
+
 pub const MAX_FRAGS: u32 = 1024;
 
 pub const WINDOW_PLACES: u32 = 2048;

@@ -44,8 +44,8 @@ unfolding ifTrue ifLt ifLe ifEq be16 le24 be16Bytes le24Bytes andThen
     cells.indexOf ready.lower ready.earliest
     sound.keyOf sound.limits sound.agree sound.lacksNone sound.soundCell sound.lengths
     store.cellSize store.cellBody store.slotsOf store.cellsOf store.laid store.storeOf
-    queue.nextIn queue.nextOf queue.unsentOf queue.newQueue queue.placesWithin queue.soundWindow queue.differ queue.soundUnsent
-    queue.soundQueue queue.insertUnsent
+    queue.nextIn queue.nextOf queue.memoriesIn queue.newestOf queue.unsentOf queue.newQueue queue.placesWithin queue.soundWindow
+    queue.differ queue.soundUnsent queue.soundQueue queue.insertUnsent
     receive.frameIn receive.framesIn receive.bytesLeft receive.acceptAll receive.stateOf receive.channelsAfter receive.queueAfter
     receive.acceptedResult receive.refusedResult receive.soundCall receive.receiveOf
     take.handed take.takeOf write.sorted write.writeOf write.emptied write.writeUnsentOf

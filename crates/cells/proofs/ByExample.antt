@@ -10,8 +10,8 @@ use Rattle.bare.proofs.Shown.{whole-frame, piece-frame, msg}
 use Rattle.cells.specs.Cell.{Slot, emptySlot}
 use Rattle.cells.specs.Take.{drain}
 use Rattle.cells.specs.Room.{keptAsFrame, bodies, exceeds}
-use Rattle.cells.proofs.Shown.{slot, open-cell, held-cell, ready-cell, SlotCall, receive, take, gave, took, refused, Seen, saw}
-use Rattle.cells.proofs.Shown.{stateAfter, stateAt, run, runFrom, soundAt}
+use Rattle.cells.proofs.Shown.{slot, open-cell, held-cell, ready-cell, numbered, SlotCall, receive, take, gave, took, refused, Seen}
+use Rattle.cells.proofs.Shown.{saw, stateAfter, stateAt, run, runFrom, soundAt}
 
 -- Order number 1 is held, 0 releases it; takes hand them out in order and free their cells; then 20.
 pub held-then-released : run 2 (receive (whole-frame 3 0 0 1 66 ∷ []) ∷ receive (whole-frame 3 1 0 0 65 ∷ []) ∷ take ∷ take ∷ take ∷ [])
@@ -71,6 +71,56 @@ pub late-join-takes-a-cell : bodies (feed new (piece-frame 3 0 0 0 2 5 0 8 ∷ w
     (piece-frame 3 2 0 0 2 5 1 8 ∷ whole-frame 0 0 0 0 1 ∷ whole-frame 0 0 0 0 2 ∷ []) ≡ 3
 unfolding run bodies keptAsFrame
 late-join-takes-a-cell = refl
+
+-- Request 1 with the only cell in use: a whole frame at or below the newest number is dropped and needs no cell, so the datagram is
+-- accepted. A newer one needs a cell and gets 8, and is not remembered: it passes once there is room.
+pub late-whole : run 1 (receive (numbered 5 (whole-frame 1 0 0 0 9) ∷ []) ∷ receive (numbered 5 (whole-frame 1 0 0 0 8)
+    ∷ numbered 4 (whole-frame 1 0 0 0 7) ∷ []) ∷ receive (numbered 6 (whole-frame 1 0 0 0 6) ∷ []) ∷ take
+    ∷ receive (numbered 6 (whole-frame 1 0 0 0 6) ∷ []) ∷ [])
+    ≡ saw (gave 1 0) (slot 3 0 0 1 0 1 5 0 0 (9 ∷ []) ∷ []) ∷ saw (gave 0 2) (slot 3 0 0 1 0 1 5 0 0 (9 ∷ []) ∷ [])
+    ∷ saw (refused 8) (slot 3 0 0 1 0 1 5 0 0 (9 ∷ []) ∷ []) ∷ saw (took (msg 1 0 0 (9 ∷ []))) (emptySlot ∷ [])
+    ∷ saw (gave 1 0) (slot 3 0 0 1 0 1 6 0 0 (6 ∷ []) ∷ []) ∷ []
+unfolding run
+late-whole = refl
+
+-- Each channel has its memory, and kind 4 one of its own: kind 1 with a lower number passes on both channels, kind 4 does not. A joined
+-- message, here of one piece, is remembered too: the whole frame of its number is late.
+pub own-memories : run 3 (receive (numbered 7 (whole-frame 4 0 0 0 1) ∷ numbered 3 (piece-frame 1 0 0 0 1 9 0 2)
+    ∷ numbered 6 (whole-frame 4 1 0 0 3) ∷ numbered 2 (whole-frame 1 0 1 0 4) ∷ numbered 3 (whole-frame 1 0 0 0 5) ∷ []) ∷ [])
+    ≡ saw (gave 3 2) (slot 3 0 0 4 0 1 7 0 0 (1 ∷ []) ∷ slot 3 9 0 1 0 1 3 0 1 (2 ∷ []) ∷ slot 3 0 0 1 1 1 2 0 2 (4 ∷ []) ∷ []) ∷ []
+unfolding run
+own-memories = refl
+
+-- A joined message of kind 1 whose number is not newer: sequence number 4 comes whole, then the second piece of number 3. The joined
+-- message is dropped and counts one; as with the late join above its cells count for 8, and are unused after the datagram. 3 cells do not
+-- do, 4 do.
+unfoldable pub late-sequenced-join : List SlotCall
+late-sequenced-join = receive (numbered 3 (piece-frame 1 0 0 0 2 5 0 8) ∷ numbered 4 (whole-frame 1 0 0 0 9) ∷ []) ∷ take
+    ∷ receive (numbered 3 (piece-frame 1 0 0 0 2 5 1 8) ∷ whole-frame 0 0 0 0 1 ∷ whole-frame 0 0 0 0 2 ∷ []) ∷ []
+
+pub late-sequenced-join-of-3 : run 3 late-sequenced-join
+    ≡ saw (gave 1 0) (slot 1 5 0 1 0 2 3 0 0 (8 ∷ []) ∷ slot 3 0 0 1 0 1 4 0 0 (9 ∷ []) ∷ emptySlot ∷ [])
+    ∷ saw (took (msg 1 0 0 (9 ∷ []))) (slot 1 5 0 1 0 2 3 0 0 (8 ∷ []) ∷ emptySlot ∷ emptySlot ∷ [])
+    ∷ saw (refused 8) (slot 1 5 0 1 0 2 3 0 0 (8 ∷ []) ∷ emptySlot ∷ emptySlot ∷ [])
+    ∷ []
+unfolding run late-sequenced-join
+late-sequenced-join-of-3 = refl
+
+pub late-sequenced-join-of-4 : run 4 late-sequenced-join
+    ≡ saw (gave 1 0) (slot 1 5 0 1 0 2 3 0 0 (8 ∷ []) ∷ slot 3 0 0 1 0 1 4 0 0 (9 ∷ []) ∷ emptySlot ∷ emptySlot ∷ [])
+    ∷ saw (took (msg 1 0 0 (9 ∷ []))) (slot 1 5 0 1 0 2 3 0 0 (8 ∷ []) ∷ emptySlot ∷ emptySlot ∷ emptySlot ∷ [])
+    ∷ saw (gave 2 1) (emptySlot ∷ emptySlot ∷ ready-cell 0 0 0 1 ∷ ready-cell 1 0 0 2 ∷ [])
+    ∷ []
+unfolding run late-sequenced-join
+late-sequenced-join-of-4 = refl
+
+-- Refusal 8's condition counts the same: none for whole frames dropped late, one for the piece of a late join.
+pub late-sequenced-cells : (bodies (feed new (numbered 5 (whole-frame 1 0 0 0 9) ∷ []) .after) (numbered 5 (whole-frame 1 0 0 0 8)
+    ∷ numbered 4 (whole-frame 1 0 0 0 7) ∷ []) ≡ 0)
+    × (bodies (feed new (numbered 3 (piece-frame 1 0 0 0 2 5 0 8) ∷ numbered 4 (whole-frame 1 0 0 0 9) ∷ []) .after)
+    (numbered 3 (piece-frame 1 0 0 0 2 5 1 8) ∷ whole-frame 0 0 0 0 1 ∷ whole-frame 0 0 0 0 2 ∷ []) ≡ 3)
+unfolding run bodies keptAsFrame
+late-sequenced-cells = (refl, refl)
 
 -- An id is used again while its first message is held: its cells keep the id, and both messages come whole.
 pub id-used-again : run 5 (receive (piece-frame 3 0 0 1 2 7 0 1 ∷ piece-frame 3 1 0 1 2 7 1 2 ∷ piece-frame 3 2 0 2 2 7 1 4 ∷ [])

@@ -2,12 +2,14 @@
 -- Assumes nothing.
 use Prim.Native.Nat.{ℕ, suc}
 use mathlib.Core.Path.{_≡_, refl}
-use mathlib.Core.Bool.{true, false}
+use mathlib.Core.Bool.{true, false, cond}
 use mathlib.Core.List.{List, [], _∷_, _++_, map}
+use lib.Dec.{eqb}
 use lib.ListN.{length, take, drop, replicate}
 use Rattle.base.specs.Limits.{numbers24}
+use Rattle.base.specs.Lists.{below}
 use Rattle.cells.specs.Cell.{Slot, emptySlot}
-use Rattle.cells.specs.Sound.{lengths}
+use Rattle.cells.specs.Sound.{soundMemories, lengths}
 use Rattle.cells.specs.Store.{slotsOf, cellsOf, storeOf}
 use Rattle.cells.proofs.Shown.{slot, open-cell, held-cell, ready-cell, run, soundAt}
 
@@ -40,6 +42,12 @@ pub held-above-next : (soundAt 1 (held-cell 1 0 ∷ []) ≡ false) × (soundAt 1
     × (soundAt numbers24 (emptySlot ∷ []) ≡ true) × (soundAt (suc numbers24) (emptySlot ∷ []) ≡ false)
 unfolding run soundAt
 held-above-next = (refl, refl, refl, refl)
+
+-- A memory, the newest sequence number plus 1, is at most 2^24: 32 is kind 4's, and there is no 33.
+pub memories-within : (soundMemories (λ m. numbers24) ≡ true) × (soundMemories (λ m. cond (eqb m 32) (suc numbers24) 0) ≡ false)
+    × (soundMemories (λ m. cond (eqb m 33) (suc numbers24) 0) ≡ true)
+unfolding below
+memories-within = (refl, refl, refl)
 
 -- No more than the text: a ready message of kind 3 above its channel's next, the same number held, an open piece of the same number; held
 -- kind 0.

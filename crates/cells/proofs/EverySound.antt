@@ -174,6 +174,7 @@ module _ (s : State) (v : Rest (s .next) (s .slots)) where
 
   begin-outs : Outs (record {
     next = s .next;
+    newest = s .newest;
     held = bareOf s .out .held;
     line = readyLine (renumber (s .slots)) 0 (countOf isFirst (s .slots));
   }) (s .next) (renumber (s .slots)) 0 (countOf isFirst (s .slots)) []
@@ -199,6 +200,7 @@ module _ (s : State) (v : Rest (s .next) (s .slots)) where
   unfolding bareOf begin
   stands = record {
     accepted = refl;
+    newest = refl;
     pieces = renumber-pieces _ (s .slots) (pieces-open (s .slots));
     outs = rw (← drained, drain-is begin-outs) begin-outs;
   }

@@ -9,32 +9,53 @@ use lib.ListN.{length}
 use Rattle.base.specs.Lists.{option, any, without}
 use Rattle.base.proofs.Choices.{byBool, cases, cond-test, neither}
 use Rattle.bare.specs.Frame.{Frame, Message, inLimits, pieceOf, message}
-use Rattle.bare.specs.Bare.{Bare, Fed, deliver, hasId, joined, waiting, complete, keep, assemble, seenBefore, acceptReliable, dropIn}
-use Rattle.bare.specs.Bare.{finish, step, feed}
+use Rattle.bare.specs.Bare.{Bare, Fed, memoryOf, deliver, hasId, joined, waiting, complete, keep, assemble, seenBefore, acceptReliable}
+use Rattle.bare.specs.Bare.{dropIn, finish, step, feed}
 use Rattle.bare.proofs.Tests.{piece-limits}
 use Rattle.cells.specs.Cell.{Slot, openAs, heldAs, readyAs, of, isFree, allThere, clash, turnTo, putSlot, slotOf}
-use Rattle.cells.specs.Datagram.{Work, dropOne, fillUp, place, made, rise, acceptIn, isHeld, goOn, cascade, follows, Fate, late}
-use Rattle.cells.specs.Datagram.{early, due, free, fateOf, roomy, whole, joins, kept, piece, keepIn, frame, frames}
+use Rattle.cells.specs.Datagram.{Work, dropOne, fillUp, place, made, rise, rememberIn, acceptIn, isHeld, goOn, cascade, follows, Fate}
+use Rattle.cells.specs.Datagram.{late, early, due, newer, free, fateOf, roomy, readied, whole, joins, kept, piece, keepIn, frame}
+use Rattle.cells.specs.Datagram.{frames}
 use Rattle.cells.proofs.Pieces.{Pieces, joined-join, tests-clash, pieces-put}
 use Rattle.cells.proofs.Ready.{same-put, Outs, outs-keep}
 use Rattle.cells.proofs.Moves.{put-unique}
 use Rattle.cells.proofs.FrameSlot.{of-slot-other, fresh-piece, Agrees, agrees-put}
 use Rattle.cells.proofs.Placing.{whole-placing, joinedOf, joined-placing}
 use Rattle.cells.proofs.Cascade.{Sim, answer}
-use Rattle.cells.proofs.Step.{settle, early≢late, free≢late, due≢late, deliver-sim}
+use Rattle.cells.proofs.Step.{settle, early≢late, newer≢late, free≢late, due≢late, deliver-sim}
 
 -- The working state w has what the bare receiver b has; h are the messages handed out before.
 pub record Rel (b : Bare) (w : Work) (h : List Message) : Type 0 where
   pub accepted : b .accepted ≡ w .state .accepted
+  pub newest : b .out .newest ≡ w .state .newest
   pub pieces : Pieces (b .pieces) (w .state .slots)
   pub outs : Outs (b .out) (w .state .next) (w .state .slots) 0 (w .turn) h
 
 pub sim-rel : {x : Fed} {w : Work} {r d : ℕ} {h : List Message} → Sim x w r d h → Rel (x .after) w h
-sim-rel v = record { accepted = v .accepted; pieces = v .pieces; outs = v .outs }
+sim-rel v = record { accepted = v .accepted; newest = v .newest; pieces = v .pieces; outs = v .outs }
+
+-- nothing counted
+rel-sim : (b : Bare) (w : Work) (h : List Message) → Rel b w h → Sim (record { after = b; ready = 0; dropped = 0 }) w (w .counts .ready)
+    (w .counts .dropped) h
+rel-sim b w h v = record {
+  accepted = v .accepted;
+  newest = v .newest;
+  pieces = v .pieces;
+  outs = v .outs;
+  ready = omega arith;
+  dropped = omega arith;
+}
 
 drop-sim : (b : Bare) (w : Work) (h : List Message) → Rel b w h → Sim (dropIn b) (dropOne w) (w .counts .ready) (w .counts .dropped) h
 unfolding dropIn dropOne
-drop-sim b w h v = record { accepted = v .accepted; pieces = v .pieces; outs = v .outs; ready = omega arith; dropped = omega arith }
+drop-sim b w h v = record {
+  accepted = v .accepted;
+  newest = v .newest;
+  pieces = v .pieces;
+  outs = v .outs;
+  ready = omega arith;
+  dropped = omega arith;
+}
 
 -- Where there is no room the working state says so.
 roomy-room : (w r : Work) → roomy w r .full ≡ false → any isFree (w .state .slots) ≡ true
@@ -46,37 +67,41 @@ unfolding roomy
 roomy-is w r e = rw e
 
 whole-settle : (x : Fate) (f : Frame) (w : Work) → ((x ≡ late → ⊥) → any isFree (w .state .slots) ≡ true) → whole x f w
-    ≡ settle x (f .channel) w
+    ≡ settle x (f .channel) (memoryOf (f .kind) (f .channel)) (f .sequence) w
     (putSlot (slotOf f 2 0) (w .state .slots)) (putSlot (slotOf f 3 (w .turn)) (w .state .slots)) (w .state .slots)
-unfolding whole settle dropOne place
+unfolding whole settle readied rememberIn dropOne place
 whole-settle late f w room = refl
 whole-settle early f w room = roomy-is w _ (room early≢late)
+whole-settle newer f w room = roomy-is (rememberIn f w) _ (room newer≢late)
 whole-settle free f w room = roomy-is w _ (room free≢late)
 whole-settle due f w room = roomy-is w _ (room due≢late)
 
 whole-room : (x : Fate) (f : Frame) (w : Work) → whole x f w .full ≡ false → (x ≡ late → ⊥) → any isFree (w .state .slots) ≡ true
-unfolding whole
+unfolding whole readied rememberIn
 whole-room late f w full ne = absurd (ne refl)
 whole-room early f w full ne = roomy-room w _ full
+whole-room newer f w full ne = roomy-room (rememberIn f w) _ full
 whole-room free f w full ne = roomy-room w _ full
 whole-room due f w full ne = roomy-room w _ full
 
 whole-sim : (b : Bare) (w : Work) (h : List Message) (f : Frame) → Rel b w h → f .piece ≡ false → whole (fateOf f w) f w .full ≡ false
-    → Sim (answer (b .accepted) (b .pieces) (deliver (message f (f .body)) (b .out))) (whole (fateOf f w) f w) (w .counts .ready)
-    (w .counts .dropped) h
+    → Sim (answer (b .accepted) (b .pieces) (deliver (f .sequence) (message f (f .body)) (b .out))) (whole (fateOf f w) f w)
+    (w .counts .ready) (w .counts .dropped) h
 unfolding message fateOf
 whole-sim b w h f v e full =
     let room = whole-room (fateOf f w) f w full in
     rw (whole-settle (fateOf f w) f w room)
-    (deliver-sim (fateOf f w) (b .accepted) (b .pieces) h (message f (f .body)) (b .out) w _ _ _
+    (deliver-sim (fateOf f w) (b .accepted) (b .pieces) h (f .sequence) (message f (f .body)) (b .out) w _ _ _
     (whole-placing (fateOf f w) f (b .pieces) (w .turn) (w .state .slots) e room (v .outs .unique) (v .pieces)) (v .accepted)
-    (v .outs) refl)
+    (v .newest) (v .outs) refl)
 
-joins-settle : (x : Fate) (f : Frame) (w : Work) → joins x f w ≡ settle x (f .channel) w (turnTo (openAs (f .id)) 2 0 (w .state .slots))
+joins-settle : (x : Fate) (f : Frame) (w : Work) → joins x f w ≡ settle x (f .channel) (memoryOf (f .kind) (f .channel)) (f .sequence) w
+    (turnTo (openAs (f .id)) 2 0 (w .state .slots))
     (turnTo (openAs (f .id)) 3 (w .turn) (w .state .slots)) (turnTo (openAs (f .id)) 4 0 (w .state .slots))
-unfolding joins settle
+unfolding joins settle rememberIn
 joins-settle late f w = refl
 joins-settle early f w = refl
+joins-settle newer f w = refl
 joins-settle free f w = refl
 joins-settle due f w = refl
 
@@ -87,6 +112,7 @@ put-rel : (b : Bare) (w : Work) (h : List Message) (f : Frame) → Rel b w h →
 unfolding place
 put-rel b w h f v e c room = record {
   accepted = v .accepted;
+  newest = v .newest;
   pieces = pieces-put f (b .pieces) (w .state .slots) room e c (v .pieces);
   outs = outs-keep (putSlot (slotOf f 1 0) (w .state .slots)) (v .outs)
       (λ c k. same-put (slotOf f 1 0) (w .state .slots) room (heldAs c k) (of-slot-other f 1 0 (heldAs c k) (λ q. omega arith)))
@@ -97,19 +123,20 @@ put-rel b w h f v e c room = record {
 kept-sim : (b : Bare) (w : Work) (h : List Message) (f : Frame)
     → Rel (record { accepted = b .accepted; pieces = pieceOf f ∷ b .pieces; out = b .out }) w h → 1 ≤ f .count
     → ((s : Slot) → List·Memᴰ s (w .state .slots) → of (openAs (f .id)) s ≡ true → Agrees f s)
-    → Sim (finish (b .accepted) (b .pieces) (b .out) (option (joined (pieceOf f ∷ b .pieces) (f .id) (f .count))
+    → Sim (finish (f .sequence) (b .accepted) (b .pieces) (b .out) (option (joined (pieceOf f ∷ b .pieces) (f .id) (f .count))
     (waiting (pieceOf f ∷ b .pieces)) (λ body. complete (without (hasId (f .id)) (b .pieces)) (message f body)))) (kept f w)
     (w .counts .ready) (w .counts .dropped) h
 unfolding finish kept message fateOf
 kept-sim b w h f v le agree = rw (joined-join (pieceOf f ∷ b .pieces) (w .state .slots) (v .pieces) (f .id) (f .count))
     (cases (allThere (openAs (f .id)) (w .state .slots) (f .count)) (λ t. rw (t, joins-settle (fateOf f w) f w)
-    (deliver-sim (fateOf f w) (b .accepted) (without (hasId (f .id)) (b .pieces)) h (joinedOf f (w .state .slots)) (b .out) w _ _ _
-    (joined-placing f (b .pieces) (w .turn) (w .state .slots) agree le t (v .outs .unique) (v .pieces) (fateOf f w)) (v .accepted)
-    (v .outs) refl))
-    (λ t. rw t (record { accepted = v .accepted; pieces = v .pieces; outs = v .outs; ready = omega arith; dropped = omega arith })))
+    (deliver-sim (fateOf f w) (b .accepted) (without (hasId (f .id)) (b .pieces)) h (f .sequence) (joinedOf f (w .state .slots)) (b .out)
+    w _ _ _ (joined-placing f (b .pieces) (w .turn) (w .state .slots) agree le t (v .outs .unique) (v .pieces) (fateOf f w)) (v .accepted)
+    (v .newest) (v .outs) refl))
+    (λ t. rw t (rel-sim (record { accepted = b .accepted; pieces = pieceOf f ∷ b .pieces; out = b .out }) w h v)))
 
 piece-sim : (b : Bare) (w : Work) (h : List Message) (f : Frame) → Rel b w h → f .piece ≡ true → 1 ≤ f .count → piece f w .full ≡ false
-    → Sim (finish (b .accepted) (b .pieces) (b .out) (keep f (b .pieces))) (piece f w) (w .counts .ready) (w .counts .dropped) h
+    → Sim (finish (f .sequence) (b .accepted) (b .pieces) (b .out) (keep f (b .pieces))) (piece f w) (w .counts .ready)
+    (w .counts .dropped) h
 unfolding piece keep finish place
 piece-sim b w h f v e le full = rw (tests-clash f (b .pieces) (w .state .slots) (v .pieces)) (cases (any (clash f) (w .state .slots))
     (λ t. rw t (drop-sim b w h v))
@@ -119,7 +146,8 @@ piece-sim b w h f v e le full = rw (tests-clash f (b .pieces) (w .state .slots) 
     (agrees-put f (w .state .slots) e t))))
 
 keepIn-sim : (b : Bare) (w : Work) (h : List Message) (f : Frame) → Rel b w h → inLimits f ≡ true → keepIn f w .full ≡ false
-    → Sim (finish (b .accepted) (b .pieces) (b .out) (assemble f (b .pieces))) (keepIn f w) (w .counts .ready) (w .counts .dropped) h
+    → Sim (finish (f .sequence) (b .accepted) (b .pieces) (b .out) (assemble f (b .pieces))) (keepIn f w) (w .counts .ready)
+    (w .counts .dropped) h
 unfolding keepIn assemble finish
 keepIn-sim b w h f v lim full = cases (f .piece)
     (λ t. rw (
@@ -150,7 +178,7 @@ frame-sim b w h f v full = rw (ap (seenBefore f) (v .accepted)) (cases (seenBefo
     b′ = record { accepted = acceptReliable f (b .accepted); pieces = b .pieces; out = b .out }
 
     v′ : Rel (record { accepted = acceptReliable f (b .accepted); pieces = b .pieces; out = b .out }) (acceptIn f w) h
-    v′ = record { accepted = ap (acceptReliable f) (v .accepted); pieces = v .pieces; outs = v .outs }
+    v′ = record { accepted = ap (acceptReliable f) (v .accepted); newest = v .newest; pieces = v .pieces; outs = v .outs }
 
 -- Once room has run out, that stays said.
 cascade-full : (n c : ℕ) (w : Work) → cascade n c w .full ≡ w .full
@@ -167,16 +195,18 @@ unfolding roomy fillUp
 roomy-full w r e q = byBool (λ (x : Work). x .full ≡ true) (any isFree (w .state .slots)) (λ t. q ∙ e) (λ t. refl)
 
 whole-full : (x : Fate) (f : Frame) (w : Work) → w .full ≡ true → whole x f w .full ≡ true
-unfolding whole dropOne place made
+unfolding whole readied rememberIn dropOne place made
 whole-full late f w e = e
 whole-full early f w e = roomy-full w _ e refl
+whole-full newer f w e = roomy-full (rememberIn f w) _ e refl
 whole-full free f w e = roomy-full w _ e refl
 whole-full due f w e = roomy-full w _ e (follows-full (f .channel) _)
 
 joins-full : (x : Fate) (f : Frame) (w : Work) → joins x f w .full ≡ w .full
-unfolding joins dropOne place made
+unfolding joins rememberIn dropOne place made
 joins-full late f w = refl
 joins-full early f w = refl
+joins-full newer f w = refl
 joins-full free f w = refl
 joins-full due f w = follows-full (f .channel) _
 
@@ -210,18 +240,13 @@ not-full fs w e = cases (w .full) (λ t. neither (frames w fs .full) (frames-ful
 pub frames-sim : (fs : List Frame) (b : Bare) (w : Work) (h : List Message) → Rel b w h → frames w fs .full ≡ false
     → Sim (feed b fs) (frames w fs) (w .counts .ready) (w .counts .dropped) h
 unfolding feed frames
-frames-sim [] b w h v full = record {
-  accepted = v .accepted;
-  pieces = v .pieces;
-  outs = v .outs;
-  ready = omega arith;
-  dropped = omega arith;
-}
+frames-sim [] b w h v full = rel-sim b w h v
 frames-sim (f ∷ fs) b w h v full =
     let s = frame-sim b w h f v (not-full fs (frame w f) full) in
     let r = frames-sim fs (step b f .after) (frame w f) h (sim-rel s) full in
     record {
       accepted = r .accepted;
+      newest = r .newest;
       pieces = r .pieces;
       outs = r .outs;
       ready = let p = s .ready in let q = r .ready in

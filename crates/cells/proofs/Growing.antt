@@ -10,8 +10,8 @@ use Rattle.base.proofs.Choices.{byBool}
 use Rattle.bare.specs.Frame.{Frame, inLimits}
 use Rattle.bare.specs.Bare.{seenBefore}
 use Rattle.cells.specs.Cell.{Slot, Key, openAs, heldAs, of, isFree, allThere, clash, mark, change, mapIf, turnTo, putSlot, slotOf}
-use Rattle.cells.specs.Datagram.{Work, dropOne, fillUp, place, made, rise, acceptIn, isHeld, goOn, cascade, Fate, late, early, free}
-use Rattle.cells.specs.Datagram.{due, fateOf, follows, roomy, whole, joins, kept, piece, keepIn, frame}
+use Rattle.cells.specs.Datagram.{Work, dropOne, fillUp, place, made, rise, rememberIn, acceptIn, isHeld, goOn, cascade, Fate, late}
+use Rattle.cells.specs.Datagram.{early, due, newer, free, fateOf, follows, roomy, readied, whole, joins, kept, piece, keepIn, frame}
 use Rattle.cells.proofs.PutSlot.{put-length}
 
 -- x has as many slots as w, and a turn and counts at most n above those of w.
@@ -51,6 +51,10 @@ grow-full w = record { turn = omega arith; ready = omega arith; dropped = omega 
 grow-rise : (c : ℕ) (w : Work) → Grows 0 w (rise c w)
 unfolding rise
 grow-rise c w = record { turn = omega arith; ready = omega arith; dropped = omega arith; many = refl }
+
+grow-remember : (f : Frame) (w : Work) → Grows 0 w (rememberIn f w)
+unfolding rememberIn
+grow-remember f w = record { turn = omega arith; ready = omega arith; dropped = omega arith; many = refl }
 
 grow-accept : (f : Frame) (w : Work) → Grows 0 w (acceptIn f w)
 unfolding acceptIn
@@ -94,6 +98,10 @@ module _ (n : ℕ) where
   grow-roomy w r g = byBool (Grows n w) (any isFree (w .state .slots)) (λ t. g)
       (λ t. grow-more 0 n w (fillUp w) (omega arith) (grow-full w))
 
+grow-readied : (f : Frame) (w : Work) → Grows 1 w (readied f w)
+unfolding readied
+grow-readied f w = grow-roomy 1 w _ (grow-made _ w (put-length (slotOf f 3 (w .turn)) (w .state .slots)))
+
 -- Made ready, then the held ones that follow.
 module _ (n c : ℕ) (l : List Slot) (w : Work) (e : length l ≡ length (w .state .slots)) (le : length (w .state .slots) ≤ n) where
   grow-due : Grows (1 + n) w (follows c (made l w))
@@ -106,15 +114,17 @@ module _ (n : ℕ) (f : Frame) (w : Work) (le : length (w .state .slots) ≤ n) 
   grow-whole late = grow-more 1 (1 + n) w _ (omega arith) (grow-drop w)
   grow-whole early = grow-roomy (1 + n) w _ (grow-more 0 (1 + n) w _ (omega arith)
       (grow-place _ w (put-length (slotOf f 2 0) (w .state .slots))))
-  grow-whole free = grow-roomy (1 + n) w _ (grow-more 1 (1 + n) w _ (omega arith)
-      (grow-made _ w (put-length (slotOf f 3 (w .turn)) (w .state .slots))))
+  grow-whole newer = grow-more 1 (1 + n) w _ (omega arith) (grow-then 0 1 w _ _ (grow-remember f w) (grow-readied f (rememberIn f w)))
+  grow-whole free = grow-more 1 (1 + n) w _ (omega arith) (grow-readied f w)
   grow-whole due = grow-roomy (1 + n) w _ (grow-due n (f .channel) _ w (put-length (slotOf f 3 (w .turn)) (w .state .slots)) le)
 
   grow-joins : (x : Fate) → Grows (1 + n) w (joins x f w)
-  unfolding joins
+  unfolding joins rememberIn
   grow-joins late = grow-more 1 (1 + n) w _ (omega arith) (grow-then 0 1 w _ _
       (grow-place _ w (turn-length (openAs (f .id)) 4 0 (w .state .slots))) (grow-drop _))
   grow-joins early = grow-more 0 (1 + n) w _ (omega arith) (grow-place _ w (turn-length (openAs (f .id)) 2 0 (w .state .slots)))
+  grow-joins newer = grow-more 1 (1 + n) w _ (omega arith) (grow-then 0 1 w _ _ (grow-remember f w)
+      (grow-made _ (rememberIn f w) (turn-length (openAs (f .id)) 3 (w .turn) (w .state .slots))))
   grow-joins free = grow-more 1 (1 + n) w _ (omega arith) (grow-made _ w (turn-length (openAs (f .id)) 3 (w .turn) (w .state .slots)))
   grow-joins due = grow-due n (f .channel) _ w (turn-length (openAs (f .id)) 3 (w .turn) (w .state .slots)) le
 

@@ -23,6 +23,7 @@ pub mod Places
 pub mod Records
 pub mod SoundTest
 pub mod SoundKept
+pub mod Memories
 pub mod EverySound
 pub mod Counting
 pub mod Shown

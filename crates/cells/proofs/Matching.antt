@@ -32,6 +32,7 @@ pub record Matches (b : Bare) (s : State) (handed : List Message) : Type 0 where
   pub lo : ℕ
   pub n : ℕ
   pub accepted : b .accepted ≡ s .accepted
+  pub newest : b .out .newest ≡ s .newest
   pub pieces : Pieces (b .pieces) (s .slots)
   pub outs : Outs (b .out) (s .next) (s .slots) lo n handed
 
@@ -42,7 +43,12 @@ module _ (b : Bare) (s : State) (h : List Message) (v : Matches b s h) where
 
   begin-rel : Rel b (begin s) h
   unfolding begin
-  begin-rel = record { accepted = v .accepted; pieces = renumber-pieces (b .pieces) (s .slots) (v .pieces); outs = renumber-outs (v .outs) }
+  begin-rel = record {
+    accepted = v .accepted;
+    newest = v .newest;
+    pieces = renumber-pieces (b .pieces) (s .slots) (v .pieces);
+    outs = renumber-outs (v .outs);
+  }
 
   -- A datagram gets 8 exactly when the cells in use before and the bodies not dropped as frames are more than all cells.
   pub matches-room : (fs : List Frame) → datagram s fs .full ≡ exceeds b (s .slots) fs
@@ -66,6 +72,7 @@ module _ (b : Bare) (s : State) (h : List Message) (v : Matches b s h) where
       lo = 0;
       n = datagram s fs .turn;
       accepted = sim .accepted;
+      newest = sim .newest;
       pieces = sweep-pieces _ _ (sim .pieces);
       outs = sweep-outs (sim .outs);
     }
@@ -88,18 +95,20 @@ module _ (b : Bare) (s : State) (h : List Message) (v : Matches b s h) where
             lo = suc lo;
             n = n;
             accepted = v .accepted;
+            newest = v .newest;
             pieces = emptied-pieces (of (readyAs lo)) (b .pieces)
                 (s .slots) (λ s m y. isOpen-used s 3 (of-used (readyAs lo) s y) (λ q. omega arith)) (v .pieces);
             outs = k .3;
           })
 
 -- A receiver just made, of n cells, matches the bare receiver at first.
-pub new-matches : (n : ℕ) → Matches new (record { accepted = λ k. false; next = λ c. 0; slots = replicate n emptySlot }) []
+pub new-matches : (n : ℕ) → Matches new (record { accepted = λ k. false; next = λ c. 0; newest = λ m. 0; slots = replicate n emptySlot }) []
 unfolding new any find pieceAt opens
 new-matches n = record {
   lo = 0;
   n = 0;
   accepted = refl;
+  newest = refl;
   pieces = record {
     tests = λ p. sym (any-replicate (opens p) emptySlot n (rw empty-open));
     finds = λ id i. sym (rw (find-no (sits (openAs id) i) (replicate n emptySlot) (nobody (openAs id) i)));

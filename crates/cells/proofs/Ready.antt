@@ -12,7 +12,7 @@ use Rattle.base.specs.Lists.{option, find, any, countOf, without}
 use Rattle.base.proofs.Choices.{cases}
 use Rattle.base.proofs.Lists.{without-mem, find-without, any-all, find-no}
 use Rattle.bare.specs.Frame.{Message}
-use Rattle.bare.specs.Bare.{Out, isAt, hold, append}
+use Rattle.bare.specs.Bare.{Out, isAt, hold, append, remember}
 use Rattle.bare.proofs.Tests.{isAt-true}
 use Rattle.cells.specs.Cell.{Slot, Key, heldAs, readyAs, of, sits, isFree, messageAt, putSlot}
 use Rattle.cells.proofs.Keys.{none-sits, Carried, carried-message, carried-any, message-none, put-any-of, put-other}
@@ -74,6 +74,20 @@ outs-keep {o} {next} {l} {lo} {n} {h} l′ v sh sr u = record {
   unique = u;
 }
 
+-- A sequence number is remembered: neither the held nor the ready messages change.
+pub outs-remember : {o : Out} {next : ℕ → ℕ} {l : List Slot} {lo n : ℕ} {h : List Message} (m k : ℕ) → Outs o next l lo n h
+    → Outs (remember m k o) next l lo n h
+unfolding remember
+outs-remember m k v = record {
+  next-same = v .next-same;
+  held = v .held;
+  first = v .first;
+  line = v .line;
+  within = v .within;
+  firsts = v .firsts;
+  unique = v .unique;
+}
+
 isAt-same : (x m : Message) (c k : ℕ) → isAt (m .channel) (m .order) x ≡ true → isAt c k x ≡ isAt c k m
 unfolding isAt
 isAt-same x m c k e = let r = isAt-true (m .channel) (m .order) x e in cc
@@ -127,8 +141,12 @@ module _ {o : Out} {next : ℕ → ℕ} {l : List Slot} {lo n : ℕ} {h : List M
 
   pub outs-emit : (next′ next″ : ℕ → ℕ) → next′ ≡ next″ → any (of (heldAs (m .channel) (m .order))) l′ ≡ false
       → ((c k : ℕ) → isAt c k m ≡ false → SameUnder (heldAs c k) l (heldAs c k) l′)
-      → Outs (record { next = next′; held = without (isAt (m .channel) (m .order)) (o .held); line = o .line ++ (m ∷ []) }) next″ l′ lo
-      (suc n) h
+      → Outs (record {
+        next = next′;
+        newest = o .newest;
+        held = without (isAt (m .channel) (m .order)) (o .held);
+        line = o .line ++ (m ∷ []);
+      }) next″ l′ lo (suc n) h
   outs-emit next′ next″ same gone sh = record {
     next-same = same;
     held = λ c k. cases (isAt c k m) (λ t. let r = isAt-true c k m t in rw (← r .0, ← r .1) (away ∙ sym absent))

@@ -3,7 +3,7 @@
 use Prim.Native.Nat.{ℕ, zero, suc, _+_}
 use mathlib.Core.Path.{_≡_, refl, sym, _∙_, ap}
 use mathlib.Core.Logic.{_⊎_, inl, inr}
-use mathlib.Core.Bool.{Bool, true, false, cond, not, _&&_, _||_}
+use mathlib.Core.Bool.{Bool, true, false, cond, not, _||_}
 use mathlib.Core.List.{List, [], _∷_}
 use native.Mathlib.Omega.{arith}
 use lib.ListN.{length}
@@ -12,13 +12,14 @@ use borrow.Author.Tests.{ltb-true, ltb-false, lt-ltb, le-ltb, eqb-true}
 use Rattle.base.specs.Lists.{find, any, countOf}
 use Rattle.base.proofs.Choices.{byBool, cases, byOption}
 use Rattle.base.proofs.Counts.{count-map, count-none, count-both}
-use Rattle.bare.specs.Frame.{Frame, Message, ordered, inLimits, pieceOf, message}
-use Rattle.bare.specs.Bare.{Out, Bare, Sent, isAt, emit, follow, quiet, queue, deliver, conflict, seenBefore, acceptReliable, step}
+use Rattle.bare.specs.Frame.{Frame, Message, ordered, sequenced, inLimits, pieceOf, message}
+use Rattle.bare.specs.Bare.{Out, Bare, Sent, isAt, emit, follow, quiet, queue, memoryOf, older, ready, sequence, deliver, conflict}
+use Rattle.bare.specs.Bare.{seenBefore, acceptReliable, step}
 use Rattle.cells.specs.Cell.{Slot, Key, openAs, heldAs, of, isFree, isReady, allThere, clash, mark, change, mapIf, turnTo, putSlot}
 use Rattle.cells.specs.Cell.{slotOf}
-use Rattle.cells.specs.Datagram.{Work, dropOne, fillUp, place, made, rise, acceptIn, isHeld, goOn, cascade, follows, Fate, late}
-use Rattle.cells.specs.Datagram.{early, due, free, fate, fateOf, roomy, whole, joins, kept, piece, keepIn, frame, frames, rank}
-use Rattle.cells.specs.Datagram.{renumber, State, begin, datagram}
+use Rattle.cells.specs.Datagram.{Work, dropOne, fillUp, place, made, rise, rememberIn, acceptIn, isHeld, goOn, cascade, follows, Fate}
+use Rattle.cells.specs.Datagram.{late, early, due, newer, free, fate, fateOf, roomy, readied, whole, joins, kept, piece, keepIn}
+use Rattle.cells.specs.Datagram.{frame, frames, rank, renumber, State, begin, datagram}
 use Rattle.cells.specs.Room.{keptAsFrame, bodies, exceeds}
 use Rattle.cells.proofs.PutSlot.{free-put}
 use Rattle.cells.proofs.Keys.{key-used, used-free, mark-free}
@@ -50,9 +51,10 @@ unfolding follows rise
 free-follows c w = free-cascade (length (w .state .slots)) c (rise c w)
 
 free-joins : (x : Fate) (f : Frame) (w : Work) → countOf isFree (joins x f w .state .slots) ≡ countOf isFree (w .state .slots)
-unfolding joins dropOne place made
+unfolding joins rememberIn dropOne place made
 free-joins late f w = free-turn (openAs (f .id)) 4 0 (w .state .slots) (λ q. omega arith)
 free-joins early f w = free-turn (openAs (f .id)) 2 0 (w .state .slots) (λ q. omega arith)
+free-joins newer f w = free-turn (openAs (f .id)) 3 (w .turn) (w .state .slots) (λ q. omega arith)
 free-joins free f w = free-turn (openAs (f .id)) 3 (w .turn) (w .state .slots) (λ q. omega arith)
 free-joins due f w = free-follows (f .channel) (made (turnTo (openAs (f .id)) 3 (w .turn) (w .state .slots)) w) ∙ free-turn (openAs (f .id))
     3 (w .turn) (w .state .slots) (λ q. omega arith)
@@ -73,13 +75,15 @@ roomy-spends x w r e q c = byBool (λ (z : Work). Spends w z 1) (any isFree (w .
 unfoldable cellsFor : Fate → ℕ
 cellsFor late = 0
 cellsFor early = 1
+cellsFor newer = 1
 cellsFor free = 1
 cellsFor due = 1
 
 whole-spends : (x : Fate) (f : Frame) (w : Work) → Spends w (whole x f w) (cellsFor x)
-unfolding whole cellsFor dropOne place made
+unfolding whole readied rememberIn cellsFor dropOne place made
 whole-spends late f w = inr (refl, omega arith)
 whole-spends early f w = roomy-spends (slotOf f 2 0) w _ (slot-free f 2 0 (λ q. omega arith)) refl refl
+whole-spends newer f w = roomy-spends (slotOf f 3 (w .turn)) (rememberIn f w) _ (slot-free f 3 (w .turn) (λ q. omega arith)) refl refl
 whole-spends free f w = roomy-spends (slotOf f 3 (w .turn)) w _ (slot-free f 3 (w .turn) (λ q. omega arith)) refl refl
 whole-spends due f w = roomy-spends (slotOf f 3 (w .turn)) w _ (slot-free f 3 (w .turn) (λ q. omega arith)) (follows-full (f .channel) _)
     (free-follows (f .channel) _)
@@ -97,32 +101,45 @@ follow-dropped zero c s = refl
 follow-dropped (suc n) c s = byOption (λ (t : Sent). t .dropped ≡ s .dropped) (find (isAt c (s .after .next c)) (s .after .held))
     (λ e. refl) (λ m e. follow-dropped n c (emit m s))
 
--- Step 4 drops a message of an ordered kind whose number is below the channel's next or held, and no other.
-deliver-dropped : (m : Message) (o : Out) → deliver m o .dropped
-    ≡ cond (ordered (m .kind) && (ltb (m .order) (o .next (m .channel)) || any (isAt (m .channel) (m .order)) (o .held))) 1 0
-unfolding deliver queue quiet emit
-deliver-dropped m o = cases (ordered (m .kind))
+-- Step 4 drops a message of an ordered kind whose number is below the channel's next or held, one of a sequenced kind that is no newer than
+-- its memory, and no other.
+deliver-dropped : (n : ℕ) (m : Message) (o : Out) → deliver n m o .dropped
+    ≡ cond (ordered (m .kind)) (cond (ltb (m .order) (o .next (m .channel)) || any (isAt (m .channel) (m .order)) (o .held)) 1 0)
+    (cond (sequenced (m .kind)) (cond (older (o .newest) (memoryOf (m .kind) (m .channel)) n) 1 0) 0)
+unfolding deliver queue sequence ready quiet emit
+deliver-dropped n m o = cases (ordered (m .kind))
     (λ t. rw t (cases (ltb (m .order) (o .next (m .channel)) || any (isAt (m .channel) (m .order)) (o .held))
     (λ u. rw u)
     (λ u. rw u (byBool (λ (s : Sent). s .dropped ≡ 0) (eqb (m .order) (o .next (m .channel)))
     (λ z. follow-dropped (length (o .held)) (m .channel) (emit m (quiet o 0))) (λ z. refl)))))
-    (λ t. rw t)
+    (λ t. rw t (cases (sequenced (m .kind))
+    (λ u. rw u (cases (older (o .newest) (memoryOf (m .kind) (m .channel)) n) (λ z. rw z) (λ z. rw z)))
+    (λ u. rw u)))
 
 cellsFor-is : (b : Bare) (w : Work) (h : List Message) (f : Frame) → Rel b w h → cellsFor (fateOf f w)
-    ≡ cond (eqb (deliver (message f (f .body)) (b .out) .dropped) 0) 1 0
+    ≡ cond (eqb (deliver (f .sequence) (message f (f .body)) (b .out) .dropped) 0) 1 0
 unfolding fateOf fate cellsFor message
-cellsFor-is b w h f v = rw (deliver-dropped (message f (f .body)) (b .out), nx, ← isHeld-is (v .outs) (f .channel) (f .order))
-    (go (ordered (f .kind)) (ltb (f .order) (w .state .next (f .channel)) || isHeld (f .channel) (f .order) (w .state .slots))
-    (eqb (f .order) (w .state .next (f .channel))))
+cellsFor-is b w h f v = rw (
+  deliver-dropped (f .sequence) (message f (f .body)) (b .out),
+  nx,
+  ← isHeld-is (v .outs) (f .channel) (f .order),
+  ap (λ (g : ℕ → ℕ). older g (memoryOf (f .kind) (f .channel)) (f .sequence)) (v .newest),
+)
+    (go (ordered (f .kind)) (sequenced (f .kind))
+    (ltb (f .order) (w .state .next (f .channel)) || isHeld (f .channel) (f .order) (w .state .slots))
+    (eqb (f .order) (w .state .next (f .channel))) (older (w .state .newest) (memoryOf (f .kind) (f .channel)) (f .sequence)))
   where
     nx : b .out .next (f .channel) ≡ w .state .next (f .channel)
     nx = ap (λ (g : ℕ → ℕ). g (f .channel)) (v .outs .next-same)
 
-    go : (o t u : Bool) → cellsFor (cond o (cond t late (cond u due early)) free) ≡ cond (eqb (cond (o && t) 1 0) 0) 1 0
-    go true true u = refl
-    go true false true = refl
-    go true false false = refl
-    go false t u = refl
+    go : (o s t u y : Bool) → cellsFor (cond o (cond t late (cond u due early)) (cond s (cond y late newer) free))
+        ≡ cond (eqb (cond o (cond t 1 0) (cond s (cond y 1 0) 0)) 0) 1 0
+    go true s true u y = refl
+    go true s false true y = refl
+    go true s false false y = refl
+    go false true t u true = refl
+    go false true t u false = refl
+    go false false t u y = refl
 
 ltb-shift : (k x y z : ℕ) → x ≡ k + y → ltb y z ≡ ltb x (k + z)
 ltb-shift k x y z e = cases (ltb y z)
@@ -131,12 +148,12 @@ ltb-shift k x y z e = cases (ltb y z)
 
 keepIn-spends : (b : Bare) (w : Work) (h : List Message) (f : Frame) → Rel b w h
     → Spends w (keepIn f w) (cond (cond (f .piece) (not (any (conflict (pieceOf f)) (b .pieces)))
-    (eqb (deliver (message f (f .body)) (b .out) .dropped) 0)) 1 0)
+    (eqb (deliver (f .sequence) (message f (f .body)) (b .out) .dropped) 0)) 1 0)
 unfolding keepIn
 keepIn-spends b w h f v = rw (tests-clash f (b .pieces) (w .state .slots) (v .pieces)) (go (f .piece))
   where
     go : (t : Bool) → Spends w (cond t (piece f w) (whole (fateOf f w) f w))
-        (cond (cond t (not (any (clash f) (w .state .slots))) (eqb (deliver (message f (f .body)) (b .out) .dropped) 0)) 1 0)
+        (cond (cond t (not (any (clash f) (w .state .slots))) (eqb (deliver (f .sequence) (message f (f .body)) (b .out) .dropped) 0)) 1 0)
     go true = piece-spends f w
     go false = rw (← cellsFor-is b w h f v) (whole-spends (fateOf f w) f w)
 
@@ -147,7 +164,7 @@ frame-spends b w h f v = rw (ap (seenBefore f) (v .accepted)) (cases (seenBefore
     (λ t. cases (inLimits f)
     (λ y. rw (t, y) (keepIn-spends (record { accepted = acceptReliable f (w .state .accepted); pieces = b .pieces; out = b .out })
     (acceptIn f w)
-    h f (record { accepted = refl; pieces = v .pieces; outs = v .outs })))
+    h f (record { accepted = refl; newest = v .newest; pieces = v .pieces; outs = v .outs })))
     (λ y. rw (t, y) (inr (refl, omega arith)))))
 
 frames-spends : (fs : List Frame) (b : Bare) (w : Work) (h : List Message) → Rel b w h → w .full ≡ false → frames w fs .full

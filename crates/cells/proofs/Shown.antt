@@ -5,15 +5,16 @@ use mathlib.Core.Bool.{Bool, false, cond}
 use mathlib.Core.List.{List, [], _∷_}
 use lib.ListN.{length, replicate}
 use Rattle.base.specs.Lists.{option, find, any, every, countOf, without, only, below}
-use Rattle.bare.specs.Frame.{Frame, Message, carriesReliable, ordered, inLimits, pieceOf, message}
-use Rattle.bare.specs.Bare.{new, isAt, bump, emit, follow, quiet, hold, append, queue, deliver, conflict, isPieceAt, hasId, joined, keep}
-use Rattle.bare.specs.Bare.{assemble, seenBefore, acceptReliable, dropIn, finish, step, feed}
+use Rattle.bare.specs.Frame.{Frame, Message, carriesReliable, ordered, sequenced, inLimits, pieceOf, message}
+use Rattle.bare.specs.Bare.{new, isAt, bump, emit, follow, quiet, hold, append, queue, memoryOf, older, noted, ready, sequence, deliver}
+use Rattle.bare.specs.Bare as bare
+use Rattle.bare.specs.Bare.{conflict, isPieceAt, hasId, joined, keep, assemble, seenBefore, acceptReliable, dropIn, finish, step, feed}
 use Rattle.bare.proofs.Shown.{whole-frame, piece-frame, msg}
 use Rattle.cells.specs.Cell.{Slot, bears, at, of, sits, isFree, isOpen, isReady, join, allThere, messageOf, messageAt, pieceIn, clash}
 use Rattle.cells.specs.Cell.{markCell, mark, emptyCell, emptySlot, change, mapIf, turnTo, freed, putSlot, slotOf}
 use Rattle.cells.specs.Datagram.{dropOne, fillUp, place, made, rise, acceptIn, isHeld, goOn, cascade, follows, fate, fateOf, roomy}
-use Rattle.cells.specs.Datagram.{whole, joins, kept, piece, keepIn, frame, frames, isFirst, isBefore, rank, renumber, sweep, begin}
-use Rattle.cells.specs.Datagram.{State, withSlots, end, datagram}
+use Rattle.cells.specs.Datagram.{rememberIn, readied, whole, joins, kept, piece, keepIn, frame, frames, isFirst, isBefore, rank}
+use Rattle.cells.specs.Datagram.{renumber, sweep, begin, State, withSlots, end, datagram}
 use Rattle.cells.specs.Take.{lower, earliest, taking, drainIn, drain}
 use Rattle.cells.specs.Sound.{keyOf, limits, agree, lacksNone, soundCell, sound, lengths}
 use Rattle.cells.specs.Store.{cellSize, cellBody, slotsOf, cellsOf, laid, storeOf}
@@ -47,6 +48,21 @@ held-cell order byte = slot 2 0 0 3 0 1 0 order 0 (byte ∷ [])
 unfoldable pub ready-cell : ℕ → ℕ → ℕ → ℕ → Slot
 ready-cell turn kind order byte = slot 3 0 0 kind 0 1 0 order turn (byte ∷ [])
 
+-- The frame with sequence number n.
+unfoldable pub numbered : ℕ → Frame → Frame
+numbered n f = record {
+  kind = f .kind;
+  reliable = f .reliable;
+  sequence = n;
+  order = f .order;
+  channel = f .channel;
+  piece = f .piece;
+  count = f .count;
+  id = f .id;
+  index = f .index;
+  body = f .body;
+}
+
 -- A call on slots: a datagram's frames, or a take with a joining buffer long enough.
 pub data SlotCall : Type 0 where
   receive : List Frame → SlotCall
@@ -79,19 +95,19 @@ unfoldable pub seeing : State → List SlotCall → List Seen
 seeing s [] = []
 seeing s (c ∷ cs) = saw (telling s c) (stateAfter s c .slots) ∷ seeing (stateAfter s c) cs
 
--- Nothing accepted, every channel's next at c, and these slots.
+-- Nothing accepted or remembered, every channel's next at c, and these slots.
 unfoldable pub stateAt : ℕ → List Slot → State
-stateAt c l = record { accepted = λ n. false; next = λ d. c; slots = l }
+stateAt c l = record { accepted = λ n. false; next = λ d. c; newest = λ m. 0; slots = l }
 
 -- The calls of a list, from a receiver just made of n cells. `unfolding run` opens every definition that a run computes with.
 unfoldable pub run : ℕ → List SlotCall → List Seen
-unfolding slot open-cell held-cell ready-cell saw telling stateAfter seeing stateAt whole-frame piece-frame msg every keyOf limits agree
-    lacksNone below soundCell sound lengths find any without only carriesReliable ordered isAt bump emit follow quiet hold append queue
-    deliver message keep assemble joined dropIn finish step feed new pieceOf conflict isPieceAt hasId inLimits acceptReliable seenBefore
-    bears at of sits isFree isOpen isReady countOf join allThere messageOf messageAt pieceIn clash mark markCell emptyCell emptySlot change
-    mapIf turnTo freed putSlot slotOf dropOne fillUp place made rise acceptIn isHeld goOn cascade fate fateOf follows roomy whole joins kept
-    piece keepIn frame frames isFirst isBefore rank renumber sweep begin end datagram lower earliest taking drainIn drain cellSize cellBody
-    slotsOf cellsOf laid storeOf
+unfolding slot open-cell held-cell ready-cell saw telling stateAfter seeing stateAt whole-frame piece-frame numbered msg every keyOf limits
+    agree lacksNone below soundCell sound lengths find any without only carriesReliable ordered sequenced isAt bump emit follow quiet hold
+    append queue memoryOf older noted bare.remember ready sequence deliver message keep assemble joined dropIn finish step feed new pieceOf
+    conflict isPieceAt hasId inLimits acceptReliable seenBefore bears at of sits isFree isOpen isReady countOf join allThere messageOf
+    messageAt pieceIn clash mark markCell emptyCell emptySlot change mapIf turnTo freed putSlot slotOf dropOne fillUp place made rise
+    acceptIn isHeld goOn cascade rememberIn fate fateOf follows roomy readied whole joins kept piece keepIn frame frames isFirst isBefore
+    rank renumber sweep begin end datagram lower earliest taking drainIn drain cellSize cellBody slotsOf cellsOf laid storeOf
 run n cs = seeing (stateAt 0 (replicate n emptySlot)) cs
 
 -- The same from any slots, with every channel's next at c.

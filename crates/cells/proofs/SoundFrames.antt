@@ -12,12 +12,13 @@ use Rattle.base.specs.Limits.{numbers24, maxOrdChans, maxFrags}
 use Rattle.base.specs.Lists.{any}
 use Rattle.base.proofs.Choices.{byBool, cases, and-left, and-right, and-both, or-left, or-right, neither}
 use Rattle.base.proofs.Lists.{any-false}
-use Rattle.bare.specs.Frame.{Frame, ordered, inLimits, message}
-use Rattle.bare.specs.Bare.{seenBefore}
+use Rattle.bare.specs.Frame.{Frame, ordered, sequenced, inLimits, message}
+use Rattle.bare.specs.Bare.{memoryOf, older, seenBefore}
 use Rattle.bare.proofs.Tests.{piece-limits, isAt-true}
 use Rattle.cells.specs.Cell.{Slot, Key, openAs, heldAs, readyAs, bears, of, isFree, allThere, clash, turnTo, putSlot, slotOf}
-use Rattle.cells.specs.Datagram.{Work, dropOne, fillUp, place, made, acceptIn, isHeld, Fate, late, early, due, free, fate, fateOf}
-use Rattle.cells.specs.Datagram.{roomy, whole, joins, kept, piece, keepIn, frame, frames}
+use Rattle.cells.specs.Datagram.{Work, dropOne, fillUp, place, made, rememberIn, acceptIn, isHeld, Fate, late, early, due, newer}
+use Rattle.cells.specs.Datagram.{free}
+use Rattle.cells.specs.Datagram.{fate, fateOf, roomy, readied, whole, joins, kept, piece, keepIn, frame, frames}
 use Rattle.cells.specs.Sound.{Readable}
 use Rattle.cells.proofs.PutSlot.{mem-put}
 use Rattle.cells.proofs.Keys.{of-used, no-key-of-4, put-any-of}
@@ -101,6 +102,7 @@ abbrev Found : Fate → Frame → Work → Type 0
 Found late f w = Unit {0}
 Found early f w = (w .state .next (f .channel) < f .order) × (isHeld (f .channel) (f .order) (w .state .slots) ≡ false)
 Found due f w = w .state .next (f .channel) ≡ f .order
+Found newer f w = Unit {0}
 Found free f w = Unit {0}
 
 found : (f : Frame) (w : Work) → Found (fateOf f w) f w
@@ -112,7 +114,9 @@ found f w = byBool (λ (x : Fate). Found x f w) (ordered (f .kind))
     (λ z. let a = eqb-false (f .order) (w .state .next (f .channel)) z in
     let b = ltb-false (f .order) (w .state .next (f .channel)) (or-left (ltb (f .order) (w .state .next (f .channel))) _ y) in
     (omega arith, or-right (ltb (f .order) (w .state .next (f .channel))) _ y))))
-    (λ t. tt)
+    (λ t. byBool (λ (x : Fate). Found x f w) (sequenced (f .kind))
+    (λ y. byBool (λ (x : Fate). Found x f w) (older (w .state .newest) (memoryOf (f .kind) (f .channel)) (f .sequence)) (λ z. tt) (λ z. tt))
+    (λ y. tt))
 
 abbrev SoundIn : Work → Type 0
 SoundIn w = Sound (w .state .next) (w .state .slots) (w .turn)
@@ -123,9 +127,10 @@ roomy-sound w r v k = byBool SoundIn (any isFree (w .state .slots)) k (λ t. v)
 
 whole-sound : (x : Fate) (f : Frame) (w : Work) → Readable f → inLimits f ≡ true → f .piece ≡ false → Found x f w → SoundIn w
     → SoundIn (whole x f w)
-unfolding whole dropOne place made
+unfolding whole readied rememberIn dropOne place made
 whole-sound late f w ok lim e p v = v
 whole-sound early f w ok lim e p v = roomy-sound w _ v (λ room. hold-sound f w ok lim v e room (p .0) (p .1))
+whole-sound newer f w ok lim e p v = roomy-sound (rememberIn f w) _ v (λ room. ready-sound f w ok lim v e room)
 whole-sound free f w ok lim e p v = roomy-sound w _ v (λ room. ready-sound f w ok lim v e room)
 whole-sound due f w ok lim e p v = roomy-sound w _ v (λ room. follows-sound (f .channel)
     (made (putSlot (slotOf f 3 (w .turn)) (w .state .slots)) w) (let r = ok .order in omega (arith, p)) (ready-sound f w ok lim v e room))
@@ -277,9 +282,10 @@ module _ (f : Frame) (w : Work) (ok : Readable f) (agree : (s : Slot) → List·
     }
 
     joins-sound : (x : Fate) → Found x f w → SoundIn (joins x f w)
-    unfolding joins dropOne place made
+    unfolding joins rememberIn dropOne place made
     joins-sound late p = join-late
     joins-sound early p = join-early (p .0) (p .1)
+    joins-sound newer p = join-ready
     joins-sound free p = join-ready
     joins-sound due p = follows-sound (f .channel) (made (turnTo (openAs (f .id)) 3 (w .turn) (w .state .slots)) w) (let r = ok .order in
         omega (arith, p)) join-ready

@@ -20,8 +20,9 @@ use Rattle.bare.specs.Bare.{seenBefore}
 use Rattle.cells.specs.Cell.{Cell, Slot, Key, openAs, heldAs, readyAs, of, isFree, isReady, allThere, clash, markCell, mark}
 use Rattle.cells.specs.Cell.{emptyCell, emptySlot, change, mapIf, turnTo, freed, putSlot, slotOf}
 use Rattle.cells.specs.Datagram.{Work, dropOne, fillUp, place, made, rise, acceptIn, isHeld, goOn, cascade, follows, Fate, late}
-use Rattle.cells.specs.Datagram.{early, due, free, fateOf, roomy, whole, joins, kept, piece, keepIn, frame, frames, renumber, sweep}
-use Rattle.cells.specs.Datagram.{State, begin, end, datagram}
+use Rattle.cells.specs.Datagram.{early, due, newer, free, rememberIn, fateOf, roomy, readied, whole, joins, kept, piece, keepIn}
+use Rattle.cells.specs.Datagram.{frame}
+use Rattle.cells.specs.Datagram.{frames, renumber, sweep, State, begin, end, datagram}
 use Rattle.cells.specs.Take.{Taken, taking}
 use Rattle.cells.specs.Sound.{Readable}
 use Rattle.cells.specs.Store.{cellSize, cellBody, slotsOf, cellsOf, laid, storeOf}
@@ -139,19 +140,22 @@ module _ (n : ℕ) where
   roomy-shaped w r v k = byBool (λ (x : Work). Shaped n (x .state .slots)) (any isFree (w .state .slots)) (λ y. k) (λ y. v)
 
   whole-shaped : (x : Fate) (f : Frame) (w : Work) → Readable f → Shaped n (w .state .slots) → Shaped n (whole x f w .state .slots)
-  unfolding whole dropOne place made
+  unfolding whole readied rememberIn dropOne place made
   whole-shaped late f w ok v = v
   whole-shaped early f w ok v = roomy-shaped w _ v (put-shaped n (slotOf f 2 0) (w .state .slots) (slot-sized f 2 0 ok (λ q. omega arith))
       v)
+  whole-shaped newer f w ok v = roomy-shaped (rememberIn f w) _ v (put-shaped n (slotOf f 3 (w .turn)) (w .state .slots)
+      (slot-sized f 3 (w .turn) ok (λ q. omega arith)) v)
   whole-shaped free f w ok v = roomy-shaped w _ v (put-shaped n (slotOf f 3 (w .turn)) (w .state .slots)
       (slot-sized f 3 (w .turn) ok (λ q. omega arith)) v)
   whole-shaped due f w ok v = roomy-shaped w _ v (follows-shaped (f .channel) (made (putSlot (slotOf f 3 (w .turn)) (w .state .slots)) w)
       (put-shaped n (slotOf f 3 (w .turn)) (w .state .slots) (slot-sized f 3 (w .turn) ok (λ q. omega arith)) v))
 
   joins-shaped : (x : Fate) (f : Frame) (w : Work) → Shaped n (w .state .slots) → Shaped n (joins x f w .state .slots)
-  unfolding joins dropOne place made
+  unfolding joins rememberIn dropOne place made
   joins-shaped late f w v = turn-shaped n (openAs (f .id)) 4 0 (w .state .slots) (λ q. omega arith) v
   joins-shaped early f w v = turn-shaped n (openAs (f .id)) 2 0 (w .state .slots) (λ q. omega arith) v
+  joins-shaped newer f w v = turn-shaped n (openAs (f .id)) 3 (w .turn) (w .state .slots) (λ q. omega arith) v
   joins-shaped free f w v = turn-shaped n (openAs (f .id)) 3 (w .turn) (w .state .slots) (λ q. omega arith) v
   joins-shaped due f w v = follows-shaped (f .channel) (made (turnTo (openAs (f .id)) 3 (w .turn) (w .state .slots)) w)
       (turn-shaped n (openAs (f .id)) 3 (w .turn) (w .state .slots) (λ q. omega arith) v)

@@ -1,5 +1,5 @@
--- A datagram's frames on the cells: document 01's four steps ("A datagram's frames, in order") on a working state, and the turns and freed
--- cells.
+-- A datagram's frames on the cells: document 01's four steps ("A datagram's frames, in order"; with request 1, late sequenced messages) on
+-- a working state, and the turns and freed cells.
 use Prim.Native.Nat.{ℕ, zero, suc}
 use mathlib.Core.Bool.{Bool, true, false, cond, _&&_, _||_}
 use mathlib.Core.List.{List, [], _∷_}
@@ -7,15 +7,17 @@ use lib.Dec.{ltb, eqb}
 use lib.ListN.{length}
 use Rattle.base.specs.Numbers.{behind}
 use Rattle.base.specs.Lists.{any, countOf}
-use Rattle.bare.specs.Frame.{Frame, ordered, inLimits}
-use Rattle.bare.specs.Bare.{bump, acceptReliable, seenBefore}
+use Rattle.bare.specs.Frame.{Frame, ordered, sequenced, inLimits}
+use Rattle.bare.specs.Bare.{bump, memoryOf, older, noted, acceptReliable, seenBefore}
 use Rattle.cells.specs.Cell.{Slot, openAs, heldAs, of, isFree, isReady, allThere, clash, mark, emptySlot, mapIf, turnTo, putSlot}
 use Rattle.cells.specs.Cell.{slotOf, heldUse, openUse, readyUse, releasedUse}
 
--- What stays between two calls, as far as the four steps go: the reliable numbers accepted, each channel's next and the slots.
+-- What stays between two calls, as far as the four steps go: the reliable numbers accepted, each channel's next, the memories
+-- of newest sequence numbers and the slots.
 pub record State : Type 0 where
   pub accepted : ℕ → Bool
   pub next : ℕ → ℕ
+  pub newest : ℕ → ℕ
   pub slots : List Slot
 
 -- "The answer reports messages made ready, frames dropped"
@@ -32,20 +34,38 @@ pub record Work : Type 0 where
 
 -- with other slots; a datagram at work with another state
 abbrev pub withSlots : List Slot → State → State
-withSlots l s = record { accepted = s .accepted; next = s .next; slots = l }
+withSlots l s = record { accepted = s .accepted; next = s .next; newest = s .newest; slots = l }
 
 abbrev pub onState : State → Work → Work
 onState s w = record { state = s; counts = w .counts; turn = w .turn; full = w .full }
 
--- other slots; the channel's next raised; the frame's reliable number accepted
+-- other slots; the channel's next raised; the frame's sequence number remembered; its reliable number accepted
 unfoldable pub place : List Slot → Work → Work
 place l w = onState (withSlots l (w .state)) w
 
 unfoldable pub rise : ℕ → Work → Work
-rise c w = onState (record { accepted = w .state .accepted; next = bump c (w .state .next); slots = w .state .slots }) w
+rise c w = onState (record {
+  accepted = w .state .accepted;
+  next = bump c (w .state .next);
+  newest = w .state .newest;
+  slots = w .state .slots;
+}) w
+
+unfoldable pub rememberIn : Frame → Work → Work
+rememberIn f w = onState (record {
+  accepted = w .state .accepted;
+  next = w .state .next;
+  newest = noted (memoryOf (f .kind) (f .channel)) (f .sequence) (w .state .newest);
+  slots = w .state .slots;
+}) w
 
 unfoldable pub acceptIn : Frame → Work → Work
-acceptIn f w = onState (record { accepted = acceptReliable f (w .state .accepted); next = w .state .next; slots = w .state .slots }) w
+acceptIn f w = onState (record {
+  accepted = acceptReliable f (w .state .accepted);
+  next = w .state .next;
+  newest = w .state .newest;
+  slots = w .state .slots;
+}) w
 
 -- a frame dropped; other slots, by which a message is made ready; room run out
 unfoldable pub dropOne : Work → Work
@@ -84,35 +104,43 @@ unfoldable pub follows : ℕ → Work → Work
 follows c w = cascade (length (w .state .slots)) c (rise c w)
 
 -- "Kinds 3 and 7: order number below the channel's next, or held: drop" (late). "Above: hold" (early). "Equal: ready, with the held ones
--- that follow" (due). "Other kinds: ready" (free).
+-- that follow" (due). Sequenced kinds: "at or below [the memory] is dropped in step 4" (late), else ready, and remembered (newer).
+-- "Other kinds: ready" (free).
 pub data Fate : Type 0 where
-  late early due free : Fate
+  late early due newer free : Fate
 
-unfoldable pub fate : ℕ → ℕ → ℕ → Work → Fate
-fate kind c o w =
+unfoldable pub fate : ℕ → ℕ → ℕ → ℕ → Work → Fate
+fate kind c o n w =
     let s = w .state in
-    cond (ordered kind) (cond (behind (s .next c) o || isHeld c o (s .slots)) late (cond (eqb o (s .next c)) due early)) free
+    cond (ordered kind) (cond (behind (s .next c) o || isHeld c o (s .slots)) late (cond (eqb o (s .next c)) due early))
+    (cond (sequenced kind) (cond (older (s .newest) (memoryOf kind c) n) late newer) free)
 
 unfoldable pub fateOf : Frame → Work → Fate
-fateOf f w = fate (f .kind) (f .channel) (f .order) w
+fateOf f w = fate (f .kind) (f .channel) (f .order) (f .sequence) w
 
 -- A body "not dropped as a frame" needs a cell that was unused before the datagram (a late join's cells have use 4, so they are not free
 -- yet).
 unfoldable pub roomy : Work → Work → Work
 roomy w r = cond (any isFree (w .state .slots)) r (fillUp w)
 
+-- a whole frame made ready, where there is room
+unfoldable pub readied : Frame → Work → Work
+readied f w = roomy w (made (putSlot (slotOf f readyUse (w .turn)) (w .state .slots)) w)
+
 -- "A whole frame is a message at once": its slot is put as step 4 says.
 unfoldable pub whole : Fate → Frame → Work → Work
 whole late f w = dropOne w
 whole early f w = roomy w (place (putSlot (slotOf f heldUse 0) (w .state .slots)) w)
 whole due f w = roomy w (follows (f .channel) (made (putSlot (slotOf f readyUse (w .turn)) (w .state .slots)) w))
-whole free f w = roomy w (made (putSlot (slotOf f readyUse (w .turn)) (w .state .slots)) w)
+whole newer f w = readied f (rememberIn f w)
+whole free f w = readied f w
 
 -- A joined message's slots are there already; "joining closes the id": they are open no more. "a joined message dropped in 4 counts one"
 unfoldable pub joins : Fate → Frame → Work → Work
 joins late f w = dropOne (place (turnTo (openAs (f .id)) releasedUse 0 (w .state .slots)) w)
 joins early f w = place (turnTo (openAs (f .id)) heldUse 0 (w .state .slots)) w
 joins due f w = follows (f .channel) (made (turnTo (openAs (f .id)) readyUse (w .turn) (w .state .slots)) w)
+joins newer f w = made (turnTo (openAs (f .id)) readyUse (w .turn) (w .state .slots)) (rememberIn f w)
 joins free f w = made (turnTo (openAs (f .id)) readyUse (w .turn) (w .state .slots)) w
 
 -- "Else keep. When all indices are there, the bodies joined by index are one message."

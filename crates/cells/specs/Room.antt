@@ -22,13 +22,18 @@ unfoldable pub bareOf : State → Bare
 bareOf s = record {
   accepted = s .accepted;
   pieces = map pieceIn (only isOpen (s .slots));
-  out = record { next = s .next; held = map (heldIn (s .slots)) (only isHeldFirst (s .slots)); line = drain (s .slots) };
+  out = record {
+    next = s .next;
+    newest = s .newest;
+    held = map (heldIn (s .slots)) (only isHeldFirst (s .slots));
+    line = drain (s .slots);
+  };
 }
 
 -- "bodies not dropped as frames": kept by steps 1 to 3 and, if whole, by step 4 ("a joined message dropped late still counts")
 unfoldable pub keptAsFrame : Bare → Frame → Bool
 keptAsFrame b f = not (seenBefore f (b .accepted)) && (inLimits f && cond (f .piece) (not (any (conflict (pieceOf f)) (b .pieces)))
-    (eqb (deliver (message f (f .body)) (b .out) .dropped) 0))
+    (eqb (deliver (f .sequence) (message f (f .body)) (b .out) .dropped) 0))
 
 unfoldable pub bodies : Bare → List Frame → ℕ
 bodies b [] = 0

@@ -5,7 +5,7 @@ use mathlib.Core.Bool.{Bool, cond, not, _&&_, _||_}
 use mathlib.Core.List.{List}
 use lib.ListN.{length}
 use lib.Dec.{ltb, leb, eqb}
-use Rattle.base.specs.Limits.{numbers16, numbers24, maxOrdChans, maxFrags, maxCells, cellBytes}
+use Rattle.base.specs.Limits.{numbers16, numbers24, maxOrdChans, memories, maxFrags, maxCells, cellBytes}
 use Rattle.base.specs.Lists.{any, every, countOf, below}
 use Rattle.bare.specs.Frame.{Frame}
 use Rattle.cells.specs.Cell.{Cell, Key, openAs, heldAs, readyAs, bears, at, heldUse, openUse, readyUse, unusedUse}
@@ -45,6 +45,10 @@ soundCell cs next c =
 -- "each channel's next is at most 2^24", a rule on the receiver's own values
 abbrev pub soundNexts : (ℕ → ℕ) → Bool
 soundNexts next = below maxOrdChans (λ c. leb (next c) numbers24)
+
+-- each memory, the newest sequence number plus 1, is at most 2^24: likewise
+abbrev pub soundMemories : (ℕ → ℕ) → Bool
+soundMemories newest = below memories (λ m. leb (newest m) numbers24)
 
 -- all cells are sound
 abbrev pub soundCells : List Cell → (ℕ → ℕ) → Bool

@@ -1,7 +1,7 @@
 -- What follows of document 01's rules for every call, and for every list of calls.
 -- Assumes nothing.
 use Prim.Native.Nat.{ℕ}
-use mathlib.Core.Path.{_≡_, ap}
+use mathlib.Core.Path.{_≡_, ap, _∙_}
 use mathlib.Core.Logic.{_⊎_, _↔_}
 use mathlib.Core.Bool.{true}
 use mathlib.Core.List.{List, [], _∷_, List·Memᴰ}
@@ -12,9 +12,11 @@ use Rattle.window.proofs.Laws.{refusal-keeps-window}
 use Rattle.receiver.specs.Queue.{unsentOf}
 use Rattle.receiver.specs.Receive.{datagramNumber}
 use Rattle.receiver.specs.Calls.{Call, receive, Receiver, outcome, afterAll}
-use Rattle.receiver.specs.Claim.{Start, begun, AllBytes}
+use Rattle.receiver.specs.Claim.{Start, begun, AllBytes, readBy}
 use Rattle.receiver.proofs.Runs.{runs}
-use Rattle.receiver.proofs.Demand.{start-sane}
+use Rattle.receiver.proofs.Demand.{start-sane, demand-3}
+use Rattle.bare.proofs.Sequenced.{line-numbered, kind-1-rises, kind-4-rises}
+use Rattle.corollaries.specs.Sequenced.{SequencedRise}
 use Rattle.corollaries.specs.Refusals.{RefusedWith, lent, lentAfter, IsAccepted, soundReceiver, Arrays}
 use Rattle.corollaries.proofs.Refusals.{refusal-keeps, sound-no-9}
 use Rattle.corollaries.proofs.UnsentAfter.{accepted-unsent}
@@ -62,3 +64,12 @@ sound-never-9 = sound-no-9
 -- nor does any call of a list from a receiver just made
 pub never-9 : (s : Start) (cs : List Call) (c : Call) → AllBytes cs → RefusedWith (afterAll outcome (begun s) cs) c 9 → ⊥
 never-9 s cs c b = sound-no-9 (afterAll outcome (begun s) cs) c (reached-is-sound s cs b)
+
+-- Request 1: on one channel the sequence numbers of the kind 1 messages that a list's takes hand out rise strictly, and so do kind 4's
+-- among all of them.
+pub sequenced-rise : (s : Start) (cs : List Call) → AllBytes cs → SequencedRise s cs
+sequenced-rise s cs b = record {
+  messages = line-numbered (readBy outcome s cs) ∙ demand-3 s s cs cs b b .first .line;
+  kind-1 = kind-1-rises (readBy outcome s cs);
+  kind-4 = kind-4-rises (readBy outcome s cs);
+}

@@ -14,13 +14,12 @@ use Rattle.window.specs.declared.ReliableWindow.{ReliableWindow}
 use Rattle.window.specs.Places.{placeSet}
 use Rattle.window.specs.Proper.{Sized, Proper}
 use Rattle.window.specs.Window.{accepted}
-use Rattle.cells.specs.Sound.{soundNexts}
 use Rattle.receiver.specs.declared.RecvQueue.{RecvQueue}
-use Rattle.receiver.specs.Queue.{nextOf, unsentOf, placesWithin, soundWindow, differ, soundUnsent, soundQueue}
+use Rattle.receiver.specs.Queue.{unsentOf, placesWithin, soundWindow, differ, soundUnsent, soundQueue}
 use Rattle.receiver.specs.Calls.{Call, Receiver, outcome, afterAll}
 use Rattle.receiver.specs.Claim.{AllBytes}
 use Rattle.receiver.proofs.Queues.{Good}
-use Rattle.receiver.proofs.Receives.{Sane}
+use Rattle.receiver.proofs.Receives.{Sane, unsent-sound}
 use Rattle.receiver.proofs.Runs.{runs}
 use Rattle.corollaries.specs.Refusals.{Arrays, soundReceiver}
 use Rattle.corollaries.proofs.Refusals.{queue-sound}
@@ -61,9 +60,8 @@ window-sound w z e =
 queue-good : (q : RecvQueue) → Arrays q → soundQueue q ≡ true → Good q
 unfolding soundQueue soundUnsent
 queue-good q z e =
-    let r = and-right (soundWindow (q .datagrams)) (soundWindow (q .reliables) && (soundNexts (nextOf q) && soundUnsent q)) e in
-    let u = and-right (soundNexts (nextOf q)) (soundUnsent q)
-    (and-right (soundWindow (q .reliables)) (soundNexts (nextOf q) && soundUnsent q) r) in
+    let r = and-right (soundWindow (q .datagrams)) _ e in
+    let u = unsent-sound q e in
     let m = and-right (leb (q .pending) maxUnsent) _ u in
     record {
       datagrams = window-sound (q .datagrams) (z .datagrams) (and-left (soundWindow (q .datagrams)) _ e);

@@ -23,8 +23,8 @@ use Rattle.bare.specs.Order.{lineFor}
 use Rattle.bare.proofs.Shown.{whole-frame, msg}
 use Rattle.cells.specs.Records.{indexOf}
 use Rattle.cells.proofs.Shown.{run}
-use Rattle.receiver.specs.Queue.{newQueue, placesWithin, soundWindow, differ, soundUnsent, soundQueue, nextIn, nextOf, unsentOf}
-use Rattle.receiver.specs.Queue.{insertUnsent}
+use Rattle.receiver.specs.Queue.{newQueue, placesWithin, soundWindow, differ, soundUnsent, soundQueue, nextIn, nextOf, memoriesIn, newestOf}
+use Rattle.receiver.specs.Queue.{unsentOf, insertUnsent}
 use Rattle.receiver.specs.Receive.{frameIn, framesIn, bytesLeft, acceptAll, stateOf, channelsAfter, queueAfter, acceptedResult}
 use Rattle.receiver.specs.Receive.{refusedResult, soundCall, receiveOf}
 use Rattle.receiver.specs.Take.{handed, takeOf}
@@ -46,8 +46,8 @@ unfolding trace1 trace2 traceCalls traceStart made zeros takes bytesAt messageHa
     records.firstOf records.lastOf records.recordBytes records.recordsBytes records.grow records.runs ack.idOf ack.ackHeaderBytes
     ack.listBytes ack.someOver ack.tooLarge ack.ascending ack.byListCase ack.writeListOf ack.writtenOf
     places.bit places.placeSet places.setPlace places.clearPlace window.newWindow window.accepted window.advance window.accept
-    newQueue placesWithin soundWindow differ soundUnsent soundQueue nextIn nextOf unsentOf insertUnsent acceptAll stateOf channelsAfter
-    queueAfter acceptedResult refusedResult soundCall receiveOf
+    newQueue placesWithin soundWindow differ soundUnsent soundQueue nextIn nextOf memoriesIn newestOf unsentOf insertUnsent acceptAll
+    stateOf channelsAfter queueAfter acceptedResult refusedResult soundCall receiveOf
     handed takeOf indexOf sorted writeOf emptied writeUnsentOf outcomeWith idle untouched acknowledged firstOnly mute
 outBy by = handedOut by (begun traceStart) traceCalls ++ stillOut by (afterAll by (begun traceStart) traceCalls)
 

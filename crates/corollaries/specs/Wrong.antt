@@ -51,6 +51,7 @@ acknowledged x r =
         channels = x .queue .channels;
         unsent = r .queue .unsent;
         pending = r .queue .pending;
+        newest = x .queue .newest;
       };
       records = x .records;
       store = x .store;

@@ -1,13 +1,13 @@
 -- What the examples speak of: frames, datagrams' bytes and what each call is told, over the definitions that the calls' promises cite.
 -- Assumes nothing.
-use Prim.Native.Nat.{ℕ, _*_}
-use mathlib.Core.Bool.{true, false}
-use mathlib.Core.List.{List, [], _∷_}
-use lib.ListN.{take, replicate}
+use Prim.Native.Nat.{ℕ, _+_, _*_, _-_}
+use mathlib.Core.Bool.{Bool, true, false}
+use mathlib.Core.List.{List, [], _∷_, _++_}
+use lib.ListN.{length, take, replicate}
 use Rattle.base.specs.Answer.{Answer, refused, gives}
 use Rattle.base.specs.Bytes.{be16, be32, le24, be16Bytes, le24Bytes}
 use Rattle.base.specs.If.{ifTrue, ifLt, ifLe, ifEq}
-use Rattle.base.specs.Limits.{cellBytes}
+use Rattle.base.specs.Limits.{cellBytes, maxOrdChans, maxUnsent}
 use Rattle.base.specs.Lists as lists
 use Rattle.base.specs.Put.{put, andThen}
 use Rattle.reliability.specs.Kinds.{fieldsOf}
@@ -27,6 +27,7 @@ use Rattle.cells.specs.Sound as sound
 use Rattle.cells.specs.Store as store
 use Rattle.cells.specs.Take as ready
 use Rattle.cells.proofs.Shown.{slot}
+use Rattle.receiver.specs.declared.RecvQueue.{RecvQueue}
 use Rattle.receiver.specs.Queue as queue
 use Rattle.receiver.specs.Receive as receive
 use Rattle.receiver.specs.Take as take
@@ -73,16 +74,19 @@ pub data Told : Type 0 where
   wrote : List ℕ → Told
   no : ℕ → Told
 
--- That, and after the call: both windows' low, the unsent numbers, the next order numbers of channels 0 and 1, and the slots.
+-- That, and after the call: both windows' low, the unsent numbers, the next order numbers of channels 0 and 1, the memories of newest
+-- sequence numbers (of channels 0 and 1, then the receiver's own; each is the number plus 1, 0 for none), and the slots.
 pub record Seen : Type 0 where
   pub told : Told
   pub lows : List ℕ
   pub unsent : List ℕ
   pub nexts : List ℕ
+  pub memories : List ℕ
   pub slots : List cell.Slot
 
-abbrev pub saw : Told → List ℕ → List ℕ → List ℕ → List cell.Slot → Seen
-saw told lows unsent nexts slots = record { told = told; lows = lows; unsent = unsent; nexts = nexts; slots = slots }
+abbrev pub saw : Told → List ℕ → List ℕ → List ℕ → List ℕ → List cell.Slot → Seen
+saw told lows unsent nexts memories slots =
+    record { told = told; lows = lows; unsent = unsent; nexts = nexts; memories = memories; slots = slots }
 
 unfoldable pub received : Answer receive.Report → Told
 received (refused number) = no number
@@ -109,7 +113,9 @@ telling x (calls.write-missing out) = let r = write.writeMissingOf (x .queue) ou
 unfoldable pub seen : Told → calls.Receiver → Seen
 seen told x =
     saw told (x .queue .datagrams .low ∷ x .queue .reliables .low ∷ []) (queue.unsentOf (x .queue))
-    (queue.nextOf (x .queue) 0 ∷ queue.nextOf (x .queue) 1 ∷ []) (store.slotsOf (x .records) (x .store))
+    (queue.nextOf (x .queue) 0 ∷ queue.nextOf (x .queue) 1 ∷ [])
+    (queue.newestOf (x .queue) 0 ∷ queue.newestOf (x .queue) 1 ∷ queue.newestOf (x .queue) maxOrdChans ∷ [])
+    (store.slotsOf (x .records) (x .store))
 
 unfoldable pub seeing : calls.Receiver → List calls.Call → List Seen
 seeing x [] = []
@@ -125,23 +131,43 @@ unfolding ifTrue ifLt ifLe ifEq be16 be32 le24 be16Bytes le24Bytes put andThen
     ack.idOf ack.ackHeaderBytes ack.listBytes ack.someOver ack.tooLarge ack.ascending ack.byListCase ack.writeListOf ack.writtenOf
     places.bit places.placeSet places.setPlace places.clearPlace window.newWindow window.accepted window.advance window.accept
     missing.highest missing.unlessAccepted missing.missingOf missing.missing
-    line.carriesReliable line.ordered line.inLimits line.pieceOf bare.bump bare.conflict bare.seenBefore bare.acceptReliable
+    line.carriesReliable line.ordered line.sequenced line.inLimits line.pieceOf bare.bump bare.memoryOf bare.older bare.noted bare.conflict
+    bare.seenBefore bare.acceptReliable
     cell.bears cell.at cell.of cell.sits cell.isFree cell.isOpen cell.isReady cell.join cell.allThere cell.messageOf cell.messageAt
     cell.pieceIn cell.clash
     cell.mark cell.markCell cell.emptyCell cell.emptySlot cell.change cell.mapIf cell.turnTo cell.freed cell.putSlot cell.slotOf
-    datagram.dropOne datagram.fillUp datagram.place datagram.made datagram.rise datagram.acceptIn datagram.isHeld datagram.goOn
-    datagram.cascade datagram.follows
-    datagram.fate datagram.fateOf datagram.roomy datagram.whole datagram.joins datagram.kept datagram.piece datagram.keepIn datagram.frame
-    datagram.frames
+    datagram.dropOne datagram.fillUp datagram.place datagram.made datagram.rise datagram.rememberIn datagram.acceptIn datagram.isHeld
+    datagram.goOn datagram.cascade datagram.follows
+    datagram.fate datagram.fateOf datagram.roomy datagram.readied datagram.whole datagram.joins datagram.kept datagram.piece
+    datagram.keepIn datagram.frame datagram.frames
     datagram.isFirst datagram.isBefore datagram.rank datagram.renumber datagram.sweep datagram.begin datagram.end datagram.datagram
     cells.indexOf ready.lower ready.earliest
     sound.keyOf sound.limits sound.agree sound.lacksNone sound.soundCell sound.lengths
     store.cellSize store.cellBody store.slotsOf store.cellsOf store.laid store.storeOf
-    queue.nextIn queue.nextOf queue.unsentOf queue.newQueue queue.placesWithin queue.soundWindow queue.differ queue.soundUnsent
-    queue.soundQueue queue.insertUnsent
+    queue.nextIn queue.nextOf queue.memoriesIn queue.newestOf queue.unsentOf queue.newQueue queue.placesWithin queue.soundWindow
+    queue.differ queue.soundUnsent queue.soundQueue queue.insertUnsent
     receive.frameIn receive.framesIn receive.bytesLeft receive.acceptAll receive.stateOf receive.channelsAfter receive.queueAfter
     receive.acceptedResult receive.refusedResult receive.soundCall receive.receiveOf
     take.handed take.takeOf write.sorted write.writeOf write.emptied write.writeUnsentOf write.writeMissingOf
     calls.made calls.bytesAt calls.messageHanded calls.receiveOutcome calls.takeOutcome calls.writeOutcome calls.outcome
     received message taken written telling seen seeing slot
 run n cs = seeing (calls.made n (replicate (cellBytes * n) 0)) cs
+
+-- A new receiver but for these values: both windows' low; the next and the memory of channel c; the receiver's own memory; the unsent
+-- numbers.
+abbrev pub valuesOf : ℕ → ℕ → ℕ → ℕ → ℕ → ℕ → List ℕ → RecvQueue
+valuesOf datagrams reliables c next newest own unsent =
+    record {
+      datagrams = window.windowOf datagrams (replicate 256 0);
+      reliables = window.windowOf reliables (replicate 256 0);
+      channels = replicate c queue.newChannel
+          ++ (record { next = next; newest = newest } ∷ replicate (maxOrdChans - (1 + c)) queue.newChannel);
+      unsent = unsent ++ replicate (maxUnsent - length unsent) 0;
+      pending = length unsent;
+      newest = own;
+    }
+
+-- Are they sound?
+unfoldable pub soundValues : ℕ → ℕ → ℕ → ℕ → ℕ → ℕ → List ℕ → Bool
+soundValues datagrams reliables c next newest own unsent =
+    queue.soundQueue (valuesOf datagrams reliables c next newest own unsent)

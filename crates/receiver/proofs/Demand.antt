@@ -4,7 +4,7 @@ use Prim.Native.Nat.{ℕ, zero, suc, _*_}
 use mathlib.Core.Path.{_≡_, refl, sym, _∙_, ap, subst}
 use mathlib.Core.Bool.{Bool, true, false, _&&_}
 use mathlib.Core.Option.{none}
-use mathlib.Core.List.{List, [], _∷_, _++_, append-nil}
+use mathlib.Core.List.{List, [], _∷_, _++_, map, append-nil}
 use lib.ListN.{length, getD, drop, replicate, length-replicate}
 use lib.Dec.{leb, eqb}
 use borrow.Author.Tests.{le-leb, eq-eqb}
@@ -19,12 +19,12 @@ use Rattle.window.proofs.Laws.{new-accepts-none}
 use Rattle.cells.specs.Cell.{Cell, Slot, emptyCell, emptySlot}
 use Rattle.cells.specs.Datagram.{State, datagram}
 use Rattle.cells.specs.Room.{exceeds}
-use Rattle.cells.specs.Sound.{soundCell, soundNexts, lengths}
+use Rattle.cells.specs.Sound.{soundCell, soundNexts, soundMemories, lengths}
 use Rattle.cells.specs.Store.{cellSize, cellBody, slotsOf}
 use Rattle.cells.specs.Take.{taking, drain, drainIn}
 use Rattle.cells.proofs.Matching.{Matches, matches-line, matches-room, new-matches}
 use Rattle.receiver.specs.declared.Channel.{Channel}
-use Rattle.receiver.specs.Queue.{nextIn, nextOf, newQueue, soundQueue}
+use Rattle.receiver.specs.Queue.{newChannel, nextIn, nextOf, memoriesIn, newestOf, newQueue, soundQueue}
 use Rattle.receiver.specs.Receive.{stateOf, soundCall}
 use Rattle.receiver.specs.Calls.{Call, Receiver, made, outcome, afterAll, handedOut, acceptedOf, stillOut, drained, framesRead}
 use Rattle.receiver.specs.Claim.{Start, begun, AllBytes, readBy, OneList, Claim}
@@ -47,11 +47,25 @@ same-at (suc n) (suc c) z = same-at n c z
 
 next-zero : nextOf newQueue ≡ (λ c. 0)
 unfolding nextOf nextIn newQueue
-next-zero = λ i c. same-at maxOrdChans c (record { next = 0 }) i .next
+next-zero = λ i c. same-at maxOrdChans c newChannel i .next
+
+newest-zero : newestOf newQueue ≡ (λ m. 0)
+unfolding newestOf memoriesIn newQueue
+newest-zero = λ i m. at maxOrdChans m i
+  where
+    at : (n m : ℕ) → getD (map (λ (c : Channel). c .newest) (replicate n newChannel) ++ (0 ∷ [])) m 0 ≡ 0
+    at zero zero = refl
+    at zero (suc m) = refl
+    at (suc n) zero = refl
+    at (suc n) (suc m) = at n m
 
 new-next : soundNexts (nextOf newQueue) ≡ true
 unfolding below
 new-next = rw next-zero
+
+new-memories : soundMemories (newestOf newQueue) ≡ true
+unfolding below
+new-memories = rw newest-zero
 
 pub start-sane : (s : Start) → Sane (begun s)
 unfolding made soundCall lengths soundCell emptyCell
@@ -64,7 +78,7 @@ start-sane s =
           && eqb (length (s .store)) (cellBytes * length (replicate (s .cells) emptyCell)))) _
           (rw n (and-both (leb 1 (s .cells)) _ (le-leb _ _ (s .some-cells))
           (and-both (leb (s .cells) maxCells) _ (le-leb _ _ (s .most-cells)) (eq-eqb _ _ (s .store-length)))))
-          (and-both (soundQueue newQueue) _ (good-sound newQueue new-good new-next)
+          (and-both (soundQueue newQueue) _ (good-sound newQueue new-good new-next new-memories)
           (every-same (soundCell (replicate (s .cells) emptyCell) (nextOf newQueue)) emptyCell (s .cells) refl));
     }
 
@@ -77,9 +91,14 @@ start-matches : (s : Start) → Matches new (stateIn (begun s)) []
 unfolding made stateOf newQueue
 start-matches s = subst (λ (z : State). Matches new z []) (sym is) (new-matches (s .cells))
   where
-    is : stateIn (begun s) ≡ record { accepted = λ k. false; next = λ c. 0; slots = replicate (s .cells) emptySlot }
+    is : stateIn (begun s) ≡ record { accepted = λ k. false; next = λ c. 0; newest = λ m. 0; slots = replicate (s .cells) emptySlot }
     is = unfold stateOf made newQueue in
-        (λ i. record { accepted = λ k. new-accepts-none k i; next = next-zero i; slots = new-slots (s .cells) (s .store) i })
+        (λ i. record {
+          accepted = λ k. new-accepts-none k i;
+          next = next-zero i;
+          newest = newest-zero i;
+          slots = new-slots (s .cells) (s .store) i;
+        })
 
 -- ---- one list
 module _ (s : Start) (cs : List Call) (bytes : AllBytes cs) where

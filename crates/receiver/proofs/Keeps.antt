@@ -1,20 +1,22 @@
 -- What one frame leaves alone in the receiver with cells: the reliable numbers accepted, but for its own, and the next numbers of other
 -- channels.
 -- Assumes nothing.
-use Prim.Native.Nat.{ℕ, zero, suc}
+use Prim.Native.Nat.{ℕ, zero, suc, _≤_, _<_}
 use mathlib.Core.Path.{_≡_, refl, sym, _∙_, ap}
 use mathlib.Core.Bool.{Bool, true, false, cond, _&&_, _||_}
 use mathlib.Core.List.{List, [], _∷_}
+use native.Mathlib.Omega.{arith}
 use lib.ListN.{length}
 use lib.Dec.{ltb, eqb}
-use borrow.Author.Tests.{ne-eqb}
+use borrow.Author.Tests.{ltb-true, ne-eqb}
+use Rattle.base.specs.Limits.{maxOrdChans}
 use Rattle.base.specs.Lists.{any}
-use Rattle.base.proofs.Choices.{byBool}
+use Rattle.base.proofs.Choices.{byBool, and-left}
 use Rattle.bare.specs.Frame.{Frame, inLimits}
 use Rattle.bare.specs.Bare.{bump, acceptReliable, seenBefore}
 use Rattle.cells.specs.Cell.{Slot, openAs, isFree, allThere, clash}
-use Rattle.cells.specs.Datagram.{Work, dropOne, fillUp, place, made, rise, acceptIn, isHeld, goOn, cascade, Fate, late, early, free, due}
-use Rattle.cells.specs.Datagram.{fateOf, follows, roomy, whole, joins, kept, piece, keepIn, frame}
+use Rattle.cells.specs.Datagram.{Work, dropOne, fillUp, place, made, rise, rememberIn, acceptIn, isHeld, goOn, cascade, Fate, late, early}
+use Rattle.cells.specs.Datagram.{due, newer, free, fateOf, follows, roomy, readied, whole, joins, kept, piece, keepIn, frame, frames}
 use Rattle.bare.proofs.Tests.{bump-other}
 
 -- x is w as far as the numbers accepted and the other channels' next go.
@@ -48,6 +50,10 @@ keep-rise : (c : ℕ) (w : Work) → Keeps c w (rise c w)
 unfolding rise
 keep-rise c w = record { accepted = refl; next = λ d ne. bump-other c (w .state .next) d ne }
 
+keep-remember : (f : Frame) (w : Work) → Keeps (f .channel) w (rememberIn f w)
+unfolding rememberIn
+keep-remember f w = record { accepted = refl; next = λ d ne. refl }
+
 keep-on : (c : ℕ) (w : Work) → Keeps c w (goOn c w)
 unfolding goOn
 keep-on c w = then (keep-made c _ w) (keep-rise c _)
@@ -66,17 +72,23 @@ keep-roomy : (c : ℕ) (w r : Work) → Keeps c w r → Keeps c w (roomy w r)
 unfolding roomy
 keep-roomy c w r k = byBool (Keeps c w) (any isFree (w .state .slots)) (λ t. k) (λ t. keep-full c w)
 
+keep-readied : (f : Frame) (w : Work) → Keeps (f .channel) w (readied f w)
+unfolding readied
+keep-readied f w = keep-roomy (f .channel) w _ (keep-made (f .channel) _ w)
+
 keep-whole : (x : Fate) (f : Frame) (w : Work) → Keeps (f .channel) w (whole x f w)
 unfolding whole
 keep-whole late f w = keep-drop (f .channel) w
 keep-whole early f w = keep-roomy (f .channel) w _ (keep-place (f .channel) _ w)
-keep-whole free f w = keep-roomy (f .channel) w _ (keep-made (f .channel) _ w)
+keep-whole newer f w = then (keep-remember f w) (keep-readied f (rememberIn f w))
+keep-whole free f w = keep-readied f w
 keep-whole due f w = keep-roomy (f .channel) w _ (then (keep-made (f .channel) _ w) (keep-follows (f .channel) _))
 
 keep-joins : (x : Fate) (f : Frame) (w : Work) → Keeps (f .channel) w (joins x f w)
 unfolding joins
 keep-joins late f w = then (keep-place (f .channel) _ w) (keep-drop (f .channel) _)
 keep-joins early f w = keep-place (f .channel) _ w
+keep-joins newer f w = then (keep-remember f w) (keep-made (f .channel) _ (rememberIn f w))
 keep-joins free f w = keep-made (f .channel) _ w
 keep-joins due f w = then (keep-made (f .channel) _ w) (keep-follows (f .channel) _)
 
@@ -117,3 +129,12 @@ frame-next w f d ne = go (seenBefore f (w .state .accepted)) (inLimits f) refl
     go true l e = refl
     go false true e = keepIn-keeps f (acceptIn f w) .next d (ne e)
     go false false e = refl
+
+-- Frames never touch a next number past the last channel.
+pub frames-past : (fs : List Frame) (w : Work) (c : ℕ) → maxOrdChans ≤ c → frames w fs .state .next c ≡ w .state .next c
+unfolding frames inLimits
+frames-past [] w c le = refl
+frames-past (f ∷ fs) w c le =
+    frames-past fs (frame w f) c le
+    ∙ frame-next w f c (λ e q. let lt : f .channel < maxOrdChans =
+    ltb-true (f .channel) maxOrdChans (and-left (ltb (f .channel) maxOrdChans) _ e) in omega arith)

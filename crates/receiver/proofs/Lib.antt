@@ -1,8 +1,8 @@
 pub mod Keeps
+pub mod ChannelsAfter
 pub mod ByParts
 pub mod Accepting
 pub mod FramesIn
-pub mod Nexts
 pub mod Unsent
 pub mod Parts
 pub mod Queues

@@ -18,14 +18,15 @@ use Rattle.window.specs.Window.{accepted, accept, newWindow}
 use Rattle.window.specs.Proper.{Sized, Proper}
 use Rattle.window.proofs.Inserts.{accept-accepts}
 use Rattle.window.proofs.Laws.{new-proper}
-use Rattle.cells.specs.Sound.{soundNexts}
+use Rattle.cells.specs.Sound.{soundNexts, soundMemories}
 use Rattle.receiver.specs.declared.RecvQueue.{RecvQueue}
 use Rattle.receiver.specs.declared.Channel.{Channel}
 use Rattle.receiver.specs.Receive.{queueAfter, channelsAfter}
 use Rattle.receiver.specs.Write.{emptied}
 use Rattle.receiver.proofs.Accepting.{accept-proper}
-use Rattle.receiver.proofs.Nexts.{channels-length}
-use Rattle.receiver.specs.Queue.{nextOf, unsentOf, newQueue, placesWithin, soundWindow, differ, soundUnsent, soundQueue, insertUnsent}
+use Rattle.receiver.proofs.ChannelsAfter.{channels-length}
+use Rattle.receiver.specs.Queue.{nextOf, newestOf, unsentOf, newQueue, placesWithin, soundWindow, differ, soundUnsent, soundQueue}
+use Rattle.receiver.specs.Queue.{insertUnsent}
 use Rattle.receiver.proofs.Unsent.{every-insert, differ-insert, taken-after, array-after, every-more, not-among}
 
 -- A proper window passes the test.
@@ -53,13 +54,14 @@ pub record Good (q : RecvQueue) : Type 0 where
   pub members : every (λ n. ltb n numbers24 && accepted (q .datagrams) n) (unsentOf q) ≡ true
   pub apart : differ (unsentOf q) ≡ true
 
-pub good-sound : (q : RecvQueue) → Good q → soundNexts (nextOf q) ≡ true → soundQueue q ≡ true
+pub good-sound : (q : RecvQueue) → Good q → soundNexts (nextOf q) ≡ true → soundMemories (newestOf q) ≡ true → soundQueue q ≡ true
 unfolding soundQueue soundUnsent
-good-sound q g n =
+good-sound q g n m =
     and-both (soundWindow (q .datagrams)) _ (window-proper (q .datagrams) (g .datagrams))
     (and-both (soundWindow (q .reliables)) _ (window-proper (q .reliables) (g .reliables))
     (and-both (soundNexts (nextOf q)) _ n
-    (and-both (leb (q .pending) maxUnsent) _ (le-leb _ _ (g .pending)) (and-both _ (differ (unsentOf q)) (g .members) (g .apart)))))
+    (and-both (soundMemories (newestOf q)) _ m
+    (and-both (leb (q .pending) maxUnsent) _ (le-leb _ _ (g .pending)) (and-both _ (differ (unsentOf q)) (g .members) (g .apart))))))
 
 pub new-good : Good newQueue
 unfolding newQueue unsentOf every differ
@@ -74,15 +76,15 @@ new-good = record {
 }
 
 -- An accepted datagram's number joins the accepted and the unsent.
-pub after-good : (q : RecvQueue) (n : ℕ) (v : ReliableWindow) (next : ℕ → ℕ) → Good q → Proper v → n < numbers24 → accepted (q .datagrams) n
-    ≡ false
-    → n ≤ q .datagrams .low + windowPlaces → q .pending < maxUnsent → Good (queueAfter q n v next)
+pub after-good : (q : RecvQueue) (n : ℕ) (v : ReliableWindow) (next newest : ℕ → ℕ) → Good q → Proper v → n < numbers24
+    → accepted (q .datagrams) n ≡ false
+    → n ≤ q .datagrams .low + windowPlaces → q .pending < maxUnsent → Good (queueAfter q n v next newest)
 unfolding queueAfter unsentOf
-after-good q n v next g pv small fresh near room =
+after-good q n v next newest g pv small fresh near room =
     record {
       datagrams = accept-proper (q .datagrams) n (g .datagrams) small fresh near;
       reliables = pv;
-      channels = channels-length next 0 (q .channels) ∙ g .channels;
+      channels = channels-length next newest 0 (q .channels) ∙ g .channels;
       unsent = array-after n (q .pending) (q .unsent) (omega (arith, g .unsent)) ∙ g .unsent;
       pending = omega arith;
       members = rw (is) (every-insert test n (take (q .pending) (q .unsent)) own

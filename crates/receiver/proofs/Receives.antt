@@ -17,19 +17,21 @@ use Rattle.window.proofs.Accepted.{low-le}
 use Rattle.bare.specs.Frame.{Frame}
 use Rattle.cells.specs.Cell.{Cell, Slot, Key, isFree, freed}
 use Rattle.cells.specs.Datagram.{State, Work, datagram, begin, end}
-use Rattle.cells.specs.Sound.{Readable, soundCells, soundNexts, sound, lengths}
+use Rattle.cells.specs.Sound.{Readable, soundCells, soundNexts, soundMemories, sound, lengths}
 use Rattle.cells.specs.Store.{cellSize, slotsOf, cellsOf, storeOf}
 use Rattle.cells.proofs.SoundKept.{datagram-sound}
+use Rattle.cells.proofs.Memories as cell-memories
 use Rattle.cells.proofs.SoundTest.{sound-rest}
 use Rattle.cells.proofs.Store.{Shaped, slots-shaped, cells-slots, store-length, datagram-worked, datagram-shaped, datagram-read, take-read}
 use Rattle.receiver.specs.declared.RecvQueue.{RecvQueue}
 use Rattle.receiver.specs.declared.Channel.{Channel}
-use Rattle.receiver.specs.Queue.{nextIn, nextOf, soundWindow, soundUnsent, soundQueue}
+use Rattle.receiver.specs.Queue.{newChannel, nextIn, nextOf, newestOf, soundWindow, soundUnsent, soundQueue}
 use Rattle.receiver.specs.Receive.{datagramNumber, framesIn, stateOf, queueAfter, acceptedResult, soundCall}
 use Rattle.receiver.specs.Calls.{Receiver}
 use Rattle.receiver.proofs.Accepting.{all-accepted, frames-accepted}
 use Rattle.receiver.proofs.FramesIn.{Read, frames-in-read}
-use Rattle.receiver.proofs.Nexts.{next-after, frames-past}
+use Rattle.receiver.proofs.Keeps.{frames-past}
+use Rattle.receiver.proofs.ChannelsAfter.{memory-past, next-after, newest-after}
 use Rattle.receiver.proofs.Queues.{Good, good-sound, after-good}
 use Rattle.receiver.proofs.AnswerCases.{Accepted}
 
@@ -42,12 +44,22 @@ pub record Sane (x : Receiver) : Type 0 where
   pub good : Good (x .queue)
   pub sound : soundCall (x .queue) (x .records) (x .store) ≡ true
 
-pub nexts-sound : (q : RecvQueue) → soundQueue q ≡ true → soundNexts (nextOf q) ≡ true
-unfolding soundQueue
-nexts-sound q e =
-    and-left (soundNexts (nextOf q)) (soundUnsent q)
-    (and-right (soundWindow (q .reliables)) (soundNexts (nextOf q) && soundUnsent q)
-    (and-right (soundWindow (q .datagrams)) (soundWindow (q .reliables) && (soundNexts (nextOf q) && soundUnsent q)) e))
+module _ (q : RecvQueue) (e : soundQueue q ≡ true) where
+  numbers-sound : (soundNexts (nextOf q) && (soundMemories (newestOf q) && soundUnsent q)) ≡ true
+  unfolding soundQueue
+  numbers-sound =
+      and-right (soundWindow (q .reliables)) (soundNexts (nextOf q) && (soundMemories (newestOf q) && soundUnsent q))
+      (and-right (soundWindow (q .datagrams)) (soundWindow (q .reliables) && (soundNexts (nextOf q) && (soundMemories (newestOf q)
+      && soundUnsent q))) e)
+
+  pub nexts-sound : soundNexts (nextOf q) ≡ true
+  nexts-sound = and-left (soundNexts (nextOf q)) _ numbers-sound
+
+  pub memories-sound : soundMemories (newestOf q) ≡ true
+  memories-sound = and-left (soundMemories (newestOf q)) _ (and-right (soundNexts (nextOf q)) _ numbers-sound)
+
+  pub unsent-sound : soundUnsent q ≡ true
+  unsent-sound = and-right (soundMemories (newestOf q)) _ (and-right (soundNexts (nextOf q)) _ numbers-sound)
 
 module _ (q : RecvQueue) (rs : List Cell) (st : List ℕ) (s : soundCall q rs st ≡ true) where
   pub lengths-sound : lengths (length rs) (length st) ≡ true
@@ -59,12 +71,17 @@ module _ (q : RecvQueue) (rs : List Cell) (st : List ℕ) (s : soundCall q rs st
   store-is = let e = eqb-true (length st) (cellBytes * length rs)
       (and-right (leb (length rs) maxCells) _ (and-right (leb 1 (length rs)) _ lengths-sound)) in omega arith
 
+  rest-sound : (soundQueue q && soundCells rs (nextOf q)) ≡ true
+  unfolding soundCall
+  rest-sound = and-right (lengths (length rs) (length st)) (soundQueue q && soundCells rs (nextOf q)) s
+
+  pub queue-sound : soundQueue q ≡ true
+  queue-sound = and-left (soundQueue q) (soundCells rs (nextOf q)) rest-sound
+
   pub cells-sound : sound rs (nextOf q) ≡ true
-  unfolding soundCall sound
-  cells-sound =
-      let r = and-right (lengths (length rs) (length st)) (soundQueue q && soundCells rs (nextOf q)) s in
-      and-both (soundCells rs (nextOf q)) _ (and-right (soundQueue q) (soundCells rs (nextOf q)) r)
-      (nexts-sound q (and-left (soundQueue q) (soundCells rs (nextOf q)) r))
+  unfolding sound
+  cells-sound = and-both (soundCells rs (nextOf q)) _ (and-right (soundQueue q) (soundCells rs (nextOf q)) rest-sound)
+      (nexts-sound q queue-sound)
 
   -- no used record is longer than a cell
   pub bodies-short : (c : Cell) → List·Memᴰ c rs → eqb (c .used) 0 ≡ false → c .length ≤ cellSize
@@ -91,7 +108,11 @@ module _ (q : RecvQueue) (rs : List Cell) (st : List ℕ) (s : soundCall q rs st
 
 next-past : (q : RecvQueue) → length (q .channels) ≡ maxOrdChans → (c : ℕ) → maxOrdChans ≤ c → nextOf q c ≡ 0
 unfolding nextOf nextIn
-next-past q e c le = ap (λ (k : Channel). k .next) (List·getD-eq-default (q .channels) (record { next = 0 }) (omega arith))
+next-past q e c le = ap (λ (k : Channel). k .next) (List·getD-eq-default (q .channels) newChannel (omega arith))
+
+newest-past : (q : RecvQueue) → length (q .channels) ≡ maxOrdChans → (m : ℕ) → maxOrdChans < m → newestOf q m ≡ 0
+unfolding newestOf
+newest-past q e m lt = memory-past (q .channels) (q .newest) m (omega arith)
 
 number-small : (d : List ℕ) → Bytes d → datagramNumber d < numbers24
 unfolding le24
@@ -133,10 +154,18 @@ module _ (x : Receiver) (d : List ℕ) (by : Bytes d) (v : Sane x) (a : Accepted
 
   nexts-are : nextOf (acceptedBy x d a .queue) ≡ w .state .next
   unfolding acceptedBy acceptedResult queueAfter nextOf nextIn w s fs
-  nexts-are = next-after (w .state .next) (x .queue .channels) (λ c le. past c (rw (v .good .channels) at le))
+  nexts-are = next-after (w .state .next) (w .state .newest) (x .queue .channels) (λ c le. past c (rw (v .good .channels) at le))
     where
       past : (c : ℕ) → maxOrdChans ≤ c → w .state .next c ≡ 0
       past c le = unfold w s fs datagram begin stateOf in (frames-past fs (begin s) c le ∙ next-past (x .queue) (v .good .channels) c le)
+
+  memories-are : newestOf (acceptedBy x d a .queue) ≡ w .state .newest
+  unfolding acceptedBy acceptedResult queueAfter newestOf w s fs
+  memories-are = newest-after (w .state .next) (w .state .newest) (x .queue .channels) maxOrdChans (v .good .channels) past
+    where
+      past : (m : ℕ) → maxOrdChans < m → w .state .newest m ≡ 0
+      past m lt = unfold w s fs end stateOf in
+          (cell-memories.memories-past s fs m (omega arith) ∙ newest-past (x .queue) (v .good .channels) m lt)
 
   slots-shape : Shaped (length (x .records)) (s .slots)
   unfolding s stateOf
@@ -148,8 +177,8 @@ module _ (x : Receiver) (d : List ℕ) (by : Bytes d) (v : Sane x) (a : Accepted
 
   -- the slots that are read back from the records and bytes that it leaves are those of the four steps
   pub accepted-state : stateIn (acceptedBy x d a) ≡ end (datagram (stateIn x) (framesIn d))
-  unfolding acceptedBy acceptedResult stateOf end w s fs queueAfter nextOf nextIn
-  accepted-state = λ i. record { accepted = reliables-are i; next = nexts-are i; slots = slots-are i }
+  unfolding acceptedBy acceptedResult stateOf end w s fs queueAfter nextOf nextIn newestOf
+  accepted-state = λ i. record { accepted = reliables-are i; next = nexts-are i; newest = memories-are i; slots = slots-are i }
     where
       slots-are : slotsOf (cellsOf (end w .slots)) (storeOf (x .store) (w .state .slots)) ≡ end w .slots
       slots-are = datagram-read s (x .store) fs readable (slots-shape .sized)
@@ -169,7 +198,7 @@ module _ (x : Receiver) (d : List ℕ) (by : Bytes d) (v : Sane x) (a : Accepted
   good-after =
       let ge = low-le (x .queue .datagrams) (datagramNumber d) (a .fresh) in
       let near = a .near in
-      after-good (x .queue) (datagramNumber d) (a .reliables) _ (v .good) reliables-proper (number-small d by) (a .fresh) (omega arith)
+      after-good (x .queue) (datagramNumber d) (a .reliables) _ _ (v .good) reliables-proper (number-small d by) (a .fresh) (omega arith)
       (a .room)
 
   sound-after : sound (acceptedBy x d a .records) (nextOf (acceptedBy x d a .queue)) ≡ true
@@ -178,6 +207,13 @@ module _ (x : Receiver) (d : List ℕ) (by : Bytes d) (v : Sane x) (a : Accepted
     where
       before : sound (cellsOf (s .slots)) (s .next) ≡ true
       before = unfold s stateOf in rw (cells-slots (x .records) (x .store)) (cells-sound (x .queue) (x .records) (x .store) (v .sound))
+
+  memories-after : soundMemories (newestOf (acceptedBy x d a .queue)) ≡ true
+  unfolding w s fs end
+  memories-after = rw memories-are (cell-memories.memories-sound s fs readable (before))
+    where
+      before : soundMemories (s .newest) ≡ true
+      before = unfold s stateOf in memories-sound (x .queue) (queue-sound (x .queue) (x .records) (x .store) (v .sound))
 
   pub accepted-sane : Sane (acceptedBy x d a)
   unfolding soundCall sound
@@ -189,6 +225,6 @@ module _ (x : Receiver) (d : List ℕ) (by : Bytes d) (v : Sane x) (a : Accepted
             (rw (records-long, store-long) (lengths-sound (x .queue) (x .records) (x .store) (v .sound)))
             (and-both (soundQueue (acceptedBy x d a .queue)) _
             (good-sound (acceptedBy x d a .queue) good-after
-            (and-right (soundCells (acceptedBy x d a .records) (nextOf (acceptedBy x d a .queue))) _ sound-after))
+            (and-right (soundCells (acceptedBy x d a .records) (nextOf (acceptedBy x d a .queue))) _ sound-after) memories-after)
             (and-left (soundCells (acceptedBy x d a .records) (nextOf (acceptedBy x d a .queue))) _ sound-after));
       }

@@ -15,14 +15,14 @@ use Rattle.ack.specs.Write.{writeListOf}
 use Rattle.window.specs.Missing.{missing}
 use Rattle.cells.specs.Cell.{Cell, Slot, readyAs, freed}
 use Rattle.cells.specs.Datagram.{State, datagram}
-use Rattle.cells.specs.Sound.{sound, soundCells, soundNexts, lengths}
+use Rattle.cells.specs.Sound.{sound, soundCells, soundNexts, soundMemories, lengths}
 use Rattle.cells.specs.Store.{slotsOf, cellsOf}
 use Rattle.cells.specs.Take.{Taken, taking}
 use Rattle.cells.proofs.Matching.{Matches, receive-matches, ready-count, dropped-count, take-matches}
 use Rattle.cells.proofs.SoundKept.{take-sound}
 use Rattle.cells.proofs.Store.{take-shaped, cells-slots}
 use Rattle.receiver.specs.declared.RecvQueue.{RecvQueue}
-use Rattle.receiver.specs.Queue.{nextOf, unsentOf, soundQueue}
+use Rattle.receiver.specs.Queue.{nextOf, newestOf, unsentOf, soundQueue}
 use Rattle.receiver.specs.Receive.{Received, framesIn, stateOf, acceptedResult, refusedResult, soundCall, receiveOf}
 use Rattle.receiver.specs.Take.{TakeResult, takeRefuses, takeOf}
 use Rattle.receiver.specs.Write.{Wrote, whenGiven, emptied, writeOf, sorted, writeUnsentOf, writeMissingOf}
@@ -34,7 +34,7 @@ use Rattle.receiver.proofs.AnswerCases as ways
 use Rattle.receiver.proofs.AnswerCases.{by-true, receive-ways, Found, take-ways}
 use Rattle.receiver.proofs.Receives as receives
 use Rattle.receiver.proofs.Receives.{stateIn, Sane, lengths-sound, cells-sound, read-freed, slots-fit, accepted-state, accepted-sane}
-use Rattle.receiver.proofs.Receives.{nexts-sound}
+use Rattle.receiver.proofs.Receives.{nexts-sound, memories-sound, queue-sound}
 use Rattle.receiver.proofs.Hands.{Gave, take-taken, handed-ways}
 
 -- Calls made on x leave y, handed out these messages and accepted these datagrams.
@@ -114,8 +114,7 @@ module _ (x : Receiver) (v : Sane x) (f : Found (x .records) (x .store)) where
   unfolding soundCall sound
   rest-sound =
       and-both (lengths (length rest) (length (x .store))) _ (rw long (lengths-sound (x .queue) (x .records) (x .store) (v .sound)))
-      (and-both (soundQueue (x .queue)) _ (and-left (soundQueue (x .queue)) (soundCells (x .records) (nextOf (x .queue)))
-      (and-right (lengths (length (x .records)) (length (x .store))) _ (v .sound)))
+      (and-both (soundQueue (x .queue)) _ (queue-sound (x .queue) (x .records) (x .store) (v .sound))
       (and-left (soundCells rest (nextOf (x .queue))) (soundNexts (nextOf (x .queue))) kept))
 
   hands : Step x (record { queue = x .queue; records = rest; store = x .store }) (f .message ∷ []) []
@@ -155,11 +154,14 @@ writes-one x v next nack l out k =
     go (gives n) = k
 
 empties : (x : Receiver) → Sane x → With x (emptied (x .queue))
-empties x v = quiet x _ (record { good = emptied-good (x .queue) (v .good); sound = kept-sound }) (unfold stateOf emptied nextOf in refl)
+empties x v = quiet x _ (record { good = emptied-good (x .queue) (v .good); sound = kept-sound })
+    (unfold stateOf emptied nextOf newestOf in refl)
   where
     nexts : soundNexts (nextOf (emptied (x .queue))) ≡ true
-    nexts = unfold emptied nextOf in (nexts-sound (x .queue) (and-left (soundQueue (x .queue)) (soundCells (x .records) (nextOf (x .queue)))
-        (unfold soundCall in and-right (lengths (length (x .records)) (length (x .store))) _ (v .sound))))
+    nexts = unfold emptied nextOf in nexts-sound (x .queue) (queue-sound (x .queue) (x .records) (x .store) (v .sound))
+
+    memories : soundMemories (newestOf (emptied (x .queue))) ≡ true
+    memories = unfold emptied newestOf in memories-sound (x .queue) (queue-sound (x .queue) (x .records) (x .store) (v .sound))
 
     cells-kept : soundCells (x .records) (nextOf (emptied (x .queue))) ≡ true
     cells-kept = unfold emptied nextOf in and-right (soundQueue (x .queue)) (soundCells (x .records) (nextOf (x .queue)))
@@ -168,7 +170,7 @@ empties x v = quiet x _ (record { good = emptied-good (x .queue) (v .good); soun
     kept-sound : soundCall (emptied (x .queue)) (x .records) (x .store) ≡ true
     kept-sound = unfold soundCall in
         and-both (lengths (length (x .records)) (length (x .store))) _ (lengths-sound (x .queue) (x .records) (x .store) (v .sound))
-        (and-both (soundQueue (emptied (x .queue))) _ (good-sound (emptied (x .queue)) (emptied-good (x .queue) (v .good)) nexts)
+        (and-both (soundQueue (emptied (x .queue))) _ (good-sound (emptied (x .queue)) (emptied-good (x .queue) (v .good)) nexts memories)
         cells-kept)
 
 -- Every call, on datagrams of bytes, from a sane receiver.

@@ -1,6 +1,6 @@
 pub mod Queue
-pub mod Parts
 pub mod Receive
+pub mod Parts
 pub mod Take
 pub mod Write
 pub mod Calls

@@ -1,7 +1,7 @@
 -- What the receiver keeps beside the cells, and the rules on its values ("Sound"): document 01, "Calls and their numbers", 9.
 use Prim.Native.Nat.{ℕ, zero, suc, _+_}
 use mathlib.Core.Bool.{Bool, true, false, cond, not, _&&_, _||_}
-use mathlib.Core.List.{List, [], _∷_, _++_}
+use mathlib.Core.List.{List, [], _∷_, _++_, map}
 use lib.Dec.{ltb, leb, eqb}
 use lib.ListN.{length, getD, take, drop, replicate}
 use Rattle.base.specs.Limits.{numbers24, maxOrdChans, windowPlaces, maxUnsent}
@@ -9,16 +9,27 @@ use Rattle.base.specs.Lists.{any, every}
 use Rattle.window.specs.declared.ReliableWindow.{ReliableWindow}
 use Rattle.window.specs.Places.{placeSet}
 use Rattle.window.specs.Window.{accepted, newWindow}
-use Rattle.cells.specs.Sound.{soundNexts}
+use Rattle.cells.specs.Sound.{soundNexts, soundMemories}
 use Rattle.receiver.specs.declared.Channel.{Channel}
 use Rattle.receiver.specs.declared.RecvQueue.{RecvQueue}
 
+-- a channel that nothing has come to
+abbrev pub newChannel : Channel
+newChannel = record { next = 0; newest = 0 }
+
 -- each channel's next order number; 0 past the channels
 unfoldable pub nextIn : List Channel → ℕ → ℕ
-nextIn channels c = getD channels c (record { next = 0 }) .next
+nextIn channels c = getD channels c newChannel .next
 
 unfoldable pub nextOf : RecvQueue → ℕ → ℕ
 nextOf q = nextIn (q .channels)
+
+-- the memories of newest sequence numbers: each channel's, then the receiver's own; 0 past them
+unfoldable pub memoriesIn : List Channel → ℕ → List ℕ
+memoriesIn channels own = map (λ (c : Channel). c .newest) channels ++ (own ∷ [])
+
+unfoldable pub newestOf : RecvQueue → ℕ → ℕ
+newestOf q m = getD (memoriesIn (q .channels) (q .newest)) m 0
 
 -- the numbers not yet acknowledged
 unfoldable pub unsentOf : RecvQueue → List ℕ
@@ -29,9 +40,10 @@ unfoldable pub newQueue : RecvQueue
 newQueue = record {
   datagrams = newWindow;
   reliables = newWindow;
-  channels = replicate maxOrdChans (record { next = 0 });
+  channels = replicate maxOrdChans newChannel;
   unsent = replicate maxUnsent 0;
   pending = 0;
+  newest = 0;
 }
 
 -- "values .. obey the limits", for a window: low at most 2^24, and none of the k places above low whose number would be 2^24 or more is set
@@ -54,7 +66,8 @@ soundUnsent q = leb (q .pending) maxUnsent && (every (λ n. ltb n numbers24 && a
 
 -- "where no cells are lent, only the rules on values and unsent numbers"
 unfoldable pub soundQueue : RecvQueue → Bool
-soundQueue q = soundWindow (q .datagrams) && (soundWindow (q .reliables) && (soundNexts (nextOf q) && soundUnsent q))
+soundQueue q = soundWindow (q .datagrams) && (soundWindow (q .reliables) && (soundNexts (nextOf q)
+    && (soundMemories (newestOf q) && soundUnsent q)))
 
 -- a new number goes before the first greater one; the numbers after it move on by one
 unfoldable pub insertUnsent : ℕ → List ℕ → List ℕ

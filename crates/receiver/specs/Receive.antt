@@ -7,7 +7,7 @@ use lib.Dec.{ltb, leb}
 use lib.ListN.{length, getD, drop}
 use Rattle.base.specs.Answer.{Answer, refused, gives}
 use Rattle.base.specs.If.{ifTrue, ifLt, ifLe}
-use Rattle.base.specs.Limits.{minDatagram, maxDatagram, maxUnsent, windowPlaces}
+use Rattle.base.specs.Limits.{minDatagram, maxDatagram, maxOrdChans, maxUnsent, windowPlaces}
 use Rattle.base.specs.Bytes.{le24}
 use Rattle.base.specs.Lists.{option}
 use Rattle.window.specs.declared.ReliableWindow.{ReliableWindow}
@@ -23,7 +23,7 @@ use Rattle.cells.specs.Sound.{soundCells, lengths}
 use Rattle.cells.specs.Store.{slotsOf, cellsOf, storeOf}
 use Rattle.receiver.specs.declared.Channel.{Channel}
 use Rattle.receiver.specs.declared.RecvQueue.{RecvQueue}
-use Rattle.receiver.specs.Queue.{nextOf, unsentOf, soundQueue, insertUnsent}
+use Rattle.receiver.specs.Queue.{nextOf, newestOf, unsentOf, soundQueue, insertUnsent}
 
 -- "Datagram: id 80 to 8D (written 84), number in 24 bits little-endian, frames."
 abbrev pub isDatagram : ℕ → Bool
@@ -68,7 +68,7 @@ acceptAll w (f ∷ fs) =
 
 -- what the four steps work on
 unfoldable pub stateOf : RecvQueue → List Cell → List ℕ → State
-stateOf q rs st = record { accepted = accepted (q .reliables); next = nextOf q; slots = slotsOf rs st }
+stateOf q rs st = record { accepted = accepted (q .reliables); next = nextOf q; newest = newestOf q; slots = slotsOf rs st }
 
 -- "The answer reports messages made ready, frames dropped .. and bytes left."
 pub record Report : Type 0 where
@@ -83,27 +83,28 @@ pub record Received : Type 0 where
   pub records : List Cell
   pub store : List ℕ
 
--- each channel's next after the datagram
-unfoldable pub channelsAfter : (ℕ → ℕ) → ℕ → List Channel → List Channel
-channelsAfter next c [] = []
-channelsAfter next c (x ∷ xs) = record { next = next c } ∷ channelsAfter next (1 + c) xs
+-- each channel's next and memory after the datagram
+unfoldable pub channelsAfter : (ℕ → ℕ) → (ℕ → ℕ) → ℕ → List Channel → List Channel
+channelsAfter next newest c [] = []
+channelsAfter next newest c (x ∷ xs) = record { next = next c; newest = newest c } ∷ channelsAfter next newest (1 + c) xs
 
 -- an accepted datagram: its number joins the accepted and the unsent
-unfoldable pub queueAfter : RecvQueue → ℕ → ReliableWindow → (ℕ → ℕ) → RecvQueue
-queueAfter q n reliables next =
+unfoldable pub queueAfter : RecvQueue → ℕ → ReliableWindow → (ℕ → ℕ) → (ℕ → ℕ) → RecvQueue
+queueAfter q n reliables next newest =
     record {
       datagrams = accept (q .datagrams) n;
       reliables = reliables;
-      channels = channelsAfter next 0 (q .channels);
+      channels = channelsAfter next newest 0 (q .channels);
       unsent = insertUnsent n (unsentOf q) ++ drop (q .pending + 1) (q .unsent);
       pending = q .pending + 1;
+      newest = newest maxOrdChans;
     }
 
 unfoldable pub acceptedResult : RecvQueue → List ℕ → List ℕ → ReliableWindow → Work → Received
 acceptedResult q st d reliables w =
     record {
       answer = gives (record { ready = w .counts .ready; dropped = w .counts .dropped; left = bytesLeft d });
-      queue = queueAfter q (datagramNumber d) reliables (w .state .next);
+      queue = queueAfter q (datagramNumber d) reliables (w .state .next) (w .state .newest);
       records = cellsOf (end w .slots);
       store = storeOf st (w .state .slots);
     }

@@ -1,14 +1,15 @@
 // The receiver: what it keeps beside the cells.
 use window::ReliableWindow;
 
-// An ordered channel: the order number that is made ready next.
+// A channel: the order number that is made ready next; and one more than the newest sequence number made ready by kind 1, 0 for none.
 #[repr(C)]
 pub struct Channel {
     pub next: u32,
+    pub newest: u32,
 }
 
 // datagrams: the datagram numbers accepted. reliables: the reliable numbers accepted. unsent: the first pending are the numbers
-// of datagrams not yet acknowledged.
+// of datagrams not yet acknowledged. newest: one more than the newest sequence number made ready by kind 4, 0 for none.
 #[repr(C)]
 pub struct RecvQueue {
     pub datagrams: ReliableWindow,
@@ -16,6 +17,7 @@ pub struct RecvQueue {
     pub channels: [Channel; 32],
     pub unsent: [u32; 1024],
     pub pending: u32,
+    pub newest: u32,
 }
 
 // A receiver's own numbers, where its arrays are lent one by one: the lows of both windows, and how many numbers are unsent.

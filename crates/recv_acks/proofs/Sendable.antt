@@ -17,10 +17,10 @@ use Rattle.window.specs.declared.ReliableWindow.{ReliableWindow}
 use Rattle.window.specs.Window.{accepted}
 use Rattle.window.specs.Missing.{missing}
 use Rattle.window.proofs.Missing.{missing-length, missing-limit, missing-ascends}
-use Rattle.cells.specs.Sound.{soundNexts}
 use Rattle.ack.specs.Write.{someOver, ascending}
 use Rattle.receiver.specs.declared.RecvQueue.{RecvQueue}
-use Rattle.receiver.specs.Queue.{nextOf, unsentOf, soundWindow, differ, soundUnsent, soundQueue}
+use Rattle.receiver.specs.Queue.{unsentOf, differ, soundUnsent, soundQueue}
+use Rattle.receiver.proofs.Receives.{unsent-sound}
 use Rattle.receiver.specs.Write.{sorted}
 use Rattle.recv_acks.specs.Wrote.{Sendable}
 use Rattle.recv_acks.proofs.Sorted.{length-sorted, sorted-member, sorted-ascending}
@@ -51,17 +51,13 @@ missing-sendable w =
 
 -- ---- the parts of a sound receiver
 module _ (q : RecvQueue) (s : soundQueue q ≡ true) where
-  unsent-sound : soundUnsent q ≡ true
-  unfolding soundQueue
-  unsent-sound = and-right (soundNexts (nextOf q)) _ (and-right (soundWindow (q .reliables)) _ (and-right (soundWindow (q .datagrams)) _ s))
-
   pub pending-limit : q .pending ≤ maxUnsent
   unfolding soundUnsent
-  pending-limit = leb-true (q .pending) maxUnsent (and-left (leb (q .pending) maxUnsent) _ unsent-sound)
+  pending-limit = leb-true (q .pending) maxUnsent (and-left (leb (q .pending) maxUnsent) _ (unsent-sound q s))
 
   numbers-sound : (every (λ n. ltb n numbers24 && accepted (q .datagrams) n) (unsentOf q) && differ (unsentOf q)) ≡ true
   unfolding soundUnsent
-  numbers-sound = and-right (leb (q .pending) maxUnsent) _ unsent-sound
+  numbers-sound = and-right (leb (q .pending) maxUnsent) _ (unsent-sound q s)
 
   pub unsent-differ : differ (unsentOf q) ≡ true
   unsent-differ = and-right (every (λ n. ltb n numbers24 && accepted (q .datagrams) n) (unsentOf q)) _ numbers-sound

@@ -46,7 +46,15 @@ writingOf nack q out = cond nack (Write.writeMissingOf q out) (Write.writeUnsent
 
 -- the receiver with another count of unsent numbers
 abbrev pub withPending : RecvQueue → ℕ → RecvQueue
-withPending q k = record { datagrams = q .datagrams; reliables = q .reliables; channels = q .channels; unsent = q .unsent; pending = k }
+withPending q k =
+    record {
+      datagrams = q .datagrams;
+      reliables = q .reliables;
+      channels = q .channels;
+      unsent = q .unsent;
+      pending = k;
+      newest = q .newest;
+    }
 
 -- "Sending the unsent empties them": how many are left of k
 abbrev pub pendingAfter : Answer ℕ → ℕ → ℕ

@@ -1,91 +1,123 @@
 -- The ways of the covered functions, and what the channels are once all are advanced.
---     all-numbers      32 channels moved to 32 numbers: nothing is left of the old ones
---     own-nexts        so a receiver's own nexts change nothing
+--     all-numbers      32 channels moved to the numbers: nothing is left of the old ones
 -- Assumes nothing.
-use mathlib.Core.Path.{_≡_, refl, sym, ap, _∙_}
-use Prim.Native.Nat.{ℕ, zero, suc, _+_, _<_, _≤_}
+use mathlib.Core.Path.{_≡_, refl, sym, ap, _∙_, subst}
+use Prim.Native.Nat.{ℕ, zero, suc, _+_, _*_, _<_, _≤_}
 use native.Mathlib.Omega.{arith}
 use native.Mathlib.Nat.{eq-or-lt-of-le}
 use mathlib.Core.Logic.{_⊎_, inl, inr}
-use mathlib.Core.List.{List, [], _∷_, map}
-use lib.ListN.{length, set, getD, length-set, length-map, List·getD-map}
+use mathlib.Core.List.{List}
+use lib.ListN.{length, set, getD, length-set, List·getD-eq-default}
 use lib.Seq.{getD-set-same, getD-set-other, ext-getD}
+use Rattle.base.specs.Limits.{maxOrdChans}
 use Rattle.receiver.specs.declared.Channel.{Channel}
 use Rattle.receiver.specs.declared.RecvQueue.{RecvQueue}
-use Rattle.receiver.specs.Parts.{channelOf, nextNumber, nextsOf, nextAt}
+use Rattle.receiver.specs.Queue.{newChannel}
+use Rattle.receiver.specs.Parts.{channelWith, nextsIn, memoryPlace, nextAt, newestAt, channelsOf}
+use Rattle.receiver.proofs.ByParts.{SomePlace, place-channel, place-past, place-some, nexts-in-next, nexts-in-newest, nexts-in-own}
+use Rattle.receiver.proofs.ByParts.{nexts-in-long, next-at, newest-at}
+use Rattle.receiver.proofs.ByParts.{channels-of-length, channels-of-at}
 use Rattle.recv_channel.specs.Advance.{withChannels, firstAt, advancedTo, advancedAll}
 
--- ---- `next_at`
-pub next-within : {r : ℕ} (ns : List ℕ) (c : ℕ) → r ≡ getD ns c 0 → r ≡ nextAt ns c
-unfolding nextAt
-next-within ns c e = e
+-- ---- `number_at`
+pub number-past : (ns : List ℕ) (i : ℕ) → length ns ≤ i → 0 ≡ getD ns i 0
+number-past ns i h = sym (List·getD-eq-default ns 0 h)
 
-pub next-past : (ns : List ℕ) (c : ℕ) → length ns ≤ c → 0 ≡ nextAt ns c
-unfolding nextAt
-next-past [] c h = refl
-next-past (n ∷ ns) zero h = absurd (omega arith)
-next-past (n ∷ ns) (suc c) h = next-past ns c (omega arith)
-
--- ---- `nexts_in`: the first i numbers are the first i channels' nexts
+-- ---- `nexts_in`: the first i nexts and memories are the first i channels'
 pub record Filled (cs : List Channel) (i : ℕ) (ns : List ℕ) : Type 0 where
   pub few : i ≤ 32
-  pub long : length ns ≡ 32
-  pub at : (j : ℕ) → j < i → getD ns j 0 ≡ getD cs j (channelOf 0) .next
+  pub long : length ns ≡ 65
+  pub nexts : (j : ℕ) → j < i → getD ns (2 * j) 0 ≡ getD cs j newChannel .next
+  pub memories : (j : ℕ) → j < i → getD ns (2 * j + 1) 0 ≡ getD cs j newChannel .newest
 
-pub fill-more : (cs : List Channel) (i : ℕ) (ns : List ℕ) (n : ℕ) → Filled cs i ns → i < 32 → n ≡ getD cs i (channelOf 0) .next
-    → Filled cs (i + 1) (set ns i n)
-fill-more cs i ns n f l e = record {
+pub fill-more : (cs : List Channel) (i : ℕ) (ns : List ℕ) (n m : ℕ) → Filled cs i ns → i < 32 → n ≡ getD cs i newChannel .next
+    → m ≡ getD cs i newChannel .newest → Filled cs (i + 1) (set (set ns (2 * i) n) (2 * i + 1) m)
+fill-more cs i ns n m f l e g = record {
   few = omega arith;
-  long = length-set ns i n ∙ f .long;
-  at = λ j m. by j (eq-or-lt-of-le (omega arith));
+  long = length-set (set ns (2 * i) n) (2 * i + 1) m ∙ length-set ns (2 * i) n ∙ f .long;
+  nexts = λ j k. getD-set-other (set ns (2 * i) n) (2 * i + 1) (2 * j) m 0 (λ s. omega arith) ∙ next j (eq-or-lt-of-le (omega arith));
+  memories = λ j k. memory j (eq-or-lt-of-le (omega arith));
 }
   where
-    by : (j : ℕ) → (j ≡ i) ⊎ (j < i) → getD (set ns i n) j 0 ≡ getD cs j (channelOf 0) .next
-    by j (inl s) = rw (s, getD-set-same ns i n 0 (omega (arith, f .long))) e
-    by j (inr m) = getD-set-other ns i j n 0 (λ s. omega arith) ∙ f .at j m
+    next : (j : ℕ) → (j ≡ i) ⊎ (j < i) → getD (set ns (2 * i) n) (2 * j) 0 ≡ getD cs j newChannel .next
+    next j (inl s) = rw (s, getD-set-same ns (2 * i) n 0 (omega (arith, f .long))) e
+    next j (inr k) = getD-set-other ns (2 * i) (2 * j) n 0 (λ s. omega arith) ∙ f .nexts j k
 
-pub filled-all : (cs : List Channel) (ns : List ℕ) (i : ℕ) → length cs ≡ 32 → 32 ≤ i → Filled cs i ns → ns ≡ nextsOf cs
-unfolding nextsOf
-filled-all cs ns i c m f = ext-getD 0 ns (map nextNumber cs) (f .long ∙ sym c ∙ sym (length-map cs nextNumber))
-    (λ j l. f .at j (omega (arith, f .long)) ∙ sym (List·getD-map nextNumber cs j (channelOf 0)))
+    memory : (j : ℕ) → (j ≡ i) ⊎ (j < i) → getD (set (set ns (2 * i) n) (2 * i + 1) m) (2 * j + 1) 0 ≡ getD cs j newChannel .newest
+    memory j (inl s) = rw (s, getD-set-same (set ns (2 * i) n) (2 * i + 1) m 0 (omega (arith, f .long, length-set ns (2 * i) n))) g
+    memory j (inr k) = getD-set-other (set ns (2 * i) n) (2 * i + 1) (2 * j + 1) m 0 (λ s. omega arith)
+        ∙ getD-set-other ns (2 * i) (2 * j + 1) n 0 (λ s. omega arith) ∙ f .memories j k
+
+pub filled-all : (cs : List Channel) (own : ℕ) (ns : List ℕ) (i : ℕ) → length cs ≡ 32 → 32 ≤ i → Filled cs i ns
+    → set ns 64 own ≡ nextsIn cs own
+filled-all cs own ns i c le f = ext-getD 0 (set ns 64 own) (nextsIn cs own) (long ∙ sym (nexts-in-long cs own c))
+    (λ j l. at j (place-some j (omega (arith, long))))
+  where
+    long : length (set ns 64 own) ≡ 65
+    long = length-set ns 64 own ∙ f .long
+
+    memory : (m : ℕ) → (m ≡ 32) ⊎ (m < 32) → getD (set ns 64 own) (memoryPlace m) 0 ≡ getD (nextsIn cs own) (memoryPlace m) 0
+    memory m (inl e) = rw (e, place-past 32 (omega arith)) (getD-set-same ns 64 own 0 (omega (arith, f .long))
+        ∙ sym (subst (λ (k : ℕ). getD (nextsIn cs own) (2 * k) 0 ≡ own) c (nexts-in-own cs own)))
+    memory m (inr l) = rw (place-channel m l) (getD-set-other ns 64 (2 * m + 1) own 0 (λ s. omega arith) ∙ f .memories m (omega arith)
+        ∙ sym (nexts-in-newest cs own m (omega (arith, c))))
+
+    at : (j : ℕ) → SomePlace j → getD (set ns 64 own) j 0 ≡ getD (nextsIn cs own) j 0
+    at j (inl p) = let h = p .1 in rw (p .2) (getD-set-other ns 64 (2 * p .0) own 0 (λ s. omega arith) ∙ f .nexts (p .0) (omega arith)
+        ∙ sym (nexts-in-next cs own (p .0) (omega (arith, c))))
+    at j (inr p) = let h = p .1 in rw (p .2) (memory (p .0) (eq-or-lt-of-le (omega arith)))
 
 -- ---- `advance_all`: the receiver once its first k channels are advanced
 abbrev pub upTo : ℕ → RecvQueue → List ℕ → RecvQueue
-upTo k q ns = withChannels q (firstAt k (q .channels) ns)
+upTo k q ns = withChannels q (firstAt k (q .channels) ns) (q .newest)
 
 pub up-none : (q : RecvQueue) (ns : List ℕ) → q ≡ upTo 0 q ns
 unfolding firstAt
 up-none q ns = refl
 
-pub up-more : (q : RecvQueue) (ns : List ℕ) (k : ℕ) → advancedTo (upTo k q ns) k (nextAt ns k) ≡ upTo (suc k) q ns
+pub up-more : (q : RecvQueue) (ns : List ℕ) (k : ℕ) → k < 32 → advancedTo (upTo k q ns) k (getD ns (2 * k) 0) (getD ns (2 * k + 1) 0)
+    ≡ upTo (suc k) q ns
 unfolding firstAt advancedTo
-up-more q ns k = refl
+up-more q ns k h = λ i. withChannels q (set (firstAt k (q .channels) ns) k (channelWith (sym (next-at ns k h) i) (sym newest i)))
+    (q .newest)
+  where
+    newest : newestAt ns k ≡ getD ns (2 * k + 1) 0
+    newest = newest-at ns k (omega arith) ∙ ap (λ (p : ℕ). getD ns p 0) (place-channel k h)
 
-pub up-all : (q : RecvQueue) (ns : List ℕ) → upTo 32 q ns ≡ advancedAll q ns
+pub up-all : (q : RecvQueue) (ns : List ℕ) → withChannels (upTo 32 q ns) (upTo 32 q ns .channels) (getD ns 64 0) ≡ advancedAll q ns
 unfolding advancedAll
-up-all q ns = refl
+up-all q ns = ap (withChannels q (firstAt 32 (q .channels) ns)) (sym newest)
+  where
+    newest : newestAt ns maxOrdChans ≡ getD ns 64 0
+    newest = newest-at ns maxOrdChans (omega arith) ∙ ap (λ (p : ℕ). getD ns p 0) (place-past maxOrdChans (omega arith))
 
 -- ---- the channels once all are advanced
+abbrev numbersAt : List ℕ → ℕ → Channel
+numbersAt ns c = channelWith (nextAt ns c) (newestAt ns c)
+
 first-length : (k : ℕ) (cs : List Channel) (ns : List ℕ) → length (firstAt k cs ns) ≡ length cs
 unfolding firstAt
 first-length zero cs ns = refl
-first-length (suc k) cs ns = length-set (firstAt k cs ns) k (channelOf (nextAt ns k)) ∙ first-length k cs ns
+first-length (suc k) cs ns = length-set (firstAt k cs ns) k (numbersAt ns k) ∙ first-length k cs ns
 
-first-at : (k : ℕ) (cs : List Channel) (ns : List ℕ) (j : ℕ) → j < k → k ≤ length cs → getD (firstAt k cs ns) j (channelOf 0)
-    ≡ channelOf (nextAt ns j)
+first-at : (k : ℕ) (cs : List Channel) (ns : List ℕ) (j : ℕ) → j < k → k ≤ length cs → getD (firstAt k cs ns) j newChannel
+    ≡ numbersAt ns j
 unfolding firstAt
 first-at zero cs ns j l m = absurd (omega arith)
 first-at (suc k) cs ns j l m = by (λ i. first-at k cs ns j i (omega arith)) (eq-or-lt-of-le (omega arith))
   where
-    by : (j < k → getD (firstAt k cs ns) j (channelOf 0) ≡ channelOf (nextAt ns j)) → (j ≡ k) ⊎ (j < k) → getD (firstAt (suc k) cs ns) j
-        (channelOf 0) ≡ channelOf (nextAt ns j)
-    by f (inl e) = rw e (getD-set-same (firstAt k cs ns) k (channelOf (nextAt ns k)) (channelOf 0) (omega (arith, first-length k cs ns)))
-    by f (inr i) = getD-set-other (firstAt k cs ns) k j (channelOf (nextAt ns k)) (channelOf 0) (λ e. omega arith) ∙ f i
+    by : (j < k → getD (firstAt k cs ns) j newChannel ≡ numbersAt ns j) → (j ≡ k) ⊎ (j < k) → getD (firstAt (suc k) cs ns) j newChannel
+        ≡ numbersAt ns j
+    by f (inl e) = rw e (getD-set-same (firstAt k cs ns) k (numbersAt ns k) newChannel (omega (arith, first-length k cs ns)))
+    by f (inr i) = getD-set-other (firstAt k cs ns) k j (numbersAt ns k) newChannel (λ e. omega arith) ∙ f i
 
-pub all-numbers : (q : RecvQueue) (ns : List ℕ) → length (q .channels) ≡ 32 → length ns ≡ 32 → advancedAll q ns
-    ≡ withChannels q (map channelOf ns)
-unfolding advancedAll nextAt
-all-numbers q ns c n = ap (withChannels q) (ext-getD (channelOf 0) (firstAt 32 (q .channels) ns) (map channelOf ns)
-    (first-length 32 (q .channels) ns ∙ c ∙ sym n ∙ sym (length-map ns channelOf))
-    (λ j l. first-at 32 (q .channels) ns j (omega (arith, first-length 32 (q .channels) ns)) (omega arith)
-    ∙ sym (List·getD-map channelOf ns j 0)))
+pub all-numbers : (q : RecvQueue) (ns : List ℕ) → length (q .channels) ≡ 32 → advancedAll q ns
+    ≡ withChannels q (channelsOf ns) (newestAt ns maxOrdChans)
+unfolding advancedAll
+all-numbers q ns c = ap (λ (cs : List Channel). withChannels q cs (newestAt ns maxOrdChans))
+    (ext-getD newChannel (firstAt 32 (q .channels) ns) (channelsOf ns)
+    (first-length 32 (q .channels) ns ∙ c ∙ sym (channels-of-length ns))
+    (λ j l. at j (omega (arith, first-length 32 (q .channels) ns, c))))
+  where
+    at : (j : ℕ) → j < 32 → getD (firstAt 32 (q .channels) ns) j newChannel ≡ getD (channelsOf ns) j newChannel
+    at j l = first-at 32 (q .channels) ns j l (omega (arith, c)) ∙ sym (channels-of-at ns j l)

@@ -73,7 +73,7 @@ module _ {M : Type 1} (𝓤 : URA M) (H : Heap 𝓤) (A : Atoms 𝓤) (W : Given
         ∷ [])
         → ((v : Val) (a : PassedRows) (z0 : List ℕ) (z1 : List ℕ) (z2 : List ℕ) (z3 : List ℕ) → length z0 ≡ length (now r) → length z1
         ≡ length (now n) → length z2 ≡ length (now w) → length z3 ≡ length (now s)
-        → CoreSays (queueOf h (now d) (now r) (now n) (now u)) m c (now w) (now s) (now g) a z0 z1 z2 z3
+        → CoreSays (queueOf h (now d) (now r) (now n) (now u)) (now n) m c (now w) (now s) (now g) a z0 z1 z2 z3
         → Seq K W (‵ (flft α qa) ∷ ‵ (flft β qb) ∷ ‵ (flft γ qc) ∷ ‵ (flft δ qd) ∷ ‵ (flft ε qe) ∷ ‵ (flft ζ qz) ∷ ‵ (flft η qh)
         ∷ ‵ (P.the-row .own a (v ∷ [])) ∷ ‵ (finally u8 (name r) z0) ∷ ‵ (finally u32 (name n) z1) ∷ ‵ (finally u32 (name w) z2)
         ∷ ‵ (finally u8 (name s) z3) ∷ Γ) (lands C′ Λ E z v rest o))
@@ -90,10 +90,10 @@ module _ {M : Type 1} (𝓤 : URA M) (H : Heap 𝓤) (A : Atoms 𝓤) (W : Given
         (‵ (flft δ qd) ⊛ (‵ (flft ε qe) ⊛ (‵ (flft ζ qz) ⊛ (‵ (flft η qh) ⊛ ‵ ftrue))))))) ⊛ ‵ (P.the-row .own out (v ∷ [])))
         ⊛ some (λ (zs : Lasts rows.ended (α, (β, (γ, (δ, (ε, (ζ, (η, tt))))))) (h, (d, (r, (n, (u, (w, (m, (c, (s, (g, tt))))))))))). ‵
         (lasts rows.ended (α, (β, (γ, (δ, (ε, (ζ, (η, tt))))))) (h, (d, (r, (n, (u, (w, (m, (c, (s, (g, tt)))))))))) zs) ⊛ raw
-        (fact 𝓤 (CoreSays (queueOf h (now d) (now r) (now n) (now u)) m c (now w) (now s) (now g) out (zs .1 .1 .0) (zs .1 .1 .1 .0)
+        (fact 𝓤 (CoreSays (queueOf h (now d) (now r) (now n) (now u)) (now n) m c (now w) (now s) (now g) out (zs .1 .1 .0) (zs .1 .1 .1 .0)
         (zs .1 .1 .1 .1 .1 .0) (zs .1 .1 .1 .1 .1 .1 .1 .1 .0))))))) (id⊢ 𝓤 _) $
         await t tt $ pick t (λ out. split t $ move t (1 ∷ []) $
-        pick t (λ zs. split t $ move t (1 ∷ []) $ heard t (CoreSays (queueOf h (now d) (now r) (now n) (now u)) m c (now w) (now s)
+        pick t (λ zs. split t $ move t (1 ∷ []) $ heard t (CoreSays (queueOf h (now d) (now r) (now n) (now u)) (now n) m c (now w) (now s)
         (now g) out (zs .1 .1 .0) (zs .1 .1 .1 .0) (zs .1 .1 .1 .1 .1 .0) (zs .1 .1 .1 .1 .1 .1 .1 .1 .0)) (λ e.
         -- [the last values; the tokens and the result]
         fsplit t $ drop t $ fsplit t $ drop t $ fsplit t $ fsplit t $ move t (1 ∷ []) $
@@ -142,7 +142,8 @@ module _ {M : Type 1} (𝓤 : URA M) (H : Heap 𝓤) (A : Atoms 𝓤) (W : Given
         → Opds K W (raw (On 𝓤 H A mem run .pre to-on) ∷ Γ) E xs (vx ∷ vr ∷ vn ∷ vw ∷ vint w64 m ∷ vint w64 c ∷ vs ∷ vg ∷ [])
         → ((v : Val) (a : PassedRows) (z0 : List ℕ) (z1 : List ℕ) (z2 : List ℕ) (z3 : List ℕ) → length z0 ≡ length (now r) → length z1
         ≡ length (now n) → length z2 ≡ length (now w) → length z3 ≡ length (now s)
-        → CoreSays (queueOf (headsOf (now x)) (now x .datagrams .bits) (now r) (now n) (now x .unsent)) m c (now w) (now s) (now g) a z0
+        → CoreSays (queueOf (headsOf (now x)) (now x .datagrams .bits) (now r) (now n) (now x .unsent)) (now n) m c (now w) (now s) (now g)
+        a z0
         z1 z2 z3 → Seq K W (‵ (flft α qa) ∷ ‵ (flft β qb) ∷ ‵ (flft γ qc) ∷ ‵ (flft ε qe) ∷ ‵ (flft ζ qz) ∷ ‵ (flft η qh)
         ∷ ‵ (P.the-row .own a (v ∷ [])) ∷ ‵ (finally u8 (name r) z0) ∷ ‵ (finally u32 (name n) z1) ∷ ‵ (finally u32 (name w) z2)
         ∷ ‵ (finally u8 (name s) z3) ∷ Γ) (lands C′ Λ E z v rest o))
@@ -159,11 +160,12 @@ module _ {M : Type 1} (𝓤 : URA M) (H : Heap 𝓤) (A : Atoms 𝓤) (W : Given
         (P.the-row .own out (v ∷ [])))
         ⊛ some (λ (zs : Lasts on.ended (α, (β, (γ, (ε, (ζ, (η, tt)))))) (x, (r, (n, (w, (m, (c, (s, (g, tt))))))))). ‵
         (lasts on.ended (α, (β, (γ, (ε, (ζ, (η, tt)))))) (x, (r, (n, (w, (m, (c, (s, (g, tt)))))))) zs) ⊛ raw
-        (fact 𝓤 (CoreSays (queueOf (headsOf (now x)) (now x .datagrams .bits) (now r) (now n) (now x .unsent)) m c (now w) (now s)
+        (fact 𝓤 (CoreSays (queueOf (headsOf (now x)) (now x .datagrams .bits) (now r) (now n) (now x .unsent)) (now n) m c (now w) (now s)
         (now g) out (zs .1 .0) (zs .1 .1 .0) (zs .1 .1 .1 .0) (zs .1 .1 .1 .1 .1 .1 .0))))))) (id⊢ 𝓤 _) $
         await t tt $ pick t (λ out. split t $ move t (1 ∷ []) $
         pick t (λ zs. split t $ move t (1 ∷ []) $ heard t
-        (CoreSays (queueOf (headsOf (now x)) (now x .datagrams .bits) (now r) (now n) (now x .unsent)) m c (now w) (now s) (now g) out
+        (CoreSays (queueOf (headsOf (now x)) (now x .datagrams .bits) (now r) (now n) (now x .unsent)) (now n) m c (now w) (now s) (now g)
+        out
         (zs .1 .0) (zs .1 .1 .0) (zs .1 .1 .1 .0) (zs .1 .1 .1 .1 .1 .1 .0)) (λ e.
         -- [the last values; the tokens and the result]
         fsplit t $ drop t $ fsplit t $ fsplit t $ move t (1 ∷ []) $ feqL t (λ l0. move t (1 ∷ []) $ fsplit t $ fsplit t $ move t (1 ∷ []) $

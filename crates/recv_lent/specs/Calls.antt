@@ -5,6 +5,7 @@ use Rattle.base.specs.Answer.{Answer}
 use Rattle.rows.specs.declared.Row.{Row}
 use Rattle.row_slots.specs.First.{firstRows, afterRows, firstCells}
 use Rattle.receiver.specs.declared.RecvQueue.{RecvQueue}
+use Rattle.receiver.specs.Parts.{nextsOf}
 use Rattle.receiver.specs.Receive.{Report}
 use Rattle.recv_prefix.specs.Receiving.{receiveFirst}
 use Rattle.recv_steps.specs.declared.Receive.{Receive}
@@ -27,5 +28,5 @@ receivedWith a q rows after st = record { answer = receiveAnswer a; queue = q; r
 unfoldable pub receiveWithOf : RecvQueue → ℕ → ℕ → List ℕ → List ℕ → List ℕ → ReceivedWith
 receiveWithOf q k cells ws st d =
     let x = receiveFirst q cells (firstCells k ws) st d in
-    let p = rowsOutcome q (firstRows k ws) (afterRows k ws) x in
+    let p = rowsOutcome q (nextsOf q) (firstRows k ws) (afterRows k ws) x in
     record { answer = x .answer; queue = x .queue; rows = p .rows; after = p .after; store = x .store }

@@ -48,7 +48,7 @@ fn receive_on(
     ensures { λ r. ⌜ rowsPassed r (now (rbits .exit)) (now (nexts .exit)) (firstRows k (now (words .exit)))
         (afterRows k (now (words .exit))) (now (store .exit))
         ≡ receiveRowsOf (queueOf (headsOf (now (queue .entry))) (now (queue .entry) .datagrams .bits) (now (rbits .entry))
-        (now (nexts .entry)) (now (queue .entry) .unsent))
+        (now (nexts .entry)) (now (queue .entry) .unsent)) (now (nexts .entry))
         k cells (now (words .entry)) (now (store .entry)) (now (datagram .entry)) ⌝ }
 {
     let h = Heads {

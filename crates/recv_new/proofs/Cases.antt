@@ -11,7 +11,7 @@ use Rattle.window.specs.Window.{newWindow}
 use Rattle.cells.specs.Cell.{Cell, emptyCell}
 use Rattle.cells.specs.Sound.{lengths}
 use Rattle.receiver.specs.declared.RecvQueue.{RecvQueue}
-use Rattle.receiver.specs.Queue.{newQueue}
+use Rattle.receiver.specs.Queue.{newChannel, newQueue}
 use Rattle.recv_new.specs.declared.MakeNew.the-variants.{BadLengths, Made}
 use Rattle.recv_new.specs.New.{makeNewOf, newAnswer, madeNew, cellsMade, answerOf, cleared}
 use Rattle.recv_new.proofs.Cleared.{cleared-all}
@@ -22,9 +22,10 @@ pub queue-made : (d r : ReliableWindow) → d ≡ newWindow → r ≡ newWindow
     → record {
       datagrams = d;
       reliables = r;
-      channels = replicate maxOrdChans (record { next = 0 });
+      channels = replicate maxOrdChans newChannel;
       unsent = replicate maxUnsent 0;
       pending = 0;
+      newest = 0;
     } ≡ newQueue
 unfolding newQueue
 queue-made d r e f = rw (e, f)

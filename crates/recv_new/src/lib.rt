@@ -57,9 +57,10 @@ pub fn new_queue() -> RecvQueue
     RecvQueue {
         datagrams: ReliableWindow::new(),
         reliables: ReliableWindow::new(),
-        channels: [Channel { next: 0 }; 32],
+        channels: [Channel { next: 0, newest: 0 }; 32],
         unsent: [0u32; 1024],
         pending: 0,
+        newest: 0,
     }
 }
 

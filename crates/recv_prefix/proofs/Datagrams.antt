@@ -17,7 +17,7 @@ use Rattle.base.proofs.Counts.{count-map}
 use Rattle.rows.proofs.ListMaps.{map-append}
 use Rattle.bare.specs.Frame.{Frame}
 use Rattle.cells.specs.Cell.{Cell, Slot, isFree, isReady, mark, emptySlot, change, mapIf}
-use Rattle.cells.specs.Datagram.{Work, place, frame, frames, isFirst, isBefore, rank, renumber, sweep, State, begin, datagram}
+use Rattle.cells.specs.Datagram.{Work, place, frame, frames, isFirst, isBefore, rank, renumber, sweep, State, withSlots, begin, datagram}
 use Rattle.cells.specs.Store.{cellSize, slotsOf, cellsOf, laid, storeOf}
 use Rattle.cells.proofs.Keys.{used-free, mark-free}
 use Rattle.cells.proofs.Growing.{frame-grows}
@@ -117,23 +117,17 @@ module _ (t : List Slot) (unused : every isFree t ≡ true) where
   unfolding sweep
   sweep-beside l = change-beside (λ s. eqb (s .cell .used) 4) (λ s. emptySlot) not-late l
 
-  begin-beside : (accepted : ℕ → Bool) (next : ℕ → ℕ) (l : List Slot)
-      → begin (record { accepted = accepted; next = next; slots = l ++ t })
-      ≡ place (begin (record { accepted = accepted; next = next; slots = l }) .state .slots ++ t)
-      (begin (record { accepted = accepted; next = next; slots = l }))
+  begin-beside : (s : State) → begin (withSlots (s .slots ++ t) s) ≡ place (begin s .state .slots ++ t) (begin s)
   unfolding begin place
-  begin-beside accepted next l = rw (renumber-beside l, count-first t unused isFirst not-first l)
+  begin-beside s = rw (renumber-beside (s .slots), count-first t unused isFirst not-first (s .slots))
 
   -- Where the others have an unused one for each frame, they stay as they are, and nothing else changes.
-  pub datagram-beside : (accepted : ℕ → Bool) (next : ℕ → ℕ) (l : List Slot) (fs : List Frame) → length fs ≤ countOf isFree l
-      → datagram (record { accepted = accepted; next = next; slots = l ++ t }) fs
-      ≡ place (datagram (record { accepted = accepted; next = next; slots = l }) fs .state .slots ++ t)
-      (datagram (record { accepted = accepted; next = next; slots = l }) fs)
+  pub datagram-beside : (s : State) (fs : List Frame) → length fs ≤ countOf isFree (s .slots)
+      → datagram (withSlots (s .slots ++ t) s) fs ≡ place (datagram s fs .state .slots ++ t) (datagram s fs)
   unfolding datagram
-  datagram-beside accepted next l fs le =
-      ap (λ (w : Work). frames w fs) (begin-beside accepted next l)
-      ∙ frames-prefix fs (begin (record { accepted = accepted; next = next; slots = l })) t unused
-      (unfold begin in (let e = free-renumber l in omega arith))
+  datagram-beside s fs le =
+      ap (λ (w : Work). frames w fs) (begin-beside s)
+      ∙ frames-prefix fs (begin s) t unused (unfold begin in (let e = free-renumber (s .slots) in omega arith))
 
 pub cells-append : (l t : List Slot) → cellsOf (l ++ t) ≡ cellsOf l ++ cellsOf t
 unfolding cellsOf

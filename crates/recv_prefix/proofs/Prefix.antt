@@ -15,8 +15,8 @@ use Rattle.rows.proofs.ListMaps.{any-append, map-append}
 use Rattle.bare.specs.Frame.{Frame, inLimits}
 use Rattle.bare.specs.Bare.{seenBefore}
 use Rattle.cells.specs.Cell.{Slot, Key, openAs, heldAs, of, sits, isFree, allThere, clash, mark, change, mapIf, turnTo, putSlot, slotOf}
-use Rattle.cells.specs.Datagram.{Work, dropOne, fillUp, place, made, rise, acceptIn, isHeld, goOn, cascade, follows, Fate, late, early, due}
-use Rattle.cells.specs.Datagram.{free, fate, fateOf, roomy, whole, joins, kept, piece, keepIn, frame, frames}
+use Rattle.cells.specs.Datagram.{Work, dropOne, fillUp, place, made, rise, rememberIn, acceptIn, isHeld, goOn, cascade, follows, Fate, late}
+use Rattle.cells.specs.Datagram.{early, due, newer, free, fate, fateOf, roomy, readied, whole, joins, kept, piece, keepIn, frame, frames}
 use Rattle.cells.proofs.PutSlot.{free-put}
 use Rattle.cells.proofs.Keys.{of-free, sits-free}
 use Rattle.cells.proofs.FrameSlot.{slot-free}
@@ -63,9 +63,10 @@ fewer-roomy x w r e c = byBool (λ (z : Work). Fewer w z) (any isFree (w .state 
     omega arith) (λ y. omega arith)
 
 fewer-whole : (x : Fate) (f : Frame) (w : Work) → Fewer w (whole x f w)
-unfolding whole dropOne place made
+unfolding whole readied rememberIn dropOne place made
 fewer-whole late f w = omega arith
 fewer-whole early f w = fewer-roomy (slotOf f 2 0) w _ (slot-free f 2 0 (λ q. omega arith)) refl
+fewer-whole newer f w = fewer-roomy (slotOf f 3 (w .turn)) (rememberIn f w) _ (slot-free f 3 (w .turn) (λ q. omega arith)) refl
 fewer-whole free f w = fewer-roomy (slotOf f 3 (w .turn)) w _ (slot-free f 3 (w .turn) (λ q. omega arith)) refl
 fewer-whole due f w = fewer-roomy (slotOf f 3 (w .turn)) w _ (slot-free f 3 (w .turn) (λ q. omega arith)) (free-follows (f .channel) _)
 
@@ -148,6 +149,10 @@ module _ (t : List Slot) (unused : every isFree t ≡ true) where
   unfolding longer place
   place-longer l m w e = ap (λ (r : List Slot). place r w) e
 
+  remember-longer : (f : Frame) (w : Work) → rememberIn f (longer w) ≡ longer (rememberIn f w)
+  unfolding rememberIn longer place
+  remember-longer f w = refl
+
   drop-longer : (w : Work) → dropOne (longer w) ≡ longer (dropOne w)
   unfolding dropOne longer place
   drop-longer w = refl
@@ -174,18 +179,26 @@ module _ (t : List Slot) (unused : every isFree t ≡ true) where
   unfolding longer place
   turn-ready-longer k w = turn-prefix k 3 (w .turn) (w .state .slots)
 
+  readied-longer : (f : Frame) (w : Work) → any isFree (w .state .slots) ≡ true → readied f (longer w) ≡ longer (readied f w)
+  unfolding readied
+  readied-longer f w e = roomy-longer w _ _ e (made-longer _ _ w (put-ready-longer f w e))
+
   whole-longer : (x : Fate) (f : Frame) (w : Work) → any isFree (w .state .slots) ≡ true → whole x f (longer w) ≡ longer (whole x f w)
   unfolding whole
   whole-longer late f w e = drop-longer w
   whole-longer early f w e = roomy-longer w _ _ e (place-longer _ _ w (put-longer (slotOf f 2 0) w e))
   whole-longer due f w e = roomy-longer w _ _ e (due-longer (f .channel) _ _ w (put-ready-longer f w e))
-  whole-longer free f w e = roomy-longer w _ _ e (made-longer _ _ w (put-ready-longer f w e))
+  whole-longer newer f w e = ap (readied f) (remember-longer f w) ∙ readied-longer f (rememberIn f w) (unfold rememberIn in e)
+  whole-longer free f w e = readied-longer f w e
 
   joins-longer : (x : Fate) (f : Frame) (w : Work) → joins x f (longer w) ≡ longer (joins x f w)
   unfolding joins
   joins-longer late f w = ap dropOne (place-longer _ _ w (turn-longer (openAs (f .id)) 4 0 w)) ∙ drop-longer _
   joins-longer early f w = place-longer _ _ w (turn-longer (openAs (f .id)) 2 0 w)
   joins-longer due f w = due-longer (f .channel) _ _ w (turn-ready-longer (openAs (f .id)) w)
+  joins-longer newer f w =
+      ap (made (turnTo (openAs (f .id)) 3 (longer w .turn) (longer w .state .slots))) (remember-longer f w)
+      ∙ made-longer _ _ (rememberIn f w) (turn-ready-longer (openAs (f .id)) w)
   joins-longer free f w = made-longer _ _ w (turn-ready-longer (openAs (f .id)) w)
 
   kept-longer : (f : Frame) (w : Work) → kept f (longer w) ≡ longer (kept f w)

@@ -15,15 +15,13 @@ use Rattle.base.specs.Numbers.{distance}
 use Rattle.base.proofs.Choices.{cases, same-option}
 use Rattle.base.proofs.Ifs.{true-yes, true-no, le-yes}
 use Rattle.window.specs.declared.ReliableWindow.{ReliableWindow}
-use Rattle.window.specs.Window.{accepted}
 use Rattle.frame.specs.Frames.{framesOf}
 use Rattle.cells.specs.Cell.{Cell, Slot, isFree}
-use Rattle.cells.specs.Datagram.{Work, place, sweep, end, datagram}
+use Rattle.cells.specs.Datagram.{Work, withSlots, place, sweep, end, datagram}
 use Rattle.cells.specs.Sound.{lengths}
 use Rattle.cells.specs.Store.{cellSize, slotsOf, cellsOf, storeOf}
 use Rattle.cells.proofs.Store.{cells-slots}
 use Rattle.receiver.specs.declared.RecvQueue.{RecvQueue}
-use Rattle.receiver.specs.Queue.{nextOf}
 use Rattle.receiver.specs.Receive.{Received, datagramNumber, frameIn, framesIn, acceptAll, stateOf, acceptedResult, refusedResult}
 use Rattle.receiver.specs.Receive.{soundCall, receiveOf}
 use Rattle.receiver.proofs.Receives.{bodies-short}
@@ -83,9 +81,8 @@ module _ (q : RecvQueue) (first rest : List Cell) (a b d : List ℕ) (unused : e
     work-more : datagram (stateOf q (first ++ rest) (a ++ b)) (framesIn d) ≡ place (work .state .slots ++ others) work
     unfolding stateOf framesIn work
     work-more =
-        ap (λ (l : List Slot). datagram (record { accepted = accepted (q .reliables); next = nextOf q; slots = l }) (framesIn d))
-        (slots-append first rest a b short exact)
-        ∙ datagram-beside others others-free (accepted (q .reliables)) (nextOf q) (slotsOf first a) (framesIn d)
+        ap (λ (l : List Slot). datagram (withSlots l (stateOf q first a)) (framesIn d)) (slots-append first rest a b short exact)
+        ∙ datagram-beside others others-free (stateOf q first a) (framesIn d)
         (rw (slots-count first a, length-map (framesOf d minDatagram) (frameIn d)) room)
 
     records-more : cellsOf (sweep (work .state .slots ++ others)) ≡ cellsOf (sweep (work .state .slots)) ++ rest

@@ -13,6 +13,7 @@ use Rattle.rows.specs.Rows.{rowWords, cellOf}
 use Rattle.row_slots.specs.First.{firstRows, afterRows, firstCells}
 use Rattle.row_slots.proofs.First.{first-cells-of, stored-cells}
 use Rattle.receiver.specs.declared.RecvQueue.{RecvQueue}
+use Rattle.receiver.specs.Parts.{nextsOf}
 use Rattle.receiver.specs.Receive.{Report, Received, refusedResult, acceptedResult, receiveOf}
 use Rattle.receiver.proofs.AnswerCases.{by-true, by-le, receive-ways}
 use Rattle.recv_prefix.specs.Needs.{lastUsed, receiveNeeds}
@@ -68,8 +69,8 @@ first-leaves q n cs st d =
 -- ---- the records that are saved
 module _ (q : RecvQueue) (rs : List Cell) (k : ℕ) (w : List ℕ) (room : rowWords * k ≤ length w) (rows : List Row) (after : List ℕ)
     (x : Received) (leaves : Leaves (take k rs) x) where
-  saved-by : (a : Answer Report) → a ≡ x .answer → firstRows k w ≡ rowsByAnswer a q rows after x .rows → saved rs (rowsWritten a k) w
-      ≡ x .records ++ drop k rs
+  saved-by : (a : Answer Report) → a ≡ x .answer → firstRows k w ≡ rowsByAnswer a q (nextsOf q) rows after x .rows
+      → saved rs (rowsWritten a k) w ≡ x .records ++ drop k rs
   unfolding rowsWritten rowsByAnswer rowsAccepted
   saved-by (refused number) e is = sym (saved-none rs w) ∙ (sym (take-append-drop k rs) ∙ ap (λ (cs : List Cell). cs ++ drop k rs)
       (sym (leaves number (sym e))))
@@ -86,13 +87,13 @@ module _ (q : RecvQueue) (rs : List Cell) (st d : List ℕ) (k : ℕ) (is : Enou
   first = receiveFirst q (length rs) (take k rs) st d
 
   received-of : (r : Receive) (h : RecvQueue) (w s : List ℕ) (rows : List Row) (after : List ℕ) → rowWords * k ≤ length w
-      → receiveAnswer r ≡ first .answer → h ≡ first .queue → firstRows k w ≡ rowsOutcome q rows after first .rows → s ≡ first .store
-      → CallSays q rs st d r h (saved rs (rowsWritten (receiveAnswer r) k) w) s
+      → receiveAnswer r ≡ first .answer → h ≡ first .queue → firstRows k w ≡ rowsOutcome q (nextsOf q) rows after first .rows
+      → s ≡ first .store → CallSays q rs st d r h (saved rs (rowsWritten (receiveAnswer r) k) w) s
   unfolding received beside rowsOutcome
   received-of r h w s rows after room answer queue left store =
       let zs : saved rs (rowsWritten (receiveAnswer r) k) w ≡ first .records ++ drop k rs =
       saved-by q rs k w room rows after first (first-leaves q (length rs) (take k rs) st d) (receiveAnswer r) answer
-      (left ∙ ap (λ (a : Answer Report). rowsByAnswer a q rows after first .rows) (sym answer))
+      (left ∙ ap (λ (a : Answer Report). rowsByAnswer a q (nextsOf q) rows after first .rows) (sym answer))
       in
       let e : received r h (saved rs (rowsWritten (receiveAnswer r) k) w) s ≡ beside (drop k rs) first = rw (zs, answer, queue, store) in
       e ∙ sym (receive-enough q rs st d k is)
@@ -108,8 +109,8 @@ module _ (q : RecvQueue) (rs : List Cell) (st d : List ℕ) (k : ℕ) (is : Enou
       let of : Received → ReceivedWith = λ x. record {
         answer = x .answer;
         queue = x .queue;
-        rows = rowsOutcome q (firstRows k ls) (afterRows k ls) x .rows;
-        after = rowsOutcome q (firstRows k ls) (afterRows k ls) x .after;
+        rows = rowsOutcome q (nextsOf q) (firstRows k ls) (afterRows k ls) x .rows;
+        after = rowsOutcome q (nextsOf q) (firstRows k ls) (afterRows k ls) x .after;
         store = x .store;
       } in
       let e : receivedWith r h (firstRows k w) (afterRows k w) s ≡ of first =

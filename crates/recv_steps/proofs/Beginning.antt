@@ -8,7 +8,7 @@ use native.Mathlib.Omega.{arith}
 use lib.Dec.{eqb, leb}
 use lib.ListN.{length, length-map}
 use borrow.Author.Tests.{leb-true, eqb-true}
-use Rattle.base.specs.Limits.{maxCells, maxOrdChans, maxUnsent}
+use Rattle.base.specs.Limits.{maxCells, manyNexts, maxUnsent}
 use Rattle.base.specs.Lists.{countOf}
 use Rattle.base.proofs.Choices.{and-left, and-right}
 use Rattle.base.proofs.Counts.{count-length}
@@ -34,10 +34,10 @@ use Rattle.row_slots.proofs.Meaning.{slots-stored}
 use Rattle.row_slots.proofs.Changes.{slots-renumbered}
 use Rattle.row_slots.proofs.Fitting.{fit-stored, fit-renumbered, changed-length}
 use Rattle.receiver.specs.declared.Heads.{Heads}
-use Rattle.receiver.specs.Parts.{channelOf, nextAt, queueOf, arraysFit}
+use Rattle.receiver.specs.Parts.{nextAt, queueOf, arraysFit}
 use Rattle.receiver.specs.Queue.{nextOf}
 use Rattle.receiver.specs.Receive.{stateOf, soundCall}
-use Rattle.receiver.proofs.ByParts.{next-of-parts}
+use Rattle.receiver.proofs.ByParts.{next-of-parts, newest-of-parts}
 use Rattle.receiver.proofs.Receives.{lengths-sound, cells-sound, bodies-short}
 use Rattle.recv_steps.specs.Work.{workOf}
 use Rattle.recv_steps.specs.Flush.{stored}
@@ -48,21 +48,20 @@ use Rattle.recv_steps.specs.Receives.{Numbered, rankedRows, begunRows}
 
 module _ (h : Heads) (db rb ns un : List ℕ) where
   -- as the code tests them
-  pub arrays-are : eqb (length db) 256 && (eqb (length rb) 256 && (eqb (length ns) maxOrdChans && eqb (length un) maxUnsent))
-      ≡ arraysFit (queueOf h db rb ns un)
+  pub arrays-are : eqb (length db) 256 && (eqb (length rb) 256 && (eqb (length ns) manyNexts && eqb (length un) maxUnsent))
+      ≡ arraysFit (queueOf h db rb ns un) ns
   unfolding arraysFit queueOf
-  arrays-are = rw (length-map ns channelOf)
+  arrays-are = refl
 
-  module _ (e : arraysFit (queueOf h db rb ns un) ≡ true) where
-    all : eqb (length db) 256 && (eqb (length rb) 256 && (eqb (length (map channelOf ns)) maxOrdChans && eqb (length un) maxUnsent)) ≡ true
+  module _ (e : arraysFit (queueOf h db rb ns un) ns ≡ true) where
+    all : eqb (length db) 256 && (eqb (length rb) 256 && (eqb (length ns) manyNexts && eqb (length un) maxUnsent)) ≡ true
     all = unfold arraysFit queueOf in e
 
     pub fits-bits : length rb ≡ 256
     fits-bits = eqb-true (length rb) 256 (and-left (eqb (length rb) 256) _ (and-right (eqb (length db) 256) _ all))
 
-    pub fits-nexts : length ns ≡ maxOrdChans
-    fits-nexts = sym (length-map ns channelOf) ∙ eqb-true (length (map channelOf ns)) maxOrdChans
-        (and-left (eqb (length (map channelOf ns)) maxOrdChans) _
+    pub fits-nexts : length ns ≡ manyNexts
+    fits-nexts = eqb-true (length ns) manyNexts (and-left (eqb (length ns) manyNexts) _
         (and-right (eqb (length rb) 256) _ (and-right (eqb (length db) 256) _ all)))
 
 -- ---- places cleared
@@ -124,12 +123,17 @@ module _ (h : Heads) (db rb ns un : List ℕ) (ws st d : List ℕ) where
   pub begun-work : workOf (accepted (windowOf (h .reliables) rb)) (begunTally (countOf firstCell (cellsIn ws))) ns (begunRows (rowsOf ws))
       st d ≡ begin (stateOf (queueOf h db rb ns un) (cellsIn ws) st)
   unfolding workOf begin stateOf cellsIn
-  begun-work = rw (begun-slots (rowsOf ws) st d, first-slots (map cellOf (rowsOf ws)) st, next-of-parts h db rb ns un)
+  begun-work = rw (
+    begun-slots (rowsOf ws) st d,
+    first-slots (map cellOf (rowsOf ws)) st,
+    next-of-parts h db rb ns un,
+    newest-of-parts h db rb ns un,
+  )
       (unfold queueOf in refl)
 
   -- ---- what the frames require
 
-  module _ {ascends : Bool} (n : Numbered (queueOf h db rb ns un) ws st d ascends) where
+  module _ {ascends : Bool} (n : Numbered (queueOf h db rb ns un) ns ws st d ascends) where
     abbrev sound : soundCall (queueOf h db rb ns un) (cellsIn ws) st ≡ true
     sound = n .head .judged .sound
 

@@ -1,20 +1,24 @@
 -- Changes of counts and nexts alone, as changes of the working state.
 -- Assumes nothing.
 use Prim.Native.Nat.{ℕ, suc, _+_, _^_, _≤_, _<_}
-use mathlib.Core.Path.{_≡_, refl}
+use mathlib.Core.Path.{_≡_, refl, sym, _∙_, ap}
 use mathlib.Core.Bool.{Bool, cond}
 use mathlib.Core.List.{List}
 use native.Mathlib.Omega.{arith}
-use lib.Dec.{eqb}
-use lib.ListN.{length, getD, set, length-set}
-use lib.Seq.{getD-set-same, getD-set-other}
-use borrow.Author.Tests.{eqb-true, eqb-false}
-use Rattle.base.specs.Limits.{maxOrdChans, maxCells}
+use lib.Dec.{ltb, eqb}
+use lib.ListN.{length, set, length-set}
+use borrow.Author.Tests.{ltb-true, ltb-false, eqb-true, eqb-false, eq-eqb, ne-eqb}
+use Rattle.base.specs.Limits.{numbers24, maxOrdChans, memories, manyNexts, maxCells}
 use Rattle.base.proofs.Choices.{cases}
-use Rattle.bare.specs.Bare.{bump}
-use Rattle.cells.specs.Datagram.{dropOne, fillUp, made, rise}
+use Rattle.frame.specs.declared.Placed.{Placed}
+use Rattle.bare.specs.Bare.{bump, memoryOf}
+use Rattle.cells.specs.Datagram.{dropOne, fillUp, made, rise, rememberIn}
 use Rattle.rows.specs.declared.Row.{Row}
-use Rattle.receiver.specs.Parts.{nextAt}
+use Rattle.receiver.specs.Parts.{nextPlace, memoryPlace, nextAt, newestAt}
+use Rattle.receiver.specs.Receive.{frameIn}
+use Rattle.receiver.proofs.ByParts.{place-apart, next-past, next-set, newest-past, newest-set}
+use Rattle.recv_memory.specs.Remembered.{remembered}
+use Rattle.recv_memory.proofs.Laws.{memory-within, next-remembered, newest-remembered}
 use Rattle.recv_steps.specs.declared.Tally.{Tally}
 use Rattle.recv_steps.specs.Work.{workOf}
 use Rattle.recv_steps.specs.CountChanges.{droppedOne, filledUp, madeOne, risen, CanCount, Rises}
@@ -35,20 +39,47 @@ module _ (a : ℕ → Bool) (x : Tally) (ns : List ℕ) (rs : List Row) (st d : 
   unfolding workOf madeOne made
   work-made = rw (one-more (x .turn), one-more (x .ready))
 
--- A channel's next raised by one is `bump`.
-next-risen : (ns : List ℕ) (c : ℕ) → c < length ns → nextAt (risen c ns) ≡ bump c (nextAt ns)
-unfolding nextAt bump risen
-next-risen ns c lt = λ i k. at k i
-  where
-    at : (k : ℕ) → getD (set ns c (getD ns c 0 + 1)) k 0 ≡ cond (eqb k c) (getD ns k 0 + 1) (getD ns k 0)
-    at k = cases (eqb k c)
-        (λ t. rw (t, eqb-true k c t, getD-set-same ns c (getD ns c 0 + 1) 0 lt))
-        (λ t. rw (t, getD-set-other ns c k (getD ns c 0 + 1) 0 (eqb-false k c t)))
+-- A channel's next raised by one is `bump`, and no memory is touched.
+module _ (ns : List ℕ) (long : length ns ≡ manyNexts) (c : ℕ) (lt : c < maxOrdChans) where
+  next-risen : nextAt (risen c ns) ≡ bump c (nextAt ns)
+  unfolding bump risen
+  next-risen = λ i k. at k i
+    where
+      same : (k : ℕ) → eqb (nextPlace k) (nextPlace c) ≡ eqb k c
+      same k = cases (eqb k c)
+          (λ t. eq-eqb (nextPlace k) (nextPlace c) (ap (λ (x : ℕ). nextPlace x) (eqb-true k c t)) ∙ sym t)
+          (λ t. let ne = eqb-false k c t in ne-eqb (nextPlace k) (nextPlace c) (λ e. ne (omega arith)) ∙ sym t)
 
-pub work-risen : (a : ℕ → Bool) (x : Tally) (ns : List ℕ) (rs : List Row) (st d : List ℕ) (c : ℕ) → c < length ns → workOf a x (risen c ns)
-    rs st d ≡ rise c (workOf a x ns rs st d)
-unfolding workOf rise
-work-risen a x ns rs st d c lt = rw (next-risen ns c lt)
+      at : (k : ℕ) → nextAt (set ns (nextPlace c) (nextAt ns c + 1)) k ≡ cond (eqb k c) (nextAt ns k + 1) (nextAt ns k)
+      at k = cases (ltb k maxOrdChans)
+          (λ t. next-set ns long (nextAt ns c + 1) (nextPlace c) k (ltb-true k maxOrdChans t)
+          ∙ (rw (same k) (cases (eqb k c) (λ u. rw (u, eqb-true k c u)) (λ u. rw u))))
+          (λ t. let ge = ltb-false k maxOrdChans t in
+          rw (ne-eqb k c (λ e. omega arith), next-past (set ns (nextPlace c) (nextAt ns c + 1)) k ge, next-past ns k ge))
+
+  newest-risen : newestAt (risen c ns) ≡ newestAt ns
+  unfolding risen
+  newest-risen = λ i m. at m i
+    where
+      at : (m : ℕ) → newestAt (set ns (nextPlace c) (nextAt ns c + 1)) m ≡ newestAt ns m
+      at m = cases (ltb m memories)
+          (λ t. let l = ltb-true m memories t in
+          newest-set ns long (nextAt ns c + 1) (nextPlace c) m l ∙ rw (ne-eqb (memoryPlace m) (nextPlace c) (place-apart c m lt l)))
+          (λ t. let ge = ltb-false m memories t in rw (newest-past (set ns (nextPlace c) (nextAt ns c + 1)) m ge, newest-past ns m ge))
+
+  pub work-risen : (a : ℕ → Bool) (x : Tally) (rs : List Row) (st d : List ℕ) → workOf a x (risen c ns) rs st d
+      ≡ rise c (workOf a x ns rs st d)
+  unfolding workOf rise
+  work-risen a x rs st d = rw (next-risen, newest-risen)
+
+pub work-remembered : (ns : List ℕ) → length ns ≡ manyNexts → (p : Placed) → p .frame .channel < maxOrdChans
+    → p .frame .sequence < numbers24 → (a : ℕ → Bool) (x : Tally) (rs : List Row) (st d : List ℕ)
+    → workOf a x (remembered (memoryOf (p .frame .kind) (p .frame .channel)) (p .frame .sequence) ns) rs st d
+    ≡ rememberIn (frameIn d p) (workOf a x ns rs st d)
+unfolding workOf rememberIn frameIn
+work-remembered ns long p lt small a x rs st d =
+    let m = memory-within (p .frame .kind) (p .frame .channel) lt in
+    rw (next-remembered ns long _ _ m small, newest-remembered ns long _ _ m small)
 
 -- ---- counters
 
@@ -88,13 +119,12 @@ module _ (ns : List ℕ) where
 
   pub risen-long : (c : ℕ) → length (risen c ns) ≡ length ns
   unfolding risen
-  risen-long c = length-set ns c (nextAt ns c + 1)
+  risen-long c = length-set ns (nextPlace c) (nextAt ns c + 1)
 
   pub rises-risen : (n c : ℕ) → c < maxOrdChans → Rises (n + 1) ns → Rises n (risen c ns)
   rises-risen n c lt v = record {
     long = rw (risen-long c) (v .long);
-    next = λ k. let p = v .next k in let q = bump-small c (nextAt ns) k in rw (next-risen ns c (let e = v .long in omega arith))
-        (omega arith);
+    next = λ k. let p = v .next k in let q = bump-small c (nextAt ns) k in rw (next-risen ns (v .long) c lt) (omega arith);
   }
 
   -- as the code asks for it

@@ -40,7 +40,7 @@ goes-on ws ws′ x y ns ns′ c n v lt en e em ey d =
     (moves-then d (λ w. made (turnTo (heldAs c (w .state .next c)) 3 (w .turn) (w .state .slots)) w) (rise c) x (madeOne x) (madeOne x) ns
     ns (risen c ns) (rowsOf ws) (rowsOf ws′) (rowsOf ws′)
     (moves-made d x ns (rowsOf ws) (rowsOf ws′) (λ w. turnTo (heldAs c (w .state .next c)) 3 (w .turn) (w .state .slots)) at (ch .fits))
-    (moves-rise d (madeOne x) ns (rowsOf ws′) c (let k = v .long in omega arith)))
+    (moves-rise d (madeOne x) ns (rowsOf ws′) c (v .long) lt))
   where
     ch : Changes d (turnTo (heldAs c n) 3 (x .turn)) (rowsOf ws) (rowsOf ws′)
     ch = turn-changes d (heldAs c n) 3 (x .turn) (rowsOf ws) (rowsOf ws′) (omega arith) e
@@ -139,7 +139,7 @@ module _ (c : ℕ) (x y : Tally) (ns ns₀ ns′ ws ws′ : List ℕ) (lt : c < 
   unfolding follows
   begun a store d =
       ap (λ (z : Work). cascade (rowCount ws) c z) (ap (λ (z : List ℕ). workOf a x z (rowsOf ws) store d) e ∙ moves-rise d x ns (rowsOf ws)
-      c (let k = v .long in omega arith) .is a store)
+      c (v .long) lt .is a store)
       ∙ ap (λ (n : ℕ). cascade n c (rise c (workOf a x ns (rowsOf ws) store d)))
       (unfold workOf in sym (slots-in-length (rowsOf ws) store d ∙ rows-length ws))
 

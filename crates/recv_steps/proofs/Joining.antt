@@ -7,26 +7,29 @@ use mathlib.Core.List.{List, map}
 use native.Mathlib.Omega.{arith}
 use lib.Dec.{eqb}
 use borrow.Author.Tests.{eq-eqb, ne-eqb}
+use Rattle.base.specs.Limits.{maxOrdChans}
 use Rattle.base.specs.Lists.{any, countOf}
 use Rattle.frame.specs.declared.Placed.{Placed}
+use Rattle.bare.specs.Bare.{memoryOf}
 use Rattle.cells.specs.Cell.{Cell, openAs, bears, isFree, allThere, clash, putSlot, slotOf, turnTo}
 use Rattle.cells.specs.Records.{clashes}
-use Rattle.cells.specs.Datagram.{dropOne, place, fateOf, follows, joins, kept, piece}
+use Rattle.cells.specs.Datagram.{dropOne, place, rememberIn, fateOf, follows, joins, kept, piece}
 use Rattle.rows.specs.declared.Row.{Row}
 use Rattle.rows.specs.Rows.{rowsOf, cellOf, cellsIn, markRow, changeRows}
 use Rattle.row_slots.specs.Slots.{slotsIn}
 use Rattle.row_slots.proofs.Tests.{piece-clash-rows}
 use Rattle.row_slots.proofs.Complete.{piece-complete}
 use Rattle.receiver.specs.Receive.{frameIn}
+use Rattle.recv_memory.specs.Remembered.{remembered}
 use Rattle.recv_steps.specs.declared.Tally.{Tally}
 use Rattle.recv_steps.specs.declared.Course.{Course}
-use Rattle.recv_steps.specs.declared.Course.the-variants.{Late, Early, Due, Free}
+use Rattle.recv_steps.specs.declared.Course.the-variants.{Late, Early, Due, Newer, Free}
 use Rattle.recv_steps.specs.Work.{workOf, fateIs}
-use Rattle.recv_steps.specs.CountChanges.{droppedOne, filledUp, madeOne}
-use Rattle.recv_steps.specs.Placing.{rowFor, Stands, Limited}
+use Rattle.recv_steps.specs.CountChanges.{droppedOne, filledUp, madeOne, Rises}
+use Rattle.recv_steps.specs.Placing.{rowFor, Stands, ReadablePlaced, Limited}
 use Rattle.recv_steps.specs.Moves.{Changes, Moves, Counted, Sane, Beside, byFate, putPiece, turnReady}
 use Rattle.recv_steps.proofs.Changing.{row-cell, turn-changes}
-use Rattle.recv_steps.proofs.Moving.{moves-then, moves-drop, moves-place, moves-made, moves-roomy}
+use Rattle.recv_steps.proofs.Moving.{moves-then, moves-drop, moves-place, moves-made, moves-remember, moves-roomy}
 use Rattle.recv_steps.proofs.Wholes.{put-full, found-by}
 
 -- ---- a joined message
@@ -52,17 +55,25 @@ module _ (x : Tally) (ns : List ℕ) (rs rs′ : List Row) (p : Placed) (r : Cou
   unfolding joins fateIs
   joins-early e q d = found-by x ns rs p r h joins Early e x ns rs′ d (placed 2 (omega arith) q d)
 
-  module _ (y : Tally) (m : (ns d : List ℕ) → Moves d (turnReady (p .frame .meta .id)) x ns rs y ns rs′) where
+  module _ (y : Tally) (m₀ : (ns d : List ℕ) → Moves d (turnReady (p .frame .meta .id)) x ns rs y ns rs′) where
     pub joins-free : r ≡ Free → (d : List ℕ) → Moves d (byFate joins (frameIn d p)) x ns rs y ns rs′
     unfolding joins fateIs turnReady frameIn
-    joins-free e d = found-by x ns rs p r h joins Free e y ns rs′ d (m ns d)
+    joins-free e d = found-by x ns rs p r h joins Free e y ns rs′ d (m₀ ns d)
+
+    pub joins-newer : r ≡ Newer → {n : ℕ} → Rises n ns → ReadablePlaced p → p .frame .channel < maxOrdChans
+        → (ns′ : List ℕ) → ns′ ≡ remembered (memoryOf (p .frame .kind) (p .frame .channel)) (p .frame .sequence) ns → (d : List ℕ)
+        → Moves d (byFate joins (frameIn d p)) x ns rs y ns′ rs′
+    unfolding joins fateIs turnReady frameIn rememberIn
+    joins-newer e rises fit lt ns′ en d = found-by x ns rs p r h joins Newer e y ns′ rs′ d
+        (moves-then d (rememberIn (frameIn d p)) (turnReady (p .frame .meta .id)) x x y ns ns′ ns′ rs rs rs′
+        (rw en (moves-remember d x ns rs p (rises .long) lt (fit .sequence))) (m₀ ns′ d))
 
     pub joins-due : r ≡ Due → (z : Tally) (ns′ : List ℕ) (rs″ : List Row)
         → ((d : List ℕ) → Moves d (follows (p .frame .channel)) y ns rs′ z ns′ rs″) → (d : List ℕ) → Moves d (byFate joins (frameIn d p)) x
         ns rs z ns′ rs″
     unfolding joins fateIs turnReady frameIn
     joins-due e z ns′ rs″ f d = found-by x ns rs p r h joins Due e z ns′ rs″ d
-        (moves-then d (turnReady (p .frame .meta .id)) (follows (p .frame .channel)) x y z ns ns ns′ rs rs′ rs″ (m ns d) (f d))
+        (moves-then d (turnReady (p .frame .meta .id)) (follows (p .frame .channel)) x y z ns ns ns′ rs rs′ rs″ (m₀ ns d) (f d))
 
 -- An open message's slots become a ready one's.
 pub ready-turned : (x y : Tally) (rs rs′ : List Row) (id : ℕ) → rs′ ≡ changeRows (bears (openAs id)) (markRow 3 (x .turn)) rs → y

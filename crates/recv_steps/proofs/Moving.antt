@@ -1,6 +1,7 @@
 -- What functions over counts, nexts and rows do to the working state, put together.
 -- Assumes nothing.
 use Prim.Native.Nat.{ℕ, _<_}
+use Rattle.base.specs.Limits.{numbers24, maxOrdChans, manyNexts}
 use mathlib.Core.Path.{_≡_, sym, _∙_, ap}
 use mathlib.Core.Bool.{Bool, true, false}
 use mathlib.Core.List.{List}
@@ -8,14 +9,18 @@ use lib.ListN.{length}
 use Rattle.base.specs.Lists.{any}
 use Rattle.bare.specs.Frame.{Frame}
 use Rattle.cells.specs.Cell.{Slot, isFree}
-use Rattle.cells.specs.Datagram.{Work, dropOne, fillUp, place, made, rise, Fate, fateOf, roomy}
+use Rattle.frame.specs.declared.Placed.{Placed}
+use Rattle.bare.specs.Bare.{memoryOf}
+use Rattle.cells.specs.Datagram.{Work, dropOne, fillUp, place, made, rise, rememberIn, Fate, fateOf, roomy}
+use Rattle.receiver.specs.Receive.{frameIn}
 use Rattle.rows.specs.declared.Row.{Row}
 use Rattle.row_slots.specs.Slots.{slotsIn, AllFit}
+use Rattle.recv_memory.specs.Remembered.{remembered}
 use Rattle.recv_steps.specs.declared.Tally.{Tally}
 use Rattle.recv_steps.specs.Work.{workOf}
 use Rattle.recv_steps.specs.CountChanges.{droppedOne, filledUp, madeOne, risen}
 use Rattle.recv_steps.specs.Moves.{Moves, byFate}
-use Rattle.recv_steps.proofs.CountChanges.{work-dropped, work-filled, work-made, work-risen}
+use Rattle.recv_steps.proofs.CountChanges.{work-dropped, work-filled, work-made, work-risen, work-remembered}
 
 module _ (d : List ℕ) where
   pub moves-then : (g h : Work → Work) (x y z : Tally) (ns ns′ ns″ : List ℕ) (rs rs′ rs″ : List Row) → Moves d g x ns rs y ns′ rs′
@@ -29,8 +34,13 @@ module _ (d : List ℕ) where
     pub moves-drop : Moves d dropOne x ns rs (droppedOne x) ns rs
     moves-drop = record { is = λ a store. work-dropped a x ns rs store d; fits = λ v. v }
 
-    pub moves-rise : (c : ℕ) → c < length ns → Moves d (rise c) x ns rs x (risen c ns) rs
-    moves-rise c lt = record { is = λ a store. work-risen a x ns rs store d c lt; fits = λ v. v }
+    pub moves-rise : (c : ℕ) → length ns ≡ manyNexts → c < maxOrdChans → Moves d (rise c) x ns rs x (risen c ns) rs
+    moves-rise c long lt = record { is = λ a store. work-risen ns long c lt a x rs store d; fits = λ v. v }
+
+    pub moves-remember : (p : Placed) → length ns ≡ manyNexts → p .frame .channel < maxOrdChans → p .frame .sequence < numbers24
+        → Moves d (rememberIn (frameIn d p)) x ns rs x
+        (remembered (memoryOf (p .frame .kind) (p .frame .channel)) (p .frame .sequence) ns) rs
+    moves-remember p long lt small = record { is = λ a store. work-remembered ns long p lt small a x rs store d; fits = λ v. v }
 
     -- Other slots, and other slots that make a message ready: g may look at the working state, which has the slots of the rows.
     module _ (rs′ : List Row) (g : Work → List Slot) (e : (a : ℕ → Bool) (store : List ℕ) → slotsIn rs′ store d

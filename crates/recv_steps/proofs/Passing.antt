@@ -8,10 +8,10 @@ use mathlib.Core.Option.{some}
 use mathlib.Core.List.{List, [], _∷_, map, List·Memᴰ, List·Memᴰ·cases-cons, List·Memᴰ·not-nil}
 use native.Mathlib.Omega.{arith}
 use native.Mathlib.Decide.{decLt}
-use lib.ListN.{length, take, drop, length-take, List·getD-eq-default}
+use lib.ListN.{length, take, drop, length-take}
 use Rattle.base.specs.Answer.{gives}
 use Rattle.base.specs.Bytes.{Bytes}
-use Rattle.base.specs.Limits.{numbers24, maxOrdChans, maxCells, minDatagram, maxDatagram}
+use Rattle.base.specs.Limits.{numbers24, maxOrdChans, manyNexts, maxCells, minDatagram, maxDatagram}
 use Rattle.window.specs.declared.InsertedLow.{InsertedLow}
 use Rattle.window.specs.Proper.{Sized}
 use Rattle.window.specs.Window.{windowOf, accepted, insertedIn}
@@ -35,6 +35,7 @@ use Rattle.rows.proofs.Rows.{rows-length}
 use Rattle.row_slots.specs.Slots.{slotsIn, AllFit}
 use Rattle.row_slots.proofs.Meaning.{slots-in-length}
 use Rattle.receiver.specs.Parts.{nextAt}
+use Rattle.receiver.proofs.ByParts.{next-past}
 use Rattle.receiver.specs.Receive.{frameIn, framesIn, acceptAll, bytesLeft}
 use Rattle.recv_steps.specs.declared.Tally.{Tally}
 use Rattle.recv_steps.specs.declared.Framed.the-variants.{Beyond, Done}
@@ -53,7 +54,11 @@ module _ (d : List ℕ) (by : Bytes d) (short : length d ≤ maxDatagram) (at : 
   read-stands = let w = read-whole d at p next e in omega arith
 
   pub read-readable : ReadablePlaced p
-  read-readable = let w = read-whole d at p next e in record { within = omega arith; reliable = read-small d by at p next e .0 .reliable }
+  read-readable = let w = read-whole d at p next e in record {
+    within = omega arith;
+    reliable = read-small d by at p next e .0 .reliable;
+    sequence = read-small d by at p next e .0 .sequence;
+  }
 
   read-ok : sound.Readable (frameIn d p)
   unfolding frameIn
@@ -91,7 +96,7 @@ pub record Going (low₀ : ℕ) (bits₀ ns₀ ws₀ : List ℕ) (turn₀ : ℕ)
     pub reaches : acceptAll (windowOf low bits) (map (frameIn d) (framesOf d at)) ≡ acceptAll (windowOf low₀ bits₀) (framesIn d)
     pub end : endOf d minDatagram ≡ endOf d at
     pub places : Sized (windowOf low bits)
-    pub nexts : length ns ≡ maxOrdChans
+    pub nexts : length ns ≡ manyNexts
     pub turn : x .turn ≤ high at
     pub ready : x .ready ≤ high at
     pub dropped : x .dropped ≤ high at
@@ -127,7 +132,7 @@ module _ (low₀ : ℕ) (bits₀ ns₀ ws₀ : List ℕ) (turn₀ : ℕ) (d : Li
       go (no ge) = subst (λ (z : ℕ). z ≤ numbers24) (sym past) (omega arith)
         where
           past : nextAt ns c ≡ 0
-          past = unfold nextAt in List·getD-eq-default ns 0 (let e = g .nexts in omega arith)
+          past = next-past ns c (omega arith)
 
   pub going-counts : CanCount (maxCells + 2) x
   going-counts = let h = g .here in record {

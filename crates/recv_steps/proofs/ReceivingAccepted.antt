@@ -10,7 +10,7 @@ use lib.Dec.{eqb}
 use lib.ListN.{length}
 use borrow.Author.Tests.{eq-eqb, ne-eqb}
 use Rattle.base.specs.Answer.{gives}
-use Rattle.base.specs.Limits.{maxCells}
+use Rattle.base.specs.Limits.{maxOrdChans, maxCells}
 use Rattle.window.specs.Window as Window
 use Rattle.window.specs.Window.{windowOf}
 use Rattle.cells.specs.Datagram.{Work, frames, datagram, end}
@@ -25,7 +25,9 @@ use Rattle.row_slots.specs.First.{storedRow}
 use Rattle.row_slots.specs.Slots.{flushed, AllFit}
 use Rattle.row_slots.proofs.Stored.{accepted-store, accepted-records}
 use Rattle.receiver.specs.declared.Heads.{Heads}
-use Rattle.receiver.specs.Parts.{channelOf, nextsOf, nextAt, queueOf}
+use Rattle.receiver.specs.declared.Channel.{Channel}
+use Rattle.receiver.specs.Parts.{nextsIn, nextsOf, nextAt, newestAt, channelsOf, queueOf}
+use Rattle.receiver.proofs.ByParts.{numbers-back, channels-of-length, channels-anew}
 use Rattle.receiver.specs.Receive.{framesIn, stateOf, channelsAfter, queueAfter, acceptedResult, receiveOf}
 use Rattle.receiver.proofs.Receives.{store-is}
 use Rattle.recv_steps.specs.declared.Tally.{Tally}
@@ -38,20 +40,8 @@ use Rattle.recv_steps.specs.Flush.{stored, settled, settledRows}
 use Rattle.recv_steps.specs.Frames.{Passes, Ran}
 use Rattle.recv_steps.specs.Outcome.{receiveAnswer, zerosOf, foundInFrames, rowsPassed, rowsAccepted, rowsByAnswer, rowsOutcome}
 use Rattle.recv_steps.specs.Receives.{refusal, acceptance, Receives, Numbered, begunRows}
-use Rattle.recv_steps.proofs.Beginning.{begun-work, few-rows}
-use Rattle.recv_steps.proofs.Receiving.{nexts-back, accepted-is, refused-7, refused-8, refuses-worked}
-
--- The channels that the definition leaves are those of the nexts.
-channels-are : (next : ℕ → ℕ) (k : ℕ) (l m : List ℕ) → length l ≡ length m → ((i : ℕ) → next (k + i) ≡ nextAt m i)
-    → channelsAfter next k (map channelOf l) ≡ map channelOf m
-unfolding channelsAfter nextAt
-channels-are next k [] [] e h = refl
-channels-are next k [] (y ∷ m) e h = absurd (omega arith)
-channels-are next k (x ∷ l) [] e h = absurd (omega arith)
-channels-are next k (x ∷ l) (y ∷ m) e h =
-    let a : next k ≡ y = ap next (sym (add-zero k)) ∙ h 0 in
-    let b = channels-are next (1 + k) l m (omega arith) (λ i. let s : 1 + k + i ≡ k + suc i = omega arith in ap next s ∙ h (suc i)) in
-    λ i. record { next = a i } ∷ b i
+use Rattle.recv_steps.proofs.Beginning.{fits-nexts, begun-work, few-rows}
+use Rattle.recv_steps.proofs.Receiving.{accepted-is, refused-7, refused-8, refuses-worked}
 
 -- The rows afterwards are those of the records that the definition leaves.
 settled-rows : (rs : List Row) → settledRows rs ≡ map storedRow (map cellOf (changeRows (uses 4) (λ _. blankRow) rs))
@@ -59,13 +49,13 @@ unfolding settledRows settled stored changeRows
 settled-rows [] = refl
 settled-rows (r ∷ rs) = ap (λ (l : List Row). settled r ∷ l) (settled-rows rs)
 
-module _ (h : Heads) (db rb ns un ws st d : List ℕ) {ascends : Bool} (n : Numbered (queueOf h db rb ns un) ws st d ascends) where
+module _ (h : Heads) (db rb ns un ws st d : List ℕ) {ascends : Bool} (n : Numbered (queueOf h db rb ns un) ns ws st d ascends) where
   -- A number beyond reach.
   pub beyond-reach : (turn : ℕ) (rs rs₁ : List Row) (r : Framed) (rb₁ ns₁ : List ℕ) → Ran (h .reliables) rb ns rs turn d r rb₁ ns₁ rs₁ → r
       ≡ Beyond
       → (x : PassedRows) (ws₁ rb₂ ns₂ ws₂ : List ℕ) → length rb₁ ≡ length rb → length ns₁ ≡ length ns → length ws₁ ≡ length ws
       → (x ≡ refusal h Receive.ReliableBeyond) × ((rb₂ ≡ zerosOf rb₁) × ((ns₂ ≡ zerosOf ns₁) × (ws₂ ≡ zerosOf ws₁)))
-      → Receives (queueOf h db rb ns un) ws st d x rb₂ ns₂ ws₂ st
+      → Receives (queueOf h db rb ns un) ns ws st d x rb₂ ns₂ ws₂ st
   beyond-reach turn rs rs₁ r rb₁ ns₁ f e x ws₁ rb₂ ns₂ ws₂ lr ln lw =
       refuses-worked h db rb ns un ws st d Receive.ReliableBeyond 7 (unfold receiveAnswer in refl) (unfold foundInFrames in refl)
       (refused-7 (queueOf h db rb ns un) ws st d n (unfold queueOf Ran in rw e at f)) x rb₁ ns₁ ws₁ rb₂ ns₂ ws₂ lr ln lw
@@ -98,7 +88,7 @@ module _ (h : Heads) (db rb ns un ws st d : List ℕ) {ascends : Bool} (n : Numb
     pub ran-out : y .full ≡ 1 → (x : PassedRows) (rb₂ ns₂ ws₂ : List ℕ) → length rb₁ ≡ length rb → length ns₁ ≡ length ns → length ws₁
         ≡ length ws
         → (x ≡ refusal h Receive.NoRoom) × ((rb₂ ≡ zerosOf rb₁) × ((ns₂ ≡ zerosOf ns₁) × (ws₂ ≡ zerosOf ws₁)))
-        → Receives (queueOf h db rb ns un) ws st d x rb₂ ns₂ ws₂ st
+        → Receives (queueOf h db rb ns un) ns ws st d x rb₂ ns₂ ws₂ st
     unfolding work
     ran-out t x rb₂ ns₂ ws₂ lr ln lw =
         refuses-worked h db rb ns un ws st d Receive.NoRoom 8 (unfold receiveAnswer in refl) (unfold foundInFrames in refl)
@@ -118,13 +108,16 @@ module _ (h : Heads) (db rb ns un ws st d : List ℕ) {ascends : Bool} (n : Numb
       store-is-flushed = s .1 ∙ sym (accepted-store (rowsOf ws₁) st d after (unfold workOf in refl) (ran .fits)
           (rw (rows-length ws₁, long) store-long))
 
-      nexts-are : ns₁ ≡ nextsOf (channelsAfter (after .state .next) 0 (map channelOf ns))
-      nexts-are = sym (nexts-back ns₁) ∙ ap nextsOf (sym (channels-are (after .state .next) 0 ns ns₁ (sym many) (λ i. unfold workOf in
-          ap (nextAt ns₁) (zero-add i))))
+      -- the channels that the definition leaves are those of the nexts and memories
+      nexts-are : ns₁ ≡ nextsIn (channelsAfter (after .state .next) (after .state .newest) 0 (channelsOf ns))
+          (after .state .newest maxOrdChans)
+      nexts-are = sym (numbers-back ns₁ (many ∙ fits-nexts h db rb ns un (n .head .judged .arrays))) ∙ (unfold workOf in
+          ap (λ (cs : List Channel). nextsIn cs (newestAt ns₁ maxOrdChans))
+          (sym (channels-anew ns₁ (channelsOf ns) (channels-of-length ns))))
 
       left-is : rowsPassed (acceptance low ascends y left) rb₁ ns₁ (rowsOf ws₂) [] st₂ ≡ rowsAccepted (queueOf h db rb ns un) []
           (acceptedResult (queueOf h db rb ns un) st d (windowOf low rb₁) after)
-      left-is = unfold rowsPassed rowsAccepted receiveAnswer acceptedResult queueAfter queueOf workOf in
+      left-is = unfold rowsPassed rowsAccepted receiveAnswer acceptedResult queueAfter queueOf nextsOf workOf in
           λ i. record {
             answer = gives (record { ready = y .ready; dropped = y .dropped; left = ran .end i });
             low = low;
@@ -136,8 +129,8 @@ module _ (h : Heads) (db rb ns un ws st d : List ℕ) {ascends : Bool} (n : Numb
             store = store-is-flushed i;
           }
 
-      pub is-accepted : (y .full ≡ 1 → ⊥) → (x : PassedRows) → x ≡ acceptance low ascends y left → Receives (queueOf h db rb ns un) ws st d
-          x rb₁ ns₁ ws₂ st₂
+      pub is-accepted : (y .full ≡ 1 → ⊥) → (x : PassedRows) → x ≡ acceptance low ascends y left
+          → Receives (queueOf h db rb ns un) ns ws st d x rb₁ ns₁ ws₂ st₂
       is-accepted ne x ex = record { is = rw (ex, defined) (left-is ∙ (unfold rowsOutcome rowsByAnswer acceptedResult in refl)) }
         where
           defined : receiveOf (queueOf h db rb ns un) (cellsIn ws) st d ≡ acceptedResult (queueOf h db rb ns un) st d (windowOf low rb₁)

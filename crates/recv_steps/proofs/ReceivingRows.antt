@@ -90,7 +90,7 @@ module _ (cells bytes m : ℕ) (a l : Bool) (el : l ≡ lengths cells bytes) (t 
 
 -- ---- refused
 
-module _ (q : RecvQueue) (k cells : ℕ) (ws st d : List ℕ) (m : ℕ) (em : m ≡ rowsIn k (length ws)) where
+module _ (q : RecvQueue) (ns : List ℕ) (k cells : ℕ) (ws st d : List ℕ) (m : ℕ) (em : m ≡ rowsIn k (length ws)) where
   abbrev first : List Cell
   first = firstCells k ws
 
@@ -118,19 +118,19 @@ module _ (q : RecvQueue) (k cells : ℕ) (ws st d : List ℕ) (m : ℕ) (em : m 
       (λ u. no-row (let g = leb-false 1 m u in omega arith) (sym el ∙ t)))
       (λ t. sym (unfold receiveFirst in true-no _ _ _ _ (sym el ∙ t) refl))
 
-  pub nine : {a l : Bool} → a ≡ arraysFit q → l ≡ lengths cells (length st) → a && (l && (leb 1 m && leb m cells)) ≡ false
-      → ifTrue (arraysFit q) (receiveFirst q cells first st d) (refusedResult q first st 9) ≡ refusedResult q first st 9
+  pub nine : {a l : Bool} → a ≡ arraysFit q ns → l ≡ lengths cells (length st) → a && (l && (leb 1 m && leb m cells)) ≡ false
+      → ifTrue (arraysFit q ns) (receiveFirst q cells first st d) (refusedResult q first st 9) ≡ refusedResult q first st 9
   nine {a} {l} ea el f = cases a
       (λ t. sym (true-yes _ _ _ _ (sym ea ∙ t) (sym (refused-first el (rw t at f)))))
       (λ t. sym (true-no _ _ _ _ (sym ea ∙ t) refl))
 
 pub rows-refused : (h : Heads) (db rb ns un : List ℕ) (k cells : ℕ) (ws st d : List ℕ) (m : ℕ) → m ≡ rowsIn k (length ws) → {a l : Bool}
-    → ((h : Heads) → a ≡ arraysFit (queueOf h db rb ns un)) → l ≡ lengths cells (length st)
+    → ((h : Heads) → a ≡ arraysFit (queueOf h db rb ns un) ns) → l ≡ lengths cells (length st)
     → a && (l && (leb 1 m && leb m cells)) ≡ false → {r : PassedRows} → r ≡ refusal h NotSound → rowsPassed r rb ns (firstRows k ws)
-    (afterRows k ws) st ≡ receiveRowsOf (queueOf h db rb ns un) k cells ws st d
+    (afterRows k ws) st ≡ receiveRowsOf (queueOf h db rb ns un) ns k cells ws st d
 unfolding receiveRowsOf
 rows-refused h db rb ns un k cells ws st d m em ea el f x =
-    rw (x, nine (queueOf h db rb ns un) k cells ws st d m em (ea h) el f)
+    rw (x, nine (queueOf h db rb ns un) ns k cells ws st d m em (ea h) el f)
     (all-kept h db rb ns un ws st d NotSound 9 (unfold receiveAnswer in refl) (unfold foundInFrames in refl) (firstRows k ws)
     (afterRows k ws) (firstCells k ws))
 
@@ -154,14 +154,14 @@ passed-more : (r : PassedRows) (rb ns : List ℕ) (rs : List Row) (after st byte
 unfolding extend rowsPassed
 passed-more r rb ns rs after st bytes = refl
 
-extended : (a : Answer Report) (q : RecvQueue) (rs : List Row) (after bytes : List ℕ) (x : Received)
-    → extend after bytes (rowsByAnswer a q rs [] x) ≡ rowsByAnswer a q rs after (withRest bytes x)
+extended : (a : Answer Report) (q : RecvQueue) (ns : List ℕ) (rs : List Row) (after bytes : List ℕ) (x : Received)
+    → extend after bytes (rowsByAnswer a q ns rs [] x) ≡ rowsByAnswer a q ns rs after (withRest bytes x)
 unfolding extend rowsByAnswer rowsRefused rowsAccepted withRest
-extended (refused number) q rs after bytes x = refl
-extended (gives report) q rs after bytes x = refl
+extended (refused number) q ns rs after bytes x = refl
+extended (gives report) q ns rs after bytes x = refl
 
-module _ (q : RecvQueue) (k cells : ℕ) (ws st d : List ℕ) (m : ℕ) (em : m ≡ rowsIn k (length ws)) (a l : Bool) (ea : a ≡ arraysFit q)
-    (el : l ≡ lengths cells (length st)) (t : a && (l && (leb 1 m && leb m cells)) ≡ true)
+module _ (q : RecvQueue) (ns : List ℕ) (k cells : ℕ) (ws st d : List ℕ) (m : ℕ) (em : m ≡ rowsIn k (length ws)) (a l : Bool)
+    (ea : a ≡ arraysFit q ns) (el : l ≡ lengths cells (length st)) (t : a && (l && (leb 1 m && leb m cells)) ≡ true)
     (us : List ℕ) (long : length us ≡ length (take (rowWords * m) ws)) where
   -- the words afterwards
   abbrev after : List ℕ
@@ -194,27 +194,29 @@ module _ (q : RecvQueue) (k cells : ℕ) (ws st d : List ℕ) (m : ℕ) (em : m 
   first-is : withRest (drop (cellBytes * length (firstCells k ws)) st)
       (receiveOf q (firstCells k ws) (take (cellBytes * length (firstCells k ws)) st) d)
       ≡ withRest (drop (cellBytes * m) st) part
-  first-is = rw (many q k cells ws st d m em, first-whole k ws, ← em)
+  first-is = rw (many q ns k cells ws st d m em, first-whole k ws, ← em)
 
   received-first : receiveFirst q cells (firstCells k ws) st d ≡ withRest (drop (cellBytes * m) st) part
   unfolding receiveFirst
   received-first = sym (true-yes _ _ _ _ (fit cells (length st) m a l el t)
-      (le-yes _ _ _ _ _ (let n = many q k cells ws st d m em in let w = within cells (length st) m a l el t in omega arith) (sym first-is)))
+      (le-yes _ _ _ _ _ (let n = many q ns k cells ws st d m em in let w = within cells (length st) m a l el t in omega arith)
+      (sym first-is)))
 
-  defined : ifTrue (arraysFit q) (receiveFirst q cells (firstCells k ws) st d) (refusedResult q (firstCells k ws) st 9)
+  defined : ifTrue (arraysFit q ns) (receiveFirst q cells (firstCells k ws) st d) (refusedResult q (firstCells k ws) st 9)
       ≡ withRest (drop (cellBytes * m) st) part
   defined = sym (true-yes _ _ _ _ (sym ea ∙ arrays-told cells (length st) m a l el t) (sym received-first))
 
-  with-rest : extend (drop (rowWords * m) ws) (drop (cellBytes * m) st) (rowsOutcome q (rowsOf (take (rowWords * m) ws)) [] part)
-      ≡ rowsOutcome q (rowsOf (take (rowWords * m) ws)) (drop (rowWords * m) ws) (withRest (drop (cellBytes * m) st) part)
+  with-rest : extend (drop (rowWords * m) ws) (drop (cellBytes * m) st) (rowsOutcome q ns (rowsOf (take (rowWords * m) ws)) [] part)
+      ≡ rowsOutcome q ns (rowsOf (take (rowWords * m) ws)) (drop (rowWords * m) ws) (withRest (drop (cellBytes * m) st) part)
   unfolding rowsOutcome
-  with-rest = extended (part .answer) q (rowsOf (take (rowWords * m) ws)) (drop (rowWords * m) ws) (drop (cellBytes * m) st) part
+  with-rest = extended (part .answer) q ns (rowsOf (take (rowWords * m) ws)) (drop (rowWords * m) ws) (drop (cellBytes * m) st) part
       ∙ (unfold withRest in refl)
 
-  pub rows-received : {r : PassedRows} {rb ns st′ : List ℕ} → Receives q (take (rowWords * m) ws) (take (cellBytes * m) st) d r rb ns us st′
-      → rowsPassed r rb ns (firstRows k after) (afterRows k after) (st′ ++ drop (cellBytes * m) st) ≡ receiveRowsOf q k cells ws st d
+  pub rows-received : {r : PassedRows} {rb ns′ st′ : List ℕ}
+      → Receives q ns (take (rowWords * m) ws) (take (cellBytes * m) st) d r rb ns′ us st′
+      → rowsPassed r rb ns′ (firstRows k after) (afterRows k after) (st′ ++ drop (cellBytes * m) st) ≡ receiveRowsOf q ns k cells ws st d
   unfolding receiveRowsOf
-  rows-received {r} {rb} {ns} {st′} v =
+  rows-received {r} {rb} {ns′} {st′} v =
       rw (rows-before, rows-after, rest-before, rest-after, defined)
-      (passed-more r rb ns (rowsOf us) (drop (rowWords * m) ws) st′ (drop (cellBytes * m) st)
+      (passed-more r rb ns′ (rowsOf us) (drop (rowWords * m) ws) st′ (drop (cellBytes * m) st)
       ∙ (ap (extend (drop (rowWords * m) ws) (drop (cellBytes * m) st)) (v .is) ∙ with-rest))

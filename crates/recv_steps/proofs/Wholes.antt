@@ -1,26 +1,30 @@
 -- Whole frames in step 4: each way of the code, with the facts as it finds them.
 -- Assumes nothing.
-use Prim.Native.Nat.{ℕ}
+use Prim.Native.Nat.{ℕ, _<_}
 use mathlib.Core.Path.{_≡_, sym, _∙_, ap}
 use mathlib.Core.Bool.{Bool, true, false}
 use mathlib.Core.List.{List}
+use Rattle.base.specs.Limits.{maxOrdChans}
 use Rattle.base.specs.Lists.{any}
 use Rattle.frame.specs.declared.Placed.{Placed}
 use Rattle.bare.specs.Frame.{Frame}
+use Rattle.bare.specs.Bare.{memoryOf}
 use Rattle.cells.specs.Cell.{isFree, putSlot, slotOf}
-use Rattle.cells.specs.Datagram.{Work, place, made, roomy, Fate, early, due, free, fateOf, follows, whole}
+use Rattle.cells.specs.Datagram.{Work, place, made, rememberIn, roomy, Fate, early, due, newer, free, fateOf, follows, readied, whole}
 use Rattle.rows.specs.declared.Row.{Row}
 use Rattle.row_slots.specs.Slots.{slotsIn}
 use Rattle.receiver.specs.Receive.{frameIn}
+use Rattle.recv_memory.specs.Remembered.{remembered}
 use Rattle.recv_steps.specs.declared.Tally.{Tally}
 use Rattle.recv_steps.specs.declared.Course.{Course}
-use Rattle.recv_steps.specs.declared.Course.the-variants.{Late, Early, Due, Free}
+use Rattle.recv_steps.specs.declared.Course.the-variants.{Late, Early, Due, Newer, Free}
 use Rattle.recv_steps.specs.Work.{workOf, fateIs}
-use Rattle.recv_steps.specs.CountChanges.{droppedOne, filledUp, madeOne}
-use Rattle.recv_steps.specs.Placing.{Stands}
+use Rattle.recv_steps.specs.CountChanges.{droppedOne, filledUp, madeOne, Rises}
+use Rattle.recv_steps.specs.Placing.{Stands, ReadablePlaced}
 use Rattle.recv_steps.specs.Moves.{Changes, Moves, byFate}
 use Rattle.recv_steps.proofs.Changing.{put-none}
-use Rattle.recv_steps.proofs.Moving.{moves-then, moves-drop, moves-place, moves-made, moves-roomy, moves-full, moves-by}
+use Rattle.recv_steps.proofs.Moving.{moves-then, moves-drop, moves-place, moves-made, moves-remember, moves-roomy, moves-full}
+use Rattle.recv_steps.proofs.Moving.{moves-by}
 
 -- ---- room
 
@@ -51,7 +55,7 @@ module _ (x : Tally) (rs rs′ : List Row) (p : Placed) (b : Bool) (h : (store d
   module _ (ch : (d : List ℕ) → Stands d p → Changes d (putSlot (slotOf (frameIn d p) 3 (x .turn))) rs rs′) where
     pub free-full : b ≡ false → (y : Tally) → y ≡ filledUp x → (ns d : List ℕ) → Stands d p → Moves d (whole free (frameIn d p)) x ns rs y
         ns rs′
-    unfolding whole
+    unfolding whole readied
     free-full t y e ns d s = put-full x rs rs′ p 3 (x .turn) b h ch t
         (λ w. made (putSlot (slotOf (frameIn d p) 3 (w .turn)) (w .state .slots)) w)
         y e ns d s
@@ -70,7 +74,7 @@ module _ (x : Tally) (rs rs′ : List Row) (p : Placed) (b : Bool) (h : (store d
 
     pub free-put : b ≡ true → (y : Tally) → y ≡ madeOne x → (ns d : List ℕ) → Stands d p → Moves d (whole free (frameIn d p)) x ns rs y ns
         rs′
-    unfolding whole
+    unfolding whole readied
     free-put t y e ns d s = rw e (moves-roomy d x ns rs (λ w. made (putSlot (slotOf (frameIn d p) 3 (w .turn)) (w .state .slots)) w) b h t
         (madeOne x) ns rs′ (ready-put ns d s))
 
@@ -88,7 +92,7 @@ module _ (x : Tally) (rs rs′ : List Row) (p : Placed) (b : Bool) (h : (store d
 
 module _ (x : Tally) (ns : List ℕ) (rs : List Row) (p : Placed) (r : Course) (h : (x : Tally) (a : ℕ → Bool) (store d : List ℕ) → fateIs r
     ≡ fateOf (frameIn d p) (workOf a x ns rs store d)) where
-  -- one of the four, and what is done then
+  -- one of the five, and what is done then
   pub found-by : (g : Fate → Frame → Work → Work) (k : Course) → r ≡ k → (y : Tally) (ns′ : List ℕ) (rs′ : List Row) (d : List ℕ)
       → Moves d (g (fateIs k) (frameIn d p)) x ns rs y ns′ rs′ → Moves d (byFate g (frameIn d p)) x ns rs y ns′ rs′
   found-by g k e y ns′ rs′ d m = moves-by d x ns rs g (frameIn d p) (fateIs k) (λ a store. ap fateIs (sym e) ∙ h x a store d) y ns′ rs′ m
@@ -108,6 +112,15 @@ module _ (x : Tally) (ns : List ℕ) (rs : List Row) (p : Placed) (r : Course) (
         → (d : List ℕ) → Stands d p → Moves d (byFate whole (frameIn d p)) x ns rs y ns′ rs′
     unfolding fateIs
     whole-due e ns′ m d s = found-by whole Due e y ns′ rs′ d (m d s)
+
+    pub whole-newer : r ≡ Newer → {n : ℕ} → Rises n ns → ReadablePlaced p → p .frame .channel < maxOrdChans
+        → (ns′ : List ℕ) → ns′ ≡ remembered (memoryOf (p .frame .kind) (p .frame .channel)) (p .frame .sequence) ns
+        → ((ns d : List ℕ) → Stands d p → Moves d (whole free (frameIn d p)) x ns rs y ns rs′) → (d : List ℕ)
+        → Stands d p → Moves d (byFate whole (frameIn d p)) x ns rs y ns′ rs′
+    unfolding fateIs whole
+    whole-newer e rises fit lt ns′ en f d s = found-by whole Newer e y ns′ rs′ d
+        (moves-then d (rememberIn (frameIn d p)) (readied (frameIn d p)) x x y ns ns′ ns′ rs rs rs′
+        (rw en (moves-remember d x ns rs p (rises .long) lt (fit .sequence))) (f ns′ d s))
 
     pub whole-free : r ≡ Free → ((ns d : List ℕ) → Stands d p → Moves d (whole free (frameIn d p)) x ns rs y ns rs′) → (d : List ℕ)
         → Stands d p → Moves d (byFate whole (frameIn d p)) x ns rs y ns rs′

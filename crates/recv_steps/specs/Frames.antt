@@ -5,7 +5,7 @@ use mathlib.Core.Bool.{Bool, true, false, cond}
 use mathlib.Core.Option.{none, some}
 use mathlib.Core.List.{List}
 use lib.ListN.{length}
-use Rattle.base.specs.Limits.{maxOrdChans, maxCells, maxDatagram}
+use Rattle.base.specs.Limits.{manyNexts, maxCells, maxDatagram}
 use Rattle.window.specs.declared.ReliableWindow.{ReliableWindow}
 use Rattle.window.specs.declared.Insert.{Insert}
 use Rattle.window.specs.declared.Insert.the-variants as Insert
@@ -40,7 +40,7 @@ pub record Begun (low : ℕ) (bits ns : List ℕ) (rs : List Row) (turn : ℕ) (
   pub short : length d ≤ maxDatagram
   pub few : length rs ≤ maxCells
   pub places : Sized (windowOf low bits)
-  pub nexts : length ns ≡ maxOrdChans
+  pub nexts : length ns ≡ manyNexts
   pub sound : (store : List ℕ) → Sound (nextAt ns) (slotsIn rs store d) turn
   pub fits : AllFit d rs
   pub first : turn ≤ maxCells

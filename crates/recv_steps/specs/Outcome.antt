@@ -33,8 +33,8 @@ receiveAnswer ReliableBeyond = refused 7
 receiveAnswer NoRoom = refused 8
 receiveAnswer (Accepted ready dropped left) = gives (record { ready = ready; dropped = dropped; left = left })
 
--- the answer, low and bits of the window of reliable numbers, whether the unsent numbers ascend, the channels' nexts, the rows, the words
--- after them, and the store
+-- the answer, low and bits of the window of reliable numbers, whether the unsent numbers ascend, the nexts and memories, the rows, the
+-- words after them, and the store
 pub record RowsReceived : Type 0 where
   pub answer : Answer Report
   pub low : ℕ
@@ -69,15 +69,15 @@ zerosOf l = replicate (length l) 0
 
 -- A refusal leaves bits, nexts and rows as they were. Where it is found while the frames are worked on, they are all zeros: the caller
 -- lends copies.
-unfoldable pub rowsRefused : RecvQueue → List Row → List ℕ → List ℕ → ℕ → RowsReceived
-rowsRefused q rs after st number =
+unfoldable pub rowsRefused : RecvQueue → List ℕ → List Row → List ℕ → List ℕ → ℕ → RowsReceived
+rowsRefused q ns rs after st number =
     let worked = foundInFrames number in
     record {
       answer = refused number;
       low = q .reliables .low;
       ascending = false;
       bits = cond worked (zerosOf (q .reliables .bits)) (q .reliables .bits);
-      nexts = cond worked (zerosOf (nextsOf (q .channels))) (nextsOf (q .channels));
+      nexts = cond worked (zerosOf ns) ns;
       rows = cond worked (replicate (length rs) blankRow) rs;
       after = after;
       store = st;
@@ -91,23 +91,23 @@ rowsAccepted q after x =
       low = x .queue .reliables .low;
       ascending = ascending (unsentOf q);
       bits = x .queue .reliables .bits;
-      nexts = nextsOf (x .queue .channels);
+      nexts = nextsOf (x .queue);
       rows = map storedRow (x .records);
       after = after;
       store = x .store;
     }
 
-unfoldable pub rowsByAnswer : Answer Report → RecvQueue → List Row → List ℕ → Received → RowsReceived
-rowsByAnswer (refused number) q rs after x = rowsRefused q rs after (x .store) number
-rowsByAnswer (gives report) q rs after x = rowsAccepted q after x
+unfoldable pub rowsByAnswer : Answer Report → RecvQueue → List ℕ → List Row → List ℕ → Received → RowsReceived
+rowsByAnswer (refused number) q ns rs after x = rowsRefused q ns rs after (x .store) number
+rowsByAnswer (gives report) q ns rs after x = rowsAccepted q after x
 
--- what a receive that comes to x leaves of the rows rs and of the words after them
-unfoldable pub rowsOutcome : RecvQueue → List Row → List ℕ → Received → RowsReceived
-rowsOutcome q rs after x = rowsByAnswer (x .answer) q rs after x
+-- what a receive that comes to x leaves of the nexts and memories ns, of the rows rs and of the words after them
+unfoldable pub rowsOutcome : RecvQueue → List ℕ → List Row → List ℕ → Received → RowsReceived
+rowsOutcome q ns rs after x = rowsByAnswer (x .answer) q ns rs after x
 
 -- Receive on the first k rows of the words, which stand for the first of so many records; 9, too, where an array is not as long as a
--- receiver's.
-unfoldable pub receiveRowsOf : RecvQueue → ℕ → ℕ → List ℕ → List ℕ → List ℕ → RowsReceived
-receiveRowsOf q k cells ws st d =
-    rowsOutcome q (firstRows k ws) (afterRows k ws)
-    (ifTrue (arraysFit q) (receiveFirst q cells (firstCells k ws) st d) (refusedResult q (firstCells k ws) st 9))
+-- receiver's. ns: the nexts and memories that q was made of.
+unfoldable pub receiveRowsOf : RecvQueue → List ℕ → ℕ → ℕ → List ℕ → List ℕ → List ℕ → RowsReceived
+receiveRowsOf q ns k cells ws st d =
+    rowsOutcome q ns (firstRows k ws) (afterRows k ws)
+    (ifTrue (arraysFit q ns) (receiveFirst q cells (firstCells k ws) st d) (refusedResult q (firstCells k ws) st 9))

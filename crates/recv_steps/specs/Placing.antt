@@ -35,6 +35,7 @@ Stands d p = p .start + p .len ≤ length d
 pub record ReadablePlaced (p : Placed) : Type 0 where
   pub within : p .start + p .len ≤ maxDatagram
   pub reliable : p .frame .reliable < numbers24
+  pub sequence : p .frame .sequence < numbers24
 
 -- the frame is within step 2's limits, which do not look at its body
 abbrev pub Limited : Placed → Type 0

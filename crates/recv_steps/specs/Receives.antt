@@ -33,26 +33,27 @@ refusal h a = record { answer = a; low = h .reliables; ascending = false }
 abbrev pub acceptance : ℕ → Bool → Tally → ℕ → PassedRows
 acceptance low ascends x left = record { answer = Accepted (x .ready) (x .dropped) left; low = low; ascending = ascends }
 
--- r, and the bits, the nexts, the rows of the words and the store afterwards, are what the definition says of all rows of the words
-pub record Receives (q : RecvQueue) (ws st d : List ℕ) (r : PassedRows) (bits ns ws′ st′ : List ℕ) : Type 0 where
-  pub is : rowsPassed r bits ns (rowsOf ws′) [] st′ ≡ rowsOutcome q (rowsOf ws) [] (receiveOf q (cellsIn ws) st d)
+-- r, and the bits, the nexts, the rows of the words and the store afterwards, are what the definition says of all rows of the words; q was
+-- made of the nexts and memories ns
+pub record Receives (q : RecvQueue) (ns ws st d : List ℕ) (r : PassedRows) (bits ns′ ws′ st′ : List ℕ) : Type 0 where
+  pub is : rowsPassed r bits ns′ (rowsOf ws′) [] st′ ≡ rowsOutcome q ns (rowsOf ws) [] (receiveOf q (cellsIn ws) st d)
 
 -- refusal 9 does not apply; ascends: so do the unsent numbers
-pub record Judged (q : RecvQueue) (ws st : List ℕ) (ascends : Bool) : Type 0 where
-  pub arrays : arraysFit q ≡ true
+pub record Judged (q : RecvQueue) (ns ws st : List ℕ) (ascends : Bool) : Type 0 where
+  pub arrays : arraysFit q ns ≡ true
   pub sound : soundCall q (cellsIn ws) st ≡ true
   pub rising : ascends ≡ ascending (unsentOf q)
 
 -- nor do 1, 2 and 3
-pub record Headed (q : RecvQueue) (ws st d : List ℕ) (ascends : Bool) : Type 0 where
-  pub judged : Judged q ws st ascends
+pub record Headed (q : RecvQueue) (ns ws st d : List ℕ) (ascends : Bool) : Type 0 where
+  pub judged : Judged q ns ws st ascends
   pub long : minDatagram ≤ length d
   pub short : length d ≤ maxDatagram
   pub first : isDatagram (getD d 0 0) ≡ true
 
 -- nor do 4, 5 and 6
-pub record Numbered (q : RecvQueue) (ws st d : List ℕ) (ascends : Bool) : Type 0 where
-  pub head : Headed q ws st d ascends
+pub record Numbered (q : RecvQueue) (ns ws st d : List ℕ) (ascends : Bool) : Type 0 where
+  pub head : Headed q ns ws st d ascends
   pub fresh : accepted (q .datagrams) (datagramNumber d) ≡ false
   pub near : distance (q .datagrams .low) (datagramNumber d) ≤ windowPlaces
   pub room : q .pending < maxUnsent

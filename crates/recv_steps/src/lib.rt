@@ -7,13 +7,13 @@ ghost use mathlib.Core.Path.{_≡_};
 ghost use mathlib.Core.Bool.{Bool};
 ghost use Prim.Native.Nat.{_+_, _<_, _^_, ℕ};
 ghost use lib.ListN.{length};
-ghost use Rattle.base.specs.Limits.{maxOrdChans};
+ghost use Rattle.base.specs.Limits.{maxOrdChans, manyNexts};
 ghost use Rattle.recv_steps.specs.declared.Tally.{Tally};
 ghost use Rattle.recv_steps.specs.Work.{workOf, fateIs};
 ghost use Rattle.recv_steps.specs.CountChanges.{droppedOne, filledUp, madeOne, risen};
 ghost use mathlib.Core.List.{List};
 ghost use Rattle.base.specs.Lists.{any};
-ghost use Rattle.bare.specs.Frame.{inLimits, ordered};
+ghost use Rattle.bare.specs.Frame.{inLimits, ordered, sequenced};
 ghost use Rattle.cells.specs.Cell.{isFree, putSlot, slotOf};
 ghost use Rattle.cells.specs.Datagram.{fateOf};
 ghost use Rattle.rows.specs.Rows.{rowsOf};
@@ -70,11 +70,13 @@ enum Framed {
     },
 }
 
-// What step 4 does with a message: drop it, hold it, make it ready with the held ones that follow, or make it ready.
+// What step 4 does with a message: drop it, hold it, make it ready with the held ones that follow, make it ready and remember its sequence
+// number, or make it ready.
 enum Course {
     Late,
     Early,
     Due,
+    Newer,
     Free,
 }
 
@@ -109,20 +111,20 @@ fn make_one(s: Tally) -> Tally
 
 fn next_of(nexts: &[u32], channel: u32) -> u32
     requires { ⌜ channel < maxOrdChans ⌝ }
-    requires { ⌜ length (now nexts) ≡ maxOrdChans ⌝ }
+    requires { ⌜ length (now nexts) ≡ manyNexts ⌝ }
     ensures { λ r. ⌜ r ≡ nextAt (now (nexts .entry)) channel ⌝ }
 {
-    nexts[channel as usize]
+    nexts[2 * channel as usize]
 }
 
 fn rise(nexts: &mut [u32], channel: u32)
     requires { ⌜ channel < maxOrdChans ⌝ }
-    requires { ⌜ length (now nexts) ≡ maxOrdChans ⌝ }
+    requires { ⌜ length (now nexts) ≡ manyNexts ⌝ }
     requires { ⌜ nextAt (now nexts) channel + 1 < 2 ^ 32 ⌝ }
     ensures { λ _. ⌜ now (nexts .exit) ≡ risen channel (now (nexts .entry)) ⌝ }
 {
     let n = next_of(nexts, channel);
-    nexts[channel as usize] = n + 1;
+    nexts[2 * channel as usize] = n + 1;
 }
 
 // ---- a frame
@@ -140,6 +142,12 @@ fn is_ordered(kind: u8) -> bool
     ensures { λ r. ⌜ r ≡ ordered kind ⌝ }
 {
     (kind == 3) | (kind == 7)
+}
+
+fn is_sequenced(kind: u8) -> bool
+    ensures { λ r. ⌜ r ≡ sequenced kind ⌝ }
+{
+    (kind == 1) | (kind == 4)
 }
 
 fn index_of(placed: Placed) -> u32
@@ -199,7 +207,7 @@ fn put_frame(words: &mut [u32], placed: Placed, used: u32, turn: u32) -> bool
 // Step 4: what is to be done with the frame's message.
 fn fate_of(words: &[u32], nexts: &[u32], placed: Placed) -> Course
     requires { ⌜ placed .frame .channel < maxOrdChans ⌝ }
-    requires { ⌜ length (now nexts) ≡ maxOrdChans ⌝ }
+    requires { ⌜ length (now nexts) ≡ manyNexts ⌝ }
     ensures { λ r. ⌜ ((x : Tally) (a : ℕ → Bool) (store d : List ℕ) → fateIs r
         ≡ fateOf (frameIn d placed) (workOf a x (now (nexts .entry)) (rowsOf (now (words .entry))) store d)) ⌝ }
 {
@@ -217,6 +225,12 @@ fn fate_of(words: &[u32], nexts: &[u32], placed: Placed) -> Course
             return Course::Due;
         }
         return Course::Early;
+    }
+    if is_sequenced(f.kind) {
+        if recv_memory::is_older(nexts, f.kind, f.channel, f.sequence) {
+            return Course::Late;
+        }
+        return Course::Newer;
     }
     Course::Free
 }

@@ -56,7 +56,7 @@ fn hold(words: &mut [u32], s: Tally, placed: Placed) -> Tally
     super::fill_up(s)
 }
 
-// A whole frame of a message without order is made ready.
+// A whole frame is made ready that no other follows.
 fn ready(words: &mut [u32], s: Tally, placed: Placed) -> Tally
     requires { ⌜ ReadablePlaced placed ⌝ }
     requires { ⌜ CanCount 1 s ⌝ }
@@ -100,6 +100,11 @@ fn whole(words: &mut [u32], nexts: &mut [u32], s: Tally, placed: Placed) -> Tall
         Course::Late => super::drop_one(s),
         Course::Early => hold(words, s, placed),
         Course::Due => ready_due(words, nexts, s, placed),
+        Course::Newer => {
+            let f = placed.frame;
+            recv_memory::remember(nexts, f.kind, f.channel, f.sequence);
+            ready(words, s, placed)
+        }
         Course::Free => ready(words, s, placed),
     }
 }
@@ -116,6 +121,7 @@ fn turn_ready(words: &mut [u32], s: Tally, id: u32) -> Tally
 
 // A joined message's cells are there already.
 fn joins(words: &mut [u32], nexts: &mut [u32], s: Tally, placed: Placed) -> Tally
+    requires { ⌜ ReadablePlaced placed ⌝ }
     requires { ⌜ placed .frame .channel < maxOrdChans ⌝ }
     requires { ⌜ rowCount (now words) ≤ maxCells ⌝ }
     requires { ⌜ CanCount (maxCells + 2) s ⌝ }
@@ -137,12 +143,18 @@ fn joins(words: &mut [u32], nexts: &mut [u32], s: Tally, placed: Placed) -> Tall
             let t = turn_ready(words, s, id);
             follows(words, nexts, t, placed.frame.channel as u32)
         }
+        Course::Newer => {
+            let f = placed.frame;
+            recv_memory::remember(nexts, f.kind, f.channel, f.sequence);
+            turn_ready(words, s, id)
+        }
         Course::Free => { turn_ready(words, s, id) }
     }
 }
 
 // A piece was kept: where all indices are there, they are one message.
 fn kept(words: &mut [u32], nexts: &mut [u32], s: Tally, placed: Placed) -> Tally
+    requires { ⌜ ReadablePlaced placed ⌝ }
     requires { ⌜ placed .frame .channel < maxOrdChans ⌝ }
     requires { ⌜ rowCount (now words) ≤ maxCells ⌝ }
     requires { ⌜ CanCount (maxCells + 2) s ⌝ }

@@ -1,15 +1,20 @@
 -- What the code's tests of two rows say of their records.
 -- Assumes nothing.
-use Prim.Native.Nat.{ℕ}
+use Prim.Native.Nat.{ℕ, _≤_, _<_}
 use mathlib.Core.Path.{_≡_, refl, sym, _∙_}
 use mathlib.Core.Bool.{Bool, true, false, cond, not, _&&_, _||_}
 use mathlib.Core.List.{List}
-use lib.Dec.{ltb, eqb}
-use borrow.Author.Tests.{eq-eqb, ne-eqb}
+use lib.Dec.{ltb, leb, eqb}
+use lib.ListN.{length}
+use borrow.Author.Tests.{ltb-true, eq-eqb, ne-eqb}
+use Rattle.base.specs.Limits.{maxOrdChans}
 use Rattle.base.specs.Lists.{countOf}
 use Rattle.base.proofs.Choices.{and-left, and-right}
+use Rattle.base.proofs.Past.{past}
 use Rattle.cells.specs.Cell.{Cell, bears, at}
 use Rattle.cells.specs.Sound.{keyOf, limits, agree}
+use Rattle.receiver.specs.Parts.{nextPlace, nextAt}
+use Rattle.receiver.proofs.ByParts.{next-at}
 use Rattle.rows.specs.declared.Row.{Row}
 use Rattle.rows.specs.Rows.{cellOf}
 use Rattle.sound_cells.specs.declared.Tally.{Tally}
@@ -38,8 +43,17 @@ module _ (a d : Row) where
   unfolding unlike mate
   unlike-is e f = rw (e, f)
 
+-- A channel's next that lies past the end of the numbers.
+pub next-past : (ns : List ℕ) (c : ℕ) → c < maxOrdChans → length ns ≤ nextPlace c → 0 ≡ nextAt ns c
+next-past ns c lt le = past ns (nextPlace c) le ∙ sym (next-at ns c lt)
+
 -- What is asked of a cell alone, in the code's three ways.
 module _ (next : ℕ → ℕ) (r : Row) {b : Bool} (e : b ≡ limits (cellOf r)) where
+  pub channel-within : b ≡ true → r .channel < maxOrdChans
+  unfolding limits cellOf
+  channel-within y = ltb-true (r .channel) maxOrdChans (and-left (ltb (r .channel) maxOrdChans) _ (and-right (leb (r .kind) 7) _
+      (and-right (leb (r .used) 3) _ (sym e ∙ y))))
+
   pub held-ahead : {n : ℕ} → b ≡ true → r .used ≡ 2 → n ≡ next (r .channel) → ltb n (r .order)
       ≡ (limits (cellOf r) && aheadOfNext next (cellOf r))
   unfolding aheadOfNext cellOf

@@ -5,6 +5,7 @@ ghost use mathlib.Core.Path.{_≡_};
 ghost use Prim.Native.Nat.{_≤_, _<_};
 ghost use mathlib.Core.Bool.{cond, not, _&&_};
 ghost use lib.ListN.{getD};
+ghost use Rattle.base.specs.Limits.{maxOrdChans};
 ghost use Rattle.cells.specs.Sound.{limits, agree, soundCells};
 ghost use Rattle.rows.specs.Rows.{cellOf, cellsIn};
 ghost use Rattle.receiver.specs.Parts.{nextAt};
@@ -137,10 +138,12 @@ fn is_due(opened: bool, whole: bool) -> bool
 
 // The channel's next order number; 0 past the last.
 fn next_at(nexts: &[u32], c: usize) -> u32
+    requires { ⌜ c < maxOrdChans ⌝ }
     ensures { λ r. ⌜ r ≡ nextAt (now (nexts .entry)) c ⌝ }
 {
-    if c < nexts.len() {
-        return nexts[c];
+    let place = 2 * c;
+    if place < nexts.len() {
+        return nexts[place];
     }
     0
 }

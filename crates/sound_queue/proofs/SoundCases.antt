@@ -1,7 +1,8 @@
 -- The cases and turns of the tests on the receiver's own values, with the facts as the code finds them.
 -- Assumes nothing.
 use mathlib.Core.Path.{_≡_, _∙_, sym, ap, refl}
-use mathlib.Core.Bool.{Bool, true, false, not, _&&_, _||_, and-true, and-false}
+use mathlib.Core.Bool.{Bool, true, false, not, _&&_, _||_, and-true, and-false, and-assoc}
+use mathlib.Core.Logic.{inl, inr}
 use mathlib.Core.List.{List, [], _∷_}
 use Prim.Native.Nat.{ℕ, zero, suc, _+_, _-_, _<_, _≤_}
 use native.Mathlib.Nat.{not-suc-le-zero, le-refl, add-zero, add-suc}
@@ -11,21 +12,22 @@ use lib.Dec.{ltb, leb, eqb}
 use lib.ListN.{length, getD, take, drop, drop-of-length-le}
 use lib.Seq.{take-all, drop-length}
 use borrow.Author.Tests.{ltb-true, lt-ltb, le-ltb, le-leb, lt-leb, eq-eqb, ne-eqb}
-use Rattle.base.specs.Limits.{numbers24, maxOrdChans, windowPlaces, maxUnsent}
+use Rattle.base.specs.Limits.{numbers24, maxOrdChans, memories, manyNexts, windowPlaces, maxUnsent}
 use Rattle.base.specs.Lists.{any, every, below}
-use Rattle.base.proofs.Choices.{and-left, and-both}
+use Rattle.base.proofs.Choices.{cases, and-left, and-right, and-both, neither}
+use Rattle.base.proofs.Lists.{below-at, below-all}
 use Rattle.base.proofs.Past.{past}
 use Rattle.ack.specs.Write.{ascending}
 use Rattle.window.specs.declared.ReliableWindow.{ReliableWindow}
 use Rattle.window.specs.Places.{placeSet}
 use Rattle.window.specs.Window.{windowOf, accepted}
 use Rattle.window.proofs.Accepted.{accepted-place, accepted-below}
-use Rattle.cells.specs.Sound.{soundNexts}
+use Rattle.cells.specs.Sound.{soundNexts, soundMemories}
 use Rattle.receiver.specs.declared.Heads.{Heads}
 use Rattle.receiver.specs.declared.RecvQueue.{RecvQueue}
-use Rattle.receiver.specs.Parts.{nextAt, queueOf}
-use Rattle.receiver.specs.Queue.{unsentOf, placesWithin, soundWindow, differ, soundUnsent, soundQueue}
-use Rattle.receiver.proofs.ByParts.{next-of-parts}
+use Rattle.receiver.specs.Parts.{nextPlace, memoryPlace, nextAt, newestAt, queueOf}
+use Rattle.receiver.specs.Queue.{nextOf, newestOf, unsentOf, placesWithin, soundWindow, differ, soundUnsent, soundQueue}
+use Rattle.receiver.proofs.ByParts.{place-within, SomePlace, place-some, next-at, newest-at, next-of-parts, newest-of-parts}
 use Rattle.receiver.proofs.Parts.{from-here, part-from}
 use Rattle.sound_queue.specs.declared.QueueSound.{QueueSound}
 use Rattle.sound_queue.specs.Sound.{told, queueSoundOf, nextsWithin, soundNumber, soundNumbers, numbersSoundOf}
@@ -89,27 +91,49 @@ module _ (nexts : List ℕ) where
   nexts-none = refl
 
   pub nexts-further : (i : ℕ) (a : Bool) → a ≡ nextsWithin nexts i → (a && leb (getD nexts i 0) numbers24) ≡ nextsWithin nexts (i + 1)
-  unfolding nextsWithin below nextAt
+  unfolding nextsWithin below
   nexts-further i a e = rw (add-one i) (ap (λ (x : Bool). x && leb (getD nexts i 0) numbers24) e)
 
   pub nexts-end : (i n : ℕ) (a : Bool) → i ≤ n → n ≤ i → a ≡ nextsWithin nexts i → a ≡ nextsWithin nexts n
   nexts-end i n a h k e = let z : i ≡ n = omega arith in (rw z at e)
 
-  -- a next past the end is 0
+  -- a number past the end is 0
   past-within : (k : ℕ) → nextsWithin nexts (length nexts + k) ≡ nextsWithin nexts (length nexts)
-  unfolding nextsWithin below nextAt
+  unfolding nextsWithin below
   past-within zero = rw add-zero
   past-within (suc k) =
       rw (add-suc, ← past nexts (length nexts + k) (omega arith)) (and-true (nextsWithin nexts (length nexts + k)) ∙ past-within k)
 
-  pub nexts-all : (a : Bool) → a ≡ nextsWithin nexts maxOrdChans → a ≡ soundNexts (nextAt nexts)
+  -- they are the channels' nexts and the memories
+  both : nextsWithin nexts manyNexts ≡ true → (soundNexts (nextAt nexts) && soundMemories (newestAt nexts)) ≡ true
   unfolding nextsWithin
-  nexts-all a e = e
+  both t = and-both (soundNexts (nextAt nexts)) _
+      (below-all maxOrdChans _ (λ c l. rw (next-at nexts c l) (below-at manyNexts _ t (nextPlace c) (omega arith))))
+      (below-all memories _ (λ m l. rw (newest-at nexts m l) (below-at manyNexts _ t (memoryPlace m) (place-within m l))))
 
-  pub nexts-few : (a : Bool) → length nexts < maxOrdChans → a ≡ nextsWithin nexts (length nexts) → a ≡ soundNexts (nextAt nexts)
+  all : (soundNexts (nextAt nexts) && soundMemories (newestAt nexts)) ≡ true → nextsWithin nexts manyNexts ≡ true
+  unfolding nextsWithin
+  all t = below-all manyNexts _ (λ i l. at i (place-some i l))
+    where
+      at : (i : ℕ) → SomePlace i → leb (getD nexts i 0) numbers24 ≡ true
+      at i (inl p) = rw (p .2, ← next-at nexts (p .0) (p .1))
+          (below-at maxOrdChans _ (and-left (soundNexts (nextAt nexts)) _ t) (p .0) (p .1))
+      at i (inr p) = rw (p .2, ← newest-at nexts (p .0) (p .1))
+          (below-at memories _ (and-right (soundNexts (nextAt nexts)) _ t) (p .0) (p .1))
+
+  in-two : nextsWithin nexts manyNexts ≡ (soundNexts (nextAt nexts) && soundMemories (newestAt nexts))
+  in-two = cases (nextsWithin nexts manyNexts)
+      (λ t. t ∙ sym (both t))
+      (λ t. t ∙ cases (soundNexts (nextAt nexts) && soundMemories (newestAt nexts)) (λ u. neither _ (all u) t) (λ u. sym u))
+
+  pub nexts-all : (a : Bool) → a ≡ nextsWithin nexts manyNexts → a ≡ (soundNexts (nextAt nexts) && soundMemories (newestAt nexts))
+  nexts-all a e = e ∙ in-two
+
+  pub nexts-few : (a : Bool) → length nexts < manyNexts → a ≡ nextsWithin nexts (length nexts) → a ≡ (soundNexts (nextAt nexts)
+      && soundMemories (newestAt nexts))
   nexts-few a h e =
-      let z : length nexts + (maxOrdChans - length nexts) ≡ maxOrdChans = omega arith in
-      nexts-all a (e ∙ sym (past-within (maxOrdChans - length nexts)) ∙ ap (nextsWithin nexts) z)
+      let z : length nexts + (manyNexts - length nexts) ≡ manyNexts = omega arith in
+      nexts-all a (e ∙ sym (past-within (manyNexts - length nexts)) ∙ ap (nextsWithin nexts) z)
 
 -- ---- an unsent number
 module _ (w : ReliableWindow) (n : ℕ) where
@@ -241,15 +265,20 @@ module _ (h : Heads) (dbits rbits nexts unsent : List ℕ) where
       unfolding soundQueue queueOf
       reliables-not i = not-sound (rw (sym e ∙ f, sym g ∙ i)) r
 
-      module _ (i : b ≡ true) (c : Bool) (j : c ≡ soundNexts (nextAt nexts)) where
+      module _ (i : b ≡ true) (c : Bool) (j : c ≡ (soundNexts (nextAt nexts) && soundMemories (newestAt nexts))) where
+        by-nexts : (soundNexts (nextOf q) && (soundMemories (newestOf q) && soundUnsent q))
+            ≡ ((soundNexts (nextAt nexts) && soundMemories (newestAt nexts)) && soundUnsent q)
+        by-nexts = rw (next-of-parts h dbits rbits nexts unsent, newest-of-parts h dbits rbits nexts unsent)
+            (sym (and-assoc (soundNexts (nextAt nexts)) (soundMemories (newestAt nexts)) (soundUnsent q)))
+
         pub channels-not : c ≡ false → r ≡ told false false → r ≡ queueSoundOf q
         unfolding soundQueue queueOf
-        channels-not k = not-sound (rw (next-of-parts h dbits rbits nexts unsent, sym e ∙ f, sym g ∙ i, sym j ∙ k)) r
+        channels-not k = not-sound (rw (sym e ∙ f, sym g ∙ i) (by-nexts ∙ rw (sym j ∙ k))) r
 
         module _ (k : c ≡ true) where
           by-unsent : soundQueue q ≡ soundUnsent q
           unfolding soundQueue queueOf
-          by-unsent = rw (next-of-parts h dbits rbits nexts unsent, sym e ∙ f, sym g ∙ i, sym j ∙ k)
+          by-unsent = rw (sym e ∙ f, sym g ∙ i) (by-nexts ∙ rw (sym j ∙ k))
 
           pub pending-over : maxUnsent < h .pending → r ≡ told false false → r ≡ queueSoundOf q
           unfolding soundUnsent queueOf

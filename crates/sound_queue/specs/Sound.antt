@@ -3,13 +3,13 @@ use Prim.Native.Nat.{ℕ}
 use mathlib.Core.Bool.{Bool, _&&_}
 use mathlib.Core.List.{List}
 use lib.Dec.{ltb, leb}
+use lib.ListN.{getD}
 use Rattle.base.specs.Limits.{numbers24}
 use Rattle.base.specs.Lists.{every, below}
 use Rattle.window.specs.declared.ReliableWindow.{ReliableWindow}
 use Rattle.window.specs.Window.{accepted}
 use Rattle.ack.specs.Write.{ascending}
 use Rattle.receiver.specs.declared.RecvQueue.{RecvQueue}
-use Rattle.receiver.specs.Parts.{nextAt}
 use Rattle.receiver.specs.Queue.{differ, unsentOf, soundQueue}
 use Rattle.sound_queue.specs.declared.QueueSound.{QueueSound}
 
@@ -20,9 +20,9 @@ told sound rising = record { sound = sound; ascending = rising }
 unfoldable pub queueSoundOf : RecvQueue → QueueSound
 queueSoundOf q = told (soundQueue q) (soundQueue q && ascending (unsentOf q))
 
--- "each channel's next is at most 2^24", of the first k channels
+-- each channel's next and each memory is at most 2^24, of the first k of these numbers
 unfoldable pub nextsWithin : List ℕ → ℕ → Bool
-nextsWithin nexts k = below k (λ c. leb (nextAt nexts c) numbers24)
+nextsWithin nexts k = below k (λ i. leb (getD nexts i 0) numbers24)
 
 -- a number that may be unsent: "below low or accepted", and below 2^24
 unfoldable pub soundNumber : ReliableWindow → ℕ → Bool

@@ -1,7 +1,7 @@
 // The rules on the receiver's own values: document 01, 9, "Sound".
 use receiver::Heads;
 ghost use mathlib.Core.Path.{_≡_};
-ghost use mathlib.Core.Bool.{true, false, _||_, not};
+ghost use mathlib.Core.Bool.{true, false, _&&_, _||_, not};
 ghost use Prim.Native.Nat.{_+_, _<_, _≤_};
 ghost use lib.Dec.{ltb, eqb};
 ghost use lib.ListN.{length, take};
@@ -9,9 +9,9 @@ ghost use Rattle.base.specs.Limits.{numbers24, windowPlaces};
 ghost use Rattle.base.specs.Lists.{any, every};
 ghost use Rattle.window.specs.Places.{placeSet};
 ghost use Rattle.window.specs.Window.{windowOf};
-ghost use Rattle.cells.specs.Sound.{soundNexts};
+ghost use Rattle.cells.specs.Sound.{soundNexts, soundMemories};
 ghost use Rattle.ack.specs.Write.{ascending};
-ghost use Rattle.receiver.specs.Parts.{nextAt, queueOf};
+ghost use Rattle.receiver.specs.Parts.{nextAt, newestAt, queueOf};
 ghost use Rattle.receiver.specs.Queue.{placesWithin, soundWindow};
 ghost use Rattle.receiver.specs.Queue as Queue;
 ghost use Rattle.sound_queue.specs.Sound.{told, queueSoundOf, nextsWithin, soundNumber, soundNumbers, numbersSoundOf};
@@ -94,15 +94,14 @@ fn place_within(low: u32, bits: &[u8], n: u32) -> bool
     !window::accepted_in(low, bits, n)
 }
 
-// Each channel's next is at most 2^24; a next past the end is 0.
+// Each channel's next and each memory is at most 2^24; a number past the end is 0.
 fn sound_nexts(nexts: &[u32]) -> bool
-    ensures { λ r. ⌜ r ≡ soundNexts (nextAt (now (nexts .entry))) ⌝ }
+    ensures { λ r. ⌜ r ≡ (soundNexts (nextAt (now (nexts .entry))) && soundMemories (newestAt (now (nexts .entry)))) ⌝ }
 {
-    let channels = base::MAX_ORD_CHANS as usize;
-    if nexts.len() < channels {
+    if nexts.len() < base::NEXTS {
         return nexts_within(nexts, nexts.len());
     }
-    nexts_within(nexts, channels)
+    nexts_within(nexts, base::NEXTS)
 }
 
 // The tests of all are joined by `&`: without a branch the loop is done several numbers at a time.

@@ -38,6 +38,7 @@ withDatagramBits q bits = record {
   channels = q .channels;
   unsent = q .unsent;
   pending = q .pending;
+  newest = q .newest;
 }
 
 abbrev pub withReliableBits : RecvQueue → List ℕ → RecvQueue
@@ -47,6 +48,7 @@ withReliableBits q bits = record {
   channels = q .channels;
   unsent = q .unsent;
   pending = q .pending;
+  newest = q .newest;
 }
 
 abbrev pub withUnsent : RecvQueue → List ℕ → RecvQueue
@@ -56,6 +58,7 @@ withUnsent q numbers = record {
   channels = q .channels;
   unsent = numbers;
   pending = q .pending;
+  newest = q .newest;
 }
 
 module _ {M : Type 1} (𝓤 : URA M) (H : Heap 𝓤) (A : Atoms 𝓤) (W : Given 𝓤 H A) (b : ℕ) (s : Share) where
@@ -90,7 +93,7 @@ module _ {M : Type 1} (𝓤 : URA M) (H : Heap 𝓤) (A : Atoms 𝓤) (W : Given
       (put-at 𝓤 H A W s T.the-type T′.the-laws 1 260 refl refl (b, o) q (withReliableBits q bits) (T.struct .as-values q)
       (windowOf (q .reliables .low) bits) refl refl) (cut-bits (o + 260) (q .reliables) bits)
 
-  pub cut-unsent : (o : ℕ) (q : RecvQueue) (numbers : List ℕ) → Cut 𝓤 H A s T.the-row (Array u32 1024) 648 q (withUnsent q numbers)
+  pub cut-unsent : (o : ℕ) (q : RecvQueue) (numbers : List ℕ) → Cut 𝓤 H A s T.the-row (Array u32 1024) 776 q (withUnsent q numbers)
       (q .unsent) numbers (b, o)
-  cut-unsent o q numbers = cut-array 𝓤 H A s T.the-row u32 1024 648 q (withUnsent q numbers) (q .unsent) numbers (b, o)
-      (put-at 𝓤 H A W s T.the-type T′.the-laws 3 648 refl refl (b, o) q (withUnsent q numbers) (T.struct .as-values q) numbers refl refl)
+  cut-unsent o q numbers = cut-array 𝓤 H A s T.the-row u32 1024 776 q (withUnsent q numbers) (q .unsent) numbers (b, o)
+      (put-at 𝓤 H A W s T.the-type T′.the-laws 3 776 refl refl (b, o) q (withUnsent q numbers) (T.struct .as-values q) numbers refl refl)

@@ -108,7 +108,7 @@ module _ {M : Type 1} (𝓤 : URA M) (H : Heap 𝓤) (A : Atoms 𝓤) (W : Given
   bytesAt p l = sem 𝓤 H A (partAt (Array u8 256) fullShare l b p)
 
   abbrev numbersAt : List ℕ → SProp 𝓤
-  numbersAt l = sem 𝓤 H A (partAt (Array u32 1024) fullShare l b (o + 648))
+  numbersAt l = sem 𝓤 H A (partAt (Array u32 1024) fullShare l b (o + 776))
 
   abbrev queueAt : RecvQueue → SProp 𝓤
   queueAt z = sem 𝓤 H A (partAt T.the-row fullShare z b o)
@@ -198,16 +198,16 @@ module _ {M : Type 1} (𝓤 : URA M) (H : Heap 𝓤) (A : Atoms 𝓤) (W : Given
         assigns ! (addr ! (from ! (hop ! (look ! (5 + 1) refl) (fld ! refl (stop !))))) (from ! (stop !)) (init ! (5 + 16) refl (tt, tt)) $
         assigns ! (agg ! (and-then ! (var ! (5 + 16) refl) (and-then ! (big-lit ! (record { fits = lit< tt })) (no-more !))))
         (from ! (stop !)) (init ! (5 + 17) refl (tt, (tt, (record { fits = lit< tt }, tt)))) $
-        use1 W (‵ (partAt (Array u32 1024) fullShare (h .unsent) b (o + 648)) ⊛ raw (wand 𝓤 (numbersAt us) (queueAt h₃)))
+        use1 W (‵ (partAt (Array u32 1024) fullShare (h .unsent) b (o + 776)) ⊛ raw (wand 𝓤 (numbersAt us) (queueAt h₃)))
         (cut-unsent 𝓤 H A W b fullShare o h₂ us) $ split ! $
-        lending-part u32 tt 1024 b (o + 648) (lit< tt, lit< tt) ! tt (h .unsent) (λ ε δ₃. move ! (2 ∷ 0 ∷ []) $
+        lending-part u32 tt 1024 b (o + 776) (lit< tt, lit< tt) ! tt (h .unsent) (λ ε δ₃. move ! (2 ∷ 0 ∷ []) $
         -- 8: [[ε]; the lent numbers; the lender's part; the way back; [κ₁]; the open borrow; obs; auth]
-        calls-join-number 𝓤 H A W at-mem run (ε ∷ []) fullShare (record { ptr = (b, o + 648); name = δ₃; now = h .unsent }) (h .pending) n
-        asc (sliceVal (b, o + 648) 1024) ! fm known-join (pending-fits h was) n-small
+        calls-join-number 𝓤 H A W at-mem run (ε ∷ []) fullShare (record { ptr = (b, o + 776); name = δ₃; now = h .unsent }) (h .pending) n
+        asc (sliceVal (b, o + 776) 1024) ! fm known-join (pending-fits h was) n-small
         (and-then ! (var ! (7 + 17) refl) (and-then ! (var ! (7 + 7) refl)
         (and-then ! (var ! (7 + 4) refl) (and-then ! (var ! (7 + 5) refl) (no-more !))))) (λ v₃ e₃ _.
         land ! (from ! (stop !)) (init ! (8 + 15) refl (unit-typed e₃)) $
-        move ! (0 ∷ 2 ∷ 1 ∷ []) $ returned-part u32 tt 1024 b (o + 648) (lit< tt, lit< tt) ! tt ε δ₃ us $
+        move ! (0 ∷ 2 ∷ 1 ∷ []) $ returned-part u32 tt 1024 b (o + 776) (lit< tt, lit< tt) ! tt ε δ₃ us $
         use2 W (‵ (partAt T.the-row fullShare h₃ b o)) (apply∗ 𝓤 (numbersAt us) (queueAt h₃)) $
         -- 5: [the receiver; [κ₁]; the open borrow; obs; auth]: its own numbers
         calls-next-pending 𝓤 H A W at-mem run (h .pending) ! fm known-next (pending-fits h was)

@@ -92,7 +92,7 @@ module _ {M : Type 1} (𝓤 : URA M) (H : Heap 𝓤) (A : Atoms 𝓤) (W : Given
   lent p δ l = record { ptr = (b, p); name = δ; now = l }
 
   abbrev Says : PassedRows → List ℕ → List ℕ → List ℕ → List ℕ → Type 0
-  Says a z₁ z₂ z₃ z₄ = CoreSays (queueOf (headsOf h) (h .datagrams .bits) bits nexts (h .unsent)) k c ws st dg a z₁ z₂ z₃ z₄
+  Says a z₁ z₂ z₃ z₄ = CoreSays (queueOf (headsOf h) (h .datagrams .bits) bits nexts (h .unsent)) nexts k c ws st dg a z₁ z₂ z₃ z₄
 
   abbrev Bound : walkOf 𝓤 H A f.ended stayed (f.clauses 𝓤 H A mem run) .Ghost
   Bound = (
@@ -172,13 +172,13 @@ module _ {M : Type 1} (𝓤 : URA M) (H : Heap 𝓤) (A : Atoms 𝓤) (W : Given
         move ! (3 ∷ 0 ∷ 1 ∷ []) $
         sharing-field T.the-row h b o u8 tt 256 (o + 0 + 4) (lit< tt, lit< tt) (h .datagrams .bits) ! tt (cut-dbits 𝓤 H A W h b o)
         (halved 𝓤 H A W h b o) (λ s₁ α δ₁. move ! (5 ∷ 6 ∷ []) $
-        sharing-field T.the-row h b o u32 tt 1024 (o + 648) (lit< tt, lit< tt) (h .unsent) ! tt (cut-unsent 𝓤 H A W h b o)
+        sharing-field T.the-row h b o u32 tt 1024 (o + 776) (lit< tt, lit< tt) (h .unsent) ! tt (cut-unsent 𝓤 H A W h b o)
         (halved 𝓤 H A W h b o) (λ s₂ ε δ₂. move ! (5 ∷ []) $ drop ! $
         -- 21: [the unsent; lent for ε; [ε]; the way back; the open borrow; five of α; what the heads own; the ten others]
         move ! (7 ∷ 12 ∷ 14 ∷ 2 ∷ 16 ∷ 18 ∷ 20 ∷ 10 ∷ 5 ∷ 11 ∷ 13 ∷ 0 ∷ 15 ∷ 17 ∷ 19 ∷ []) $
         calls-rows 𝓤 H A W mem run (α ∷ []) κ₁ κ₂ (ε ∷ []) κ₃ κ₄ κ₅ fullShare q₁ q₂ fullShare q₃ q₄ q₅ (headsOf h)
-        (lent (o + 0 + 4) δ₁ (h .datagrams .bits)) r n (lent (o + 648) δ₂ (h .unsent)) w k c s g vh (sliceVal (b, o + 0 + 4) 256) vr vn
-        (sliceVal (b, o + 648) 1024) vw vs vg ! fm known-rows k-fits c-fits
+        (lent (o + 0 + 4) δ₁ (h .datagrams .bits)) r n (lent (o + 776) δ₂ (h .unsent)) w k c s g vh (sliceVal (b, o + 0 + 4) 256) vr vn
+        (sliceVal (b, o + 776) 1024) vw vs vg ! fm known-rows k-fits c-fits
         (and-then ! (var ! (7 + 9) refl) (and-then ! (var ! (7 + 14) refl)
         (and-then ! (var ! (7 + 16) refl) (and-then ! (var ! (7 + 18) refl)
         (and-then ! (var ! (7 + 20) refl) (and-then ! (var ! (7 + 22) refl)
@@ -187,7 +187,7 @@ module _ {M : Type 1} (𝓤 : URA M) (H : Heap 𝓤) (A : Atoms 𝓤) (W : Given
         -- 18: [[α]; [κ₁]; [κ₂]; [ε]; [κ₃]; [κ₄]; [κ₅]; the answer; the four last values; three of ε; three of α]
         move ! (7 ∷ []) $ peeks ! P.the-row (Is P.the-row) (shows 𝓤 H A P.the-row) a (v ∷ []) (λ is.
         land ! (from ! (stop !)) (init ! (18 + 0) refl (LL.lawful P.the-type P′.the-laws 𝓤 H A W .typed a _ is .0)) $
-        move ! (4 ∷ 12 ∷ 13 ∷ 14 ∷ []) $ unshared-field T.the-row h b o u32 tt 1024 (o + 648) (lit< tt, lit< tt) (h .unsent) ! tt s₂ ε $
+        move ! (4 ∷ 12 ∷ 13 ∷ 14 ∷ []) $ unshared-field T.the-row h b o u32 tt 1024 (o + 776) (lit< tt, lit< tt) (h .unsent) ! tt s₂ ε $
         move ! (2 ∷ 12 ∷ 13 ∷ 14 ∷ []) $ unshared-field T.the-row h b o u8 tt 256 (o + 0 + 4) (lit< tt, lit< tt) (h .datagrams .bits) ! tt
         s₁ α $ use2 W (‵ (flft κ₀ q₀)) (W .lfts .lft-join κ₀ q₀) $ move ! (1 ∷ []) $
         -- 11: [the answer; [κ₀]; …; [κ₅]; the four last values]

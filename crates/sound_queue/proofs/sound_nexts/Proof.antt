@@ -3,9 +3,6 @@ use borrow.Author.Needs.{needs}
 use Rattle.sound_queue.proofs.sound_nexts.Statement.{statement}
 use Rattle.sound_queue.proofs.sound_nexts.Tie as tie
 
-cast-channels : tie.Need-cast-channels
-cast-channels c = search needs
-
 nexts-within-requires : tie.Need-nexts-within-requires
 nexts-within-requires c κs = search needs
 
@@ -21,4 +18,4 @@ returns-2 c = search (needs, nexts-all)
 pub sound-nexts-spec : {M : Type 1} → statement M
 sound-nexts-spec =
     tie.close
-    (tie.spec cast-channels nexts-within-requires returns nexts-within-requires-2 returns-2)
+    (tie.spec nexts-within-requires returns nexts-within-requires-2 returns-2)

@@ -7,7 +7,7 @@ use Rattle.recv_steps.proofs.steps.put_piece.Tie as tie
 pub put-piece-spec : {M : Type 1} → statement M
 put-piece-spec = tie.close (tie.spec
     (λ c κs. search needs)
-    (λ c κs. search (needs, few-still))
+    (λ c κs. (search needs, (search needs, (search (needs, few-still), (search needs, search needs)))))
     (λ c. search needs)
     (λ c. search needs)
     (λ c. let put = c .before .before .before .before .before .before .before .before .before .before .put-frame .ensures in let pre =

@@ -35,7 +35,7 @@ pub fn receive_rows(
 ) -> PassedRows
     ensures { λ r. ⌜ rowsPassed r (now (rbits .exit)) (now (nexts .exit)) (firstRows k (now (words .exit))) (afterRows k
         (now (words .exit))) (now (store .exit)) ≡ receiveRowsOf
-        (queueOf h (now (dbits .entry)) (now (rbits .entry)) (now (nexts .entry)) (now (unsent .entry))) k cells
+        (queueOf h (now (dbits .entry)) (now (rbits .entry)) (now (nexts .entry)) (now (unsent .entry))) (now (nexts .entry)) k cells
         (now (words .entry)) (now (store .entry)) (now (datagram .entry)) ⌝ }
 {
     let m = row_slots::rows_in(k, words.len());
@@ -70,10 +70,9 @@ fn refuse(h: Heads, answer: Receive) -> PassedRows
 // The arrays are as long as a receiver's.
 fn arrays_fit(dbits: &[u8], rbits: &[u8], nexts: &[u32], unsent: &[u32]) -> bool
     ensures { λ r. ⌜ ((h : Heads) → r ≡ arraysFit (queueOf h (now (dbits .entry)) (now (rbits .entry)) (now (nexts .entry))
-        (now (unsent .entry)))) ⌝ }
+        (now (unsent .entry))) (now (nexts .entry))) ⌝ }
 {
-    let numbers = (nexts.len() == base::MAX_ORD_CHANS as usize)
-        & (unsent.len() == base::MAX_UNSENT as usize);
+    let numbers = (nexts.len() == base::NEXTS) & (unsent.len() == base::MAX_UNSENT as usize);
     (dbits.len() == WINDOW_BYTES) & ((rbits.len() == WINDOW_BYTES) & numbers)
 }
 
@@ -88,10 +87,10 @@ fn receive_first(
     store: &mut [u8],
     datagram: &[u8],
 ) -> PassedRows
-    requires { ⌜ arraysFit (queueOf h (now dbits) (now rbits) (now nexts) (now unsent)) ≡ true ⌝ }
+    requires { ⌜ arraysFit (queueOf h (now dbits) (now rbits) (now nexts) (now unsent)) (now nexts) ≡ true ⌝ }
     requires { ⌜ lengths (rowCount (now words)) (length (now store)) ≡ true ⌝ }
     ensures { λ r. ⌜ Receives (queueOf h (now (dbits .entry)) (now (rbits .entry)) (now (nexts .entry)) (now (unsent .entry)))
-        (now (words .entry)) (now (store .entry)) (now (datagram .entry))
+        (now (nexts .entry)) (now (words .entry)) (now (store .entry)) (now (datagram .entry))
         r (now (rbits .exit)) (now (nexts .exit)) (now (words .exit)) (now (store .exit)) ⌝ }
 {
     let q = sound_queue::sound_queue(h, dbits, rbits, nexts, unsent);
@@ -130,9 +129,9 @@ fn receive_sound(
     store: &mut [u8],
     datagram: &[u8],
 ) -> PassedRows
-    requires { ⌜ Judged (queueOf h (now dbits) (now rbits) (now nexts) (now unsent)) (now words) (now store) ascends ⌝ }
+    requires { ⌜ Judged (queueOf h (now dbits) (now rbits) (now nexts) (now unsent)) (now nexts) (now words) (now store) ascends ⌝ }
     ensures { λ r. ⌜ Receives (queueOf h (now (dbits .entry)) (now (rbits .entry)) (now (nexts .entry)) (now (unsent .entry)))
-        (now (words .entry)) (now (store .entry)) (now (datagram .entry))
+        (now (nexts .entry)) (now (words .entry)) (now (store .entry)) (now (datagram .entry))
         r (now (rbits .exit)) (now (nexts .exit)) (now (words .exit)) (now (store .exit)) ⌝ }
 {
     if datagram.len() < base::MIN_DATAGRAM {
@@ -169,9 +168,10 @@ fn receive_number(
     store: &mut [u8],
     datagram: &[u8],
 ) -> PassedRows
-    requires { ⌜ Headed (queueOf h (now dbits) (now rbits) (now nexts) (now unsent)) (now words) (now store) (now datagram) ascends ⌝ }
+    requires { ⌜ Headed (queueOf h (now dbits) (now rbits) (now nexts) (now unsent)) (now nexts) (now words) (now store)
+        (now datagram) ascends ⌝ }
     ensures { λ r. ⌜ Receives (queueOf h (now (dbits .entry)) (now (rbits .entry)) (now (nexts .entry)) (now (unsent .entry)))
-        (now (words .entry)) (now (store .entry)) (now (datagram .entry))
+        (now (nexts .entry)) (now (words .entry)) (now (store .entry)) (now (datagram .entry))
         r (now (rbits .exit)) (now (nexts .exit)) (now (words .exit)) (now (store .exit)) ⌝ }
 {
     let number = base::le24_at(datagram, 1);
@@ -209,9 +209,10 @@ fn receive_frames(
     store: &mut [u8],
     datagram: &[u8],
 ) -> PassedRows
-    requires { ⌜ Numbered (queueOf h (now dbits) (now rbits) (now nexts) (now unsent)) (now words) (now store) (now datagram) ascends ⌝ }
+    requires { ⌜ Numbered (queueOf h (now dbits) (now rbits) (now nexts) (now unsent)) (now nexts) (now words) (now store)
+        (now datagram) ascends ⌝ }
     ensures { λ r. ⌜ Receives (queueOf h (now (dbits .entry)) (now (rbits .entry)) (now (nexts .entry)) (now (unsent .entry)))
-        (now (words .entry)) (now (store .entry)) (now (datagram .entry))
+        (now (nexts .entry)) (now (words .entry)) (now (store .entry)) (now (datagram .entry))
         r (now (rbits .exit)) (now (nexts .exit)) (now (words .exit)) (now (store .exit)) ⌝ }
 {
     let turn = super::begin(words);

@@ -35,7 +35,7 @@ receive-rows-spec = tie.close (tie.spec
     (λ c. search needs)
     (λ c. search needs)
     (λ c. search needs)
-    (λ c. rows-received _ _ _ _ _ _ _ (c .before .before .before .before .before .before .before .before .before .before .before .before
+    (λ c. rows-received _ _ _ _ _ _ _ _ (c .before .before .before .before .before .before .before .before .before .before .before .before
     .before .before .before .before .before .before .rows-in .ensures) _ _ (c .before .before .before .before .before .before .before
     .before .before .before .before .before .before .before .before .arrays-fit .ensures _)
     (c .before .before .before .before .before .before .before .before .before .before .before .before .before .before .lengths-fit
