@@ -29,14 +29,14 @@ static void head(size_t room, uint32_t number) {
         show_bytes(out, POGHDUKA_HEAD_BYTES);
 }
 
-static void written(size_t room, size_t at, PoghdukaFrame frame, const char *body) {
-    PoghdukaFrameWritten w = poghduka_write_frame(out, room, at, frame, (const uint8_t *)body, strlen(body));
+static void written(uint32_t profile, size_t room, size_t at, PoghdukaFrame frame, const char *body) {
+    PoghdukaFrameWritten w = poghduka_write_frame(profile, out, room, at, frame, (const uint8_t *)body, strlen(body));
     if (done("write", w.number))
         printf("next %zu\n", w.next);
 }
 
-static void frame(size_t len, size_t at) {
-    PoghdukaFrameFound r = poghduka_read_frame(out, len, at);
+static void frame(uint32_t profile, size_t len, size_t at) {
+    PoghdukaFrameFound r = poghduka_read_frame(profile, out, len, at);
     PoghdukaFrame f = r.placed.frame;
     if (!done("frame", r.number))
         return;
@@ -45,28 +45,45 @@ static void frame(size_t len, size_t at) {
     show_bytes(out + r.placed.start, r.placed.len);
 }
 
-static void frames(size_t len) {
-    PoghdukaFramesRead r = poghduka_read_frames(out, len, POGHDUKA_HEAD_BYTES);
-    printf("frames %zu left %zu\n", r.count, r.left);
+static void frames(uint32_t profile, size_t len) {
+    PoghdukaFramesFound r = poghduka_read_frames(profile, out, len, POGHDUKA_HEAD_BYTES);
+    if (done("frames", r.number))
+        printf("%zu left %zu\n", r.count, r.left);
 }
 
 static void all_frames(void) {
     PoghdukaFrame piece = {.kind = 3, .reliable = 0x010203, .order = 0x040506, .channel = 7, .piece = true, .meta = {9, 0x0a0b, 8}};
     head(64, 0x123456);
-    written(64, 4, piece, "hello");
-    written(64, 29, (PoghdukaFrame){.kind = 1, .sequence = 0x070809, .order = 0x0a0b0c, .channel = 31}, "hi");
-    written(64, 41, (PoghdukaFrame){.kind = 4, .reliable = 1, .sequence = 2}, "");
+    written(POGHDUKA_CONSOLE, 64, 4, piece, "hello");
+    written(POGHDUKA_CONSOLE, 64, 29, (PoghdukaFrame){.kind = 1, .sequence = 0x070809, .order = 0x0a0b0c, .channel = 31}, "hi");
+    written(POGHDUKA_CONSOLE, 64, 41, (PoghdukaFrame){.kind = 4, .reliable = 1, .sequence = 2}, "");
     show_bytes(out, 50);
-    frames(50);
-    frames(49);
-    frame(50, 4);
-    frame(50, 29);
-    frame(50, 41);
-    frame(50, 50);
-    written(64, 4, (PoghdukaFrame){.kind = 8}, "");
-    written(49, 41, (PoghdukaFrame){.kind = 4}, "");
+    frames(POGHDUKA_CONSOLE, 50);
+    frames(POGHDUKA_CONSOLE, 49);
+    frame(POGHDUKA_CONSOLE, 50, 4);
+    frame(POGHDUKA_CONSOLE, 50, 29);
+    frame(POGHDUKA_CONSOLE, 50, 41);
+    frame(POGHDUKA_CONSOLE, 50, 50);
+    written(POGHDUKA_CONSOLE, 64, 4, (PoghdukaFrame){.kind = 8}, "");
+    written(POGHDUKA_CONSOLE, 49, 41, (PoghdukaFrame){.kind = 4}, "");
     head(64, 1 << 24);
     head(3, 0);
+}
+
+/* Kind 4 and a length of 12 bits, under both profiles. */
+static void both_profiles(void) {
+    PoghdukaFrame lever = {.kind = 4, .reliable = 1, .sequence = 2, .order = 0x0a0b0c, .channel = 31};
+    const uint32_t profiles[] = {POGHDUKA_CPP, POGHDUKA_CONSOLE};
+    memcpy(out, "\x84\0\0\0\0\0\x0c"
+                "AB", 9);
+    for (int i = 0; i < 2; i++)
+        written(profiles[i], 64, 9, lever, "on");
+    show_bytes(out, 24);
+    for (int i = 0; i < 2; i++) {
+        frames(profiles[i], 24);
+        frame(profiles[i], 24, 4);
+        frame(profiles[i], 24, 9);
+    }
 }
 
 /* ---- windows, ACKs and splits */
@@ -169,8 +186,8 @@ static struct {
 } lent;
 static uint8_t store[STORE], joined[STORE];
 
-static void made(size_t store_len) {
-    if (done("make", poghduka_make_new(&lent.queue, lent.records, CELLS, store, store_len)))
+static void made(size_t store_len, uint32_t profile) {
+    if (done("make", poghduka_make_new(&lent.queue, lent.records, CELLS, store, store_len, profile)))
         printf("ok\n");
 }
 
@@ -202,7 +219,7 @@ static void missing(size_t room) {
 
 static void state(void) {
     const PoghdukaRecvQueue *q = &lent.queue;
-    printf("lows %u %u next", q->datagrams.low, q->reliables.low);
+    printf("profile %u lows %u %u next", q->profile, q->datagrams.low, q->reliables.low);
     for (int i = 0; i < 32; i++)
         printf(" %u", q->channels[i].next);
     printf("\nnewest");
@@ -224,11 +241,11 @@ static void state(void) {
 }
 
 static size_t add(size_t at, PoghdukaFrame frame, const char *body) {
-    return poghduka_write_frame(out, sizeof out, at, frame, (const uint8_t *)body, strlen(body)).next;
+    return poghduka_write_frame(lent.queue.profile, out, sizeof out, at, frame, (const uint8_t *)body, strlen(body)).next;
 }
 
 static void numbers(uint32_t first, uint32_t step, uint32_t count) {
-    made(STORE);
+    made(STORE, POGHDUKA_CONSOLE);
     for (uint32_t i = 0; i < count; i++) {
         poghduka_write_head(out, sizeof out, first + i * step);
         if (poghduka_receive(&lent.queue, lent.records, CELLS, store, STORE, out, 4).number != POGHDUKA_DONE)
@@ -240,8 +257,8 @@ static void all_receiving(void) {
     PoghdukaFrame piece = {.kind = 3, .reliable = 0, .order = 0, .channel = 5, .piece = true, .meta = {2, 0x0a0b, 1}};
     PoghdukaFrame whole = {.kind = 1, .sequence = 9, .order = 8, .channel = 6};
     memset(&lent, 0xff, sizeof lent);
-    made(STORE - 1);
-    made(STORE);
+    made(STORE - 1, POGHDUKA_CONSOLE);
+    made(STORE, POGHDUKA_CONSOLE);
     state();
 
     poghduka_write_head(out, sizeof out, 0);
@@ -295,12 +312,61 @@ static void all_receiving(void) {
     unsent(POGHDUKA_UNSENT_BYTES);
 }
 
+/* A C++ receiver: kinds 1 and 4 of a channel go by one memory. */
+static void cpp_receiving(void) {
+    PoghdukaFrame one = {.kind = 1, .sequence = 9, .channel = 6}, four = {.kind = 4, .sequence = 9, .order = 5, .channel = 6};
+    made(STORE, POGHDUKA_CPP);
+    poghduka_write_head(out, sizeof out, 0);
+    size_t end = add(add(4, one, "one"), four, "late");
+    four.reliable = 1, four.sequence = 10, four.order = 4;
+    end = add(end, four, "four");
+    memcpy(out + end, "\0\0\x0c"
+                      "AB", 5);
+    received(out, end + 5);
+    state();
+    taken(STORE);
+    lent.queue.profile = 2;
+    received(out, end + 5);
+    taken(STORE);
+    unsent(sizeof out);
+    missing(sizeof out);
+    lent.queue.profile = POGHDUKA_CPP;
+    taken(STORE);
+    taken(STORE);
+    taken(STORE);
+    unsent(sizeof out);
+}
+
+/* A number that is no profile's is refused by 9, with 0 beside it and nothing written; a line is printed only where it is not. (In Rust no
+ * call takes such a number.) */
+static void no_profile(uint32_t profile) {
+    static uint8_t before[sizeof out], lent_before[sizeof lent];
+    memcpy(before, out, sizeof out);
+    memcpy(lent_before, &lent, sizeof lent);
+    PoghdukaFramesFound n = poghduka_read_frames(profile, out, 24, 4);
+    PoghdukaFrameFound r = poghduka_read_frame(profile, out, 24, 4);
+    PoghdukaFrameWritten w = poghduka_write_frame(profile, out, sizeof out, 4, (PoghdukaFrame){.kind = 0}, store, 0);
+    PoghdukaFrame f = r.placed.frame;
+    uint32_t made = poghduka_make_new(&lent.queue, lent.records, CELLS, store, STORE, profile);
+    bool refused = n.number == 9 && r.number == 9 && w.number == 9 && made == 9;
+    bool zeros = n.count == 0 && n.left == 0 && w.next == 0 && r.next == 0 && r.placed.start == 0 && r.placed.len == 0 && f.kind == 0 &&
+                 f.reliable == 0 && f.sequence == 0 && f.order == 0 && f.channel == 0 && !f.piece && f.meta.count == 0 &&
+                 f.meta.id == 0 && f.meta.index == 0;
+    if (!refused || !zeros || memcmp(before, out, sizeof out) != 0 || memcmp(lent_before, &lent, sizeof lent) != 0)
+        printf("profile %u is not refused as it should be\n", profile);
+}
+
 int main(void) {
     memset(out, 0xee, sizeof out);
     all_frames();
+    both_profiles();
     window();
     all_acks();
     all_pieces();
     all_receiving();
+    cpp_receiving();
+    no_profile(2);
+    no_profile(256);
+    no_profile(UINT32_MAX);
     return 0;
 }

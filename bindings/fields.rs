@@ -1,6 +1,7 @@
 //! Makes every call of the module `poghduka` and prints every field of every answer: what fields.c prints, and what fields.txt has.
 mod poghduka;
 
+use poghduka::Profile::*;
 use poghduka::*;
 
 const CELLS: usize = 3;
@@ -25,12 +26,12 @@ fn head(out: &mut [u8], number: u32) {
     line("head", answer, |()| hex(&out[..HEAD_BYTES]));
 }
 
-fn written(out: &mut [u8], at: usize, frame: Frame, body: &[u8]) {
-    line("write", write_frame(out, at, frame, body), |next| format!("next {next}"));
+fn written(profile: Profile, out: &mut [u8], at: usize, frame: Frame, body: &[u8]) {
+    line("write", write_frame(profile, out, at, frame, body), |next| format!("next {next}"));
 }
 
-fn frame(s: &[u8], at: usize) {
-    line("frame", read_frame(s, at), |FrameFound { frame: f, body, next }| {
+fn frame(profile: Profile, s: &[u8], at: usize) {
+    line("frame", read_frame(profile, s, at), |FrameFound { frame: f, body, next }| {
         let fields = format!("kind {} reliable {} sequence {} order {} channel {}", f.kind, f.reliable, f.sequence, f.order, f.channel);
         let piece = format!("piece {} count {} id {} index {}", f.piece as u8, f.meta.count, f.meta.id, f.meta.index);
         let start = body.as_ptr() as usize - s.as_ptr() as usize;
@@ -38,8 +39,8 @@ fn frame(s: &[u8], at: usize) {
     });
 }
 
-fn frames(s: &[u8]) {
-    let r = read_frames(s, HEAD_BYTES);
+fn frames(profile: Profile, s: &[u8]) {
+    let r = read_frames(profile, s, HEAD_BYTES);
     println!("frames {} left {}", r.count, r.left);
 }
 
@@ -47,20 +48,35 @@ fn all_frames(out: &mut [u8]) {
     let meta = FragmentMeta { count: 9, id: 0x0a0b, index: 8 };
     let piece = Frame { kind: 3, reliable: 0x010203, order: 0x040506, channel: 7, piece: true, meta, ..Frame::default() };
     head(&mut out[..64], 0x123456);
-    written(&mut out[..64], 4, piece, b"hello");
-    written(&mut out[..64], 29, Frame { kind: 1, sequence: 0x070809, order: 0x0a0b0c, channel: 31, ..Frame::default() }, b"hi");
-    written(&mut out[..64], 41, Frame { kind: 4, reliable: 1, sequence: 2, ..Frame::default() }, b"");
+    written(Console, &mut out[..64], 4, piece, b"hello");
+    written(Console, &mut out[..64], 29, Frame { kind: 1, sequence: 0x070809, order: 0x0a0b0c, channel: 31, ..Frame::default() }, b"hi");
+    written(Console, &mut out[..64], 41, Frame { kind: 4, reliable: 1, sequence: 2, ..Frame::default() }, b"");
     println!("{}", hex(&out[..50]));
-    frames(&out[..50]);
-    frames(&out[..49]);
-    frame(&out[..50], 4);
-    frame(&out[..50], 29);
-    frame(&out[..50], 41);
-    frame(&out[..50], 50);
-    written(&mut out[..64], 4, Frame { kind: 8, ..Frame::default() }, b"");
-    written(&mut out[..49], 41, Frame { kind: 4, ..Frame::default() }, b"");
+    frames(Console, &out[..50]);
+    frames(Console, &out[..49]);
+    frame(Console, &out[..50], 4);
+    frame(Console, &out[..50], 29);
+    frame(Console, &out[..50], 41);
+    frame(Console, &out[..50], 50);
+    written(Console, &mut out[..64], 4, Frame { kind: 8, ..Frame::default() }, b"");
+    written(Console, &mut out[..49], 41, Frame { kind: 4, ..Frame::default() }, b"");
     head(&mut out[..64], 1 << 24);
     head(&mut out[..3], 0);
+}
+
+/// Kind 4 and a length of 12 bits, under both profiles.
+fn both_profiles(out: &mut [u8]) {
+    let lever = Frame { kind: 4, reliable: 1, sequence: 2, order: 0x0a0b0c, channel: 31, ..Frame::default() };
+    out[..9].copy_from_slice(b"\x84\0\0\0\0\0\x0cAB");
+    for profile in [Cpp, Console] {
+        written(profile, &mut out[..64], 9, lever, b"on");
+    }
+    println!("{}", hex(&out[..24]));
+    for profile in [Cpp, Console] {
+        frames(profile, &out[..24]);
+        frame(profile, &out[..24], 4);
+        frame(profile, &out[..24], 9);
+    }
 }
 
 // ---- windows, ACKs and splits
@@ -142,8 +158,8 @@ struct Receiver {
 }
 
 impl Receiver {
-    fn made(&mut self, store_len: usize) {
-        line("make", make_new(&mut self.queue, &mut self.records, &self.store[..store_len]), |()| "ok".into());
+    fn made(&mut self, store_len: usize, profile: Profile) {
+        line("make", make_new(&mut self.queue, &mut self.records, &self.store[..store_len], profile), |()| "ok".into());
     }
 
     fn received(&mut self, datagram: &[u8]) {
@@ -174,7 +190,7 @@ impl Receiver {
         let next: String = q.channels.iter().map(|c| format!(" {}", c.next)).collect();
         let newest: String = q.channels.iter().map(|c| format!(" {}", c.newest)).collect();
         let unsent: String = q.unsent[..q.pending as usize].iter().map(|n| format!(" {n}")).collect();
-        println!("lows {} {} next{next}", q.datagrams.low, q.reliables.low);
+        println!("profile {} lows {} {} next{next}", q.profile, q.datagrams.low, q.reliables.low);
         println!("newest{newest} {} unsent{unsent}", q.newest);
         for r in self.records.iter().filter(|r| r.used != 0) {
             print!("cell used {} kind {} channel {} id {} index {} ", r.used, r.kind, r.channel, r.id, r.index);
@@ -183,7 +199,7 @@ impl Receiver {
     }
 
     fn numbers(&mut self, out: &mut [u8], first: u32, step: u32, count: u32) {
-        self.made(STORE);
+        self.made(STORE, Console);
         for i in 0..count {
             write_head(out, first + i * step).expect("a head is written");
             receive(&mut self.queue, &mut self.records, &mut self.store, &out[..HEAD_BYTES]).expect("a datagram is received");
@@ -191,24 +207,23 @@ impl Receiver {
     }
 }
 
-fn add(out: &mut [u8], at: usize, frame: Frame, body: &[u8]) -> usize {
-    write_frame(out, at, frame, body).expect("a frame is written")
+fn add(profile: Profile, out: &mut [u8], at: usize, frame: Frame, body: &[u8]) -> usize {
+    write_frame(profile, out, at, frame, body).expect("a frame is written")
 }
 
-fn all_receiving(out: &mut [u8]) {
+fn all_receiving(receiver: &mut Receiver, out: &mut [u8]) {
     let meta = FragmentMeta { count: 2, id: 0x0a0b, index: 1 };
     let last = Frame { kind: 3, channel: 5, piece: true, meta, ..Frame::default() };
     let first = Frame { reliable: 1, meta: FragmentMeta { index: 0, ..meta }, ..last };
     let whole = Frame { kind: 1, sequence: 9, order: 8, channel: 6, ..Frame::default() };
     let again = Frame { kind: 2, reliable: 1, ..Frame::default() };
-    let mut receiver = Receiver { queue: RecvQueue::BLANK, records: [CellRecord::UNUSED; CELLS], store: [0; STORE], joined: [0; STORE] };
-    receiver.made(STORE - 1);
-    receiver.made(STORE);
+    receiver.made(STORE - 1, Console);
+    receiver.made(STORE, Console);
     receiver.state();
 
     write_head(out, 0).expect("a head is written");
-    let at = add(out, 4, last, b"lo!");
-    let end = add(out, at, whole, b"hi");
+    let at = add(Console, out, 4, last, b"lo!");
+    let end = add(Console, out, at, whole, b"hi");
     out[end..end + 2].fill(0xff);
     receiver.received(&out[..end + 2]);
     receiver.state();
@@ -219,8 +234,8 @@ fn all_receiving(out: &mut [u8]) {
     receiver.received(&out[..end]);
 
     write_head(out, 2).expect("a head is written");
-    let at = add(out, 4, first, b"hel");
-    let end = add(out, at, again, b"again");
+    let at = add(Console, out, 4, first, b"hel");
+    let end = add(Console, out, at, again, b"again");
     receiver.received(&out[..end]);
     receiver.state();
     receiver.taken(5);
@@ -231,10 +246,10 @@ fn all_receiving(out: &mut [u8]) {
     write_head(out, 3).expect("a head is written");
     let other = Frame { kind: 1, sequence: 3, channel: 7, ..Frame::default() };
     let stop = Frame { kind: 4, reliable: 2, sequence: 0xffffff, ..Frame::default() };
-    let at = add(out, 4, whole, b"late");
-    let at = add(out, at, other, b"new");
-    let at = add(out, at, stop, b"stop");
-    let end = add(out, at, Frame { reliable: 3, ..stop }, b"late");
+    let at = add(Console, out, 4, whole, b"late");
+    let at = add(Console, out, at, other, b"new");
+    let at = add(Console, out, at, stop, b"stop");
+    let end = add(Console, out, at, Frame { reliable: 3, ..stop }, b"late");
     receiver.received(&out[..end]);
     receiver.state();
     receiver.taken(STORE);
@@ -263,11 +278,41 @@ fn all_receiving(out: &mut [u8]) {
     receiver.unsent(&mut out[..UNSENT_BYTES]);
 }
 
+/// A C++ receiver: kinds 1 and 4 of a channel go by one memory.
+fn cpp_receiving(receiver: &mut Receiver, out: &mut [u8]) {
+    let one = Frame { kind: 1, sequence: 9, channel: 6, ..Frame::default() };
+    let late = Frame { kind: 4, sequence: 9, order: 5, channel: 6, ..Frame::default() };
+    let four = Frame { reliable: 1, sequence: 10, order: 4, ..late };
+    receiver.made(STORE, Cpp);
+    write_head(out, 0).expect("a head is written");
+    let at = add(Cpp, out, 4, one, b"one");
+    let at = add(Cpp, out, at, late, b"late");
+    let at = add(Cpp, out, at, four, b"four");
+    let end = at + 5;
+    out[at..end].copy_from_slice(b"\0\0\x0cAB");
+    receiver.received(&out[..end]);
+    receiver.state();
+    receiver.taken(STORE);
+    receiver.queue.profile = 2;
+    receiver.received(&out[..end]);
+    receiver.taken(STORE);
+    receiver.unsent(out);
+    receiver.missing(out);
+    receiver.queue.profile = Cpp as u32;
+    receiver.taken(STORE);
+    receiver.taken(STORE);
+    receiver.taken(STORE);
+    receiver.unsent(out);
+}
+
 fn main() {
     let mut out = [0xee; LIST_BYTES];
+    let mut receiver = Receiver { queue: RecvQueue::BLANK, records: [CellRecord::UNUSED; CELLS], store: [0; STORE], joined: [0; STORE] };
     all_frames(&mut out);
+    both_profiles(&mut out);
     window();
     all_acks(&mut out);
     all_pieces();
-    all_receiving(&mut out);
+    all_receiving(&mut receiver, &mut out);
+    cpp_receiving(&mut receiver, &mut out);
 }

@@ -34,6 +34,16 @@ fn refused<T>(number: u32, value: T) -> Result<T, Refused> {
     if number == 0 { Ok(value) } else { Err(Refused(number)) }
 }
 
+/// Who sends. A receiver is made for one and keeps it; frames are read and written under one.
+#[repr(u32)]
+#[derive(Clone, Copy, Debug, PartialEq, Eq)]
+pub enum Profile {
+    /// Kind 4 has neither order number nor channel; a length in bits is rounded down to whole bytes.
+    Console = 0,
+    /// Hosts on RakNet's own C++ library: kind 4 has both, and a length in bits is rounded up.
+    Cpp = 1,
+}
+
 // ---- the receiver
 
 /// The numbers accepted: all below `low`, and of the 2,048 above `low` those whose bit is set.
@@ -44,13 +54,14 @@ pub struct ReliableWindow {
     pub bits: [u8; 256],
 }
 
-/// A channel. `newest` is at most 2^24, and 0 where no message of kind 1 has been ready.
+/// A channel. `newest` is at most 2^24, and 0 where no message that it goes by has been ready.
 #[repr(C)]
 #[derive(Clone, Copy)]
 pub struct Channel {
     /// The order number that is made ready next.
     pub next: u32,
-    /// One more than the newest sequence number made ready by kind 1; a number below it is late, and dropped.
+    /// One more than the newest sequence number made ready by kind 1, and by kind 4 in the C++ profile; a number below it is late, and
+    /// dropped.
     pub newest: u32,
 }
 
@@ -63,12 +74,14 @@ pub struct RecvQueue {
     pub channels: [Channel; 32],
     pub unsent: [u32; 1024],
     pub pending: u32,
-    /// One more than the newest sequence number made ready by kind 4, as a channel's is by kind 1.
+    /// For kind 4 in the console profile what a channel's is for kind 1.
     pub newest: u32,
+    /// The number of a `Profile`; any other is unsound.
+    pub profile: u32,
 }
 
 // The libraries lay them out so.
-const _: () = assert!(core::mem::size_of::<Channel>() == 8 && core::mem::size_of::<RecvQueue>() == 4880);
+const _: () = assert!(core::mem::size_of::<Channel>() == 8 && core::mem::size_of::<RecvQueue>() == 4884);
 
 /// One record stands beside each cell; `used` is 0 where the cell is free.
 #[repr(C)]
@@ -100,6 +113,7 @@ impl RecvQueue {
         unsent: [0; 1024],
         pending: 0,
         newest: 0,
+        profile: Profile::Console as u32,
     };
 }
 
@@ -125,9 +139,11 @@ pub struct Message<'a> {
     pub body: &'a [u8],
 }
 
-/// A new receiver with a cell for each record; the store is exactly `CELL_BYTES` for each, also in every later call. Refusals: 9.
-pub fn make_new(queue: &mut RecvQueue, records: &mut [CellRecord], store: &[u8]) -> Result<(), Refused> {
-    let number = unsafe { linked::poghduka_make_new(queue, records.as_mut_ptr(), records.len(), store.as_ptr(), store.len()) };
+/// A new receiver for a profile with a cell for each record; the store is exactly `CELL_BYTES` for each, also in every later call.
+/// Refusals: 9.
+pub fn make_new(queue: &mut RecvQueue, records: &mut [CellRecord], store: &[u8], profile: Profile) -> Result<(), Refused> {
+    let (cells, bytes) = (records.len(), store.len());
+    let number = unsafe { linked::poghduka_make_new(queue, records.as_mut_ptr(), cells, store.as_ptr(), bytes, profile as u32) };
     refused(number, ())
 }
 
@@ -172,7 +188,7 @@ pub struct FragmentMeta {
     pub index: u32,
 }
 
-/// What a frame's header says. A field that the kind lacks is 0, and so is `meta` where the frame is no piece.
+/// What a frame's header says. A field that the kind lacks in its profile is 0, and so is `meta` where the frame is no piece.
 #[repr(C)]
 #[derive(Clone, Copy, Debug, Default, PartialEq, Eq)]
 pub struct Frame {
@@ -186,7 +202,6 @@ pub struct Frame {
 }
 
 /// How many frames stand one after the other, and the bytes left from the first that doesn't fit.
-#[repr(C)]
 #[derive(Clone, Copy, Debug, PartialEq, Eq)]
 pub struct FramesRead {
     pub count: usize,
@@ -201,21 +216,23 @@ pub struct FrameFound<'a> {
     pub next: usize,
 }
 
-/// The frames from place `at` on; a datagram's first is at `HEAD_BYTES`.
-pub fn read_frames(s: &[u8], at: usize) -> FramesRead {
-    unsafe { linked::poghduka_read_frames(s.as_ptr(), s.len(), at) }
+/// The frames from place `at` on; a datagram's first is at `HEAD_BYTES`. Nothing is refused.
+pub fn read_frames(profile: Profile, s: &[u8], at: usize) -> FramesRead {
+    let r = unsafe { linked::poghduka_read_frames(profile as u32, s.as_ptr(), s.len(), at) };
+    FramesRead { count: r.count, left: r.left }
 }
 
 /// The frame at place `at`. Refusals: 1.
-pub fn read_frame(s: &[u8], at: usize) -> Result<FrameFound<'_>, Refused> {
-    let r = unsafe { linked::poghduka_read_frame(s.as_ptr(), s.len(), at) };
+pub fn read_frame(profile: Profile, s: &[u8], at: usize) -> Result<FrameFound<'_>, Refused> {
+    let r = unsafe { linked::poghduka_read_frame(profile as u32, s.as_ptr(), s.len(), at) };
     let p = r.placed;
     refused(r.number, FrameFound { frame: p.frame, body: &s[p.start..p.start + p.len], next: r.next })
 }
 
 /// Writes a frame from place `at` on; the place after it. Refusals: 15, 12.
-pub fn write_frame(out: &mut [u8], at: usize, frame: Frame, body: &[u8]) -> Result<usize, Refused> {
-    let w = unsafe { linked::poghduka_write_frame(out.as_mut_ptr(), out.len(), at, frame, body.as_ptr(), body.len()) };
+pub fn write_frame(profile: Profile, out: &mut [u8], at: usize, frame: Frame, body: &[u8]) -> Result<usize, Refused> {
+    let (room, len) = (out.len(), body.len());
+    let w = unsafe { linked::poghduka_write_frame(profile as u32, out.as_mut_ptr(), room, at, frame, body.as_ptr(), len) };
     refused(w.number, w.next)
 }
 
@@ -339,6 +356,13 @@ mod linked {
     }
 
     #[repr(C)]
+    pub struct FramesFound {
+        pub number: u32,
+        pub count: usize,
+        pub left: usize,
+    }
+
+    #[repr(C)]
     pub struct FrameWritten {
         pub number: u32,
         pub next: usize,
@@ -377,7 +401,14 @@ mod linked {
     }
 
     extern "C" {
-        pub fn poghduka_make_new(queue: *mut RecvQueue, records: *mut CellRecord, cells: usize, store: *const u8, store_len: usize) -> u32;
+        pub fn poghduka_make_new(
+            queue: *mut RecvQueue,
+            records: *mut CellRecord,
+            cells: usize,
+            store: *const u8,
+            store_len: usize,
+            profile: u32,
+        ) -> u32;
         pub fn poghduka_receive(
             queue: *mut RecvQueue,
             records: *mut CellRecord,
@@ -399,9 +430,17 @@ mod linked {
         pub fn poghduka_write_unsent(queue: *mut RecvQueue, out: *mut u8, out_len: usize) -> AckWritten;
         pub fn poghduka_write_missing(queue: *const RecvQueue, out: *mut u8, out_len: usize) -> AckWritten;
 
-        pub fn poghduka_read_frames(s: *const u8, len: usize, at: usize) -> FramesRead;
-        pub fn poghduka_read_frame(s: *const u8, len: usize, at: usize) -> FrameFound;
-        pub fn poghduka_write_frame(out: *mut u8, room: usize, at: usize, frame: Frame, body: *const u8, len: usize) -> FrameWritten;
+        pub fn poghduka_read_frames(profile: u32, s: *const u8, len: usize, at: usize) -> FramesFound;
+        pub fn poghduka_read_frame(profile: u32, s: *const u8, len: usize, at: usize) -> FrameFound;
+        pub fn poghduka_write_frame(
+            profile: u32,
+            out: *mut u8,
+            room: usize,
+            at: usize,
+            frame: Frame,
+            body: *const u8,
+            len: usize,
+        ) -> FrameWritten;
         pub fn poghduka_write_head(out: *mut u8, out_len: usize, number: u32) -> u32;
 
         pub fn poghduka_window_new() -> ReliableWindow;

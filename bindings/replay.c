@@ -44,7 +44,7 @@ static void one_datagram(const uint8_t *datagram, size_t len) {
 
 int main(void) {
     uint8_t head[2];
-    if (poghduka_make_new(&queue, records, CELLS, store, STORE) != POGHDUKA_DONE)
+    if (poghduka_make_new(&queue, records, CELLS, store, STORE, POGHDUKA_CONSOLE) != POGHDUKA_DONE)
         return 1;
     while (fread(head, 1, 2, stdin) == 2) {
         size_t len = (size_t)head[0] << 8 | head[1];

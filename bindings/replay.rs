@@ -5,7 +5,7 @@
 //! per message '+' and its length.
 mod poghduka;
 
-use poghduka::{make_new, receive, take, write_unsent, CellRecord, Received, RecvQueue, Refused, CELL_BYTES, UNSENT_BYTES};
+use poghduka::{make_new, receive, take, write_unsent, CellRecord, Profile, Received, RecvQueue, Refused, CELL_BYTES, UNSENT_BYTES};
 use std::io::{Read, Result, Write};
 
 const CELLS: usize = 32;
@@ -20,7 +20,7 @@ fn main() -> Result<()> {
     let mut input = [0; 65535];
     let mut from = std::io::stdin().lock();
     let mut to = std::io::BufWriter::new(std::io::stdout().lock());
-    make_new(&mut queue, &mut records, &store).expect("32 cells are within the limits");
+    make_new(&mut queue, &mut records, &store, Profile::Console).expect("32 cells are within the limits");
 
     let mut head = [0; 2];
     while from.read_exact(&mut head).is_ok() {

@@ -50,7 +50,7 @@ enum {
     POGHDUKA_UNSENT_FULL = 6,      /* 1,024 acknowledgements are unsent */
     POGHDUKA_RELIABLE_BEYOND = 7,  /* a reliable number is above low + 2,048 */
     POGHDUKA_NO_CELLS = 8,         /* the cells don't suffice for the datagram's bodies */
-    POGHDUKA_UNSOUND = 9,          /* slice lengths that don't fit, or a receiver or records that no call made */
+    POGHDUKA_UNSOUND = 9,          /* slice lengths that don't fit, a receiver or records that no call made, or no profile's number */
     POGHDUKA_RECORD_TYPE = 10,     /* a record's first byte is neither 00 nor 01 */
     POGHDUKA_REVERSED = 11,        /* a Range's last is below its first */
     POGHDUKA_NO_ROOM = 12,         /* the output or the joining buffer is too short */
@@ -62,6 +62,13 @@ enum {
     POGHDUKA_TOO_MANY_PIECES = 18, /* more than 1,024 pieces */
     POGHDUKA_BEYOND_LAST = 19,     /* there is no piece k */
     POGHDUKA_NONE_READY = 20       /* no message is ready */
+};
+
+/* ---- profiles: who sends. A receiver is made for one and keeps it; frames are read and written under one. */
+
+enum {
+    POGHDUKA_CONSOLE = 0, /* kind 4 has neither order number nor channel; a length in bits is rounded down to whole bytes */
+    POGHDUKA_CPP = 1      /* hosts on RakNet's own C++ library: kind 4 has both, and a length in bits is rounded up */
 };
 
 /* ---- sizes */
@@ -86,20 +93,22 @@ typedef struct {
     uint8_t bits[256];
 } PoghdukaReliableWindow;
 
-/* A channel. `newest` is at most 2^24, and 0 where no message of kind 1 has been ready. */
+/* A channel. `newest` is one more than the newest sequence number made ready by kind 1, and by kind 4 in the C++ profile; a number below it
+ * is late, and dropped. It is at most 2^24, and 0 where no such message has been ready. */
 typedef struct {
-    uint32_t next;   /* the order number that is made ready next */
-    uint32_t newest; /* one more than the newest sequence number made ready by kind 1; a number below it is late, and dropped */
+    uint32_t next; /* the order number that is made ready next */
+    uint32_t newest;
 } PoghdukaChannel;
 
-/* A receiver, 4,880 bytes. poghduka_make_new fills it in, the calls change it, and nobody else writes it. */
+/* A receiver, 4,884 bytes. poghduka_make_new fills it in, the calls change it, and nobody else writes it. */
 typedef struct {
     PoghdukaReliableWindow datagrams; /* datagram numbers accepted */
     PoghdukaReliableWindow reliables; /* reliable numbers accepted */
     PoghdukaChannel channels[32];
     uint32_t unsent[1024]; /* the first `pending` are datagram numbers not yet acknowledged */
     uint32_t pending;
-    uint32_t newest; /* one more than the newest sequence number made ready by kind 4, as a channel's is by kind 1 */
+    uint32_t newest;  /* for kind 4 in the console profile what a channel's is for kind 1 */
+    uint32_t profile; /* POGHDUKA_CONSOLE or POGHDUKA_CPP; any other number is unsound */
 } PoghdukaRecvQueue;
 
 /* One record stands beside each cell, 40 bytes. poghduka_make_new fills them in, the calls change them, and nobody else writes them. */
@@ -140,10 +149,10 @@ typedef struct {
     size_t len;
 } PoghdukaAckWritten;
 
-/* A new receiver of `cells` cells, whatever memory held before. `store_len` is 1,500 times `cells`, also in every later call.
+/* A new receiver of `cells` cells for a profile, whatever memory held before. `store_len` is 1,500 times `cells`, also in every later call.
  * Refusals: 9. */
 uint32_t poghduka_make_new(PoghdukaRecvQueue *queue, PoghdukaCellRecord *records, size_t cells, const uint8_t *store,
-                           size_t store_len);
+                           size_t store_len, uint32_t profile);
 
 /* Takes in one datagram. Refusals: 9, 1, 2, 3, 4, 5, 6, 7, 8. */
 PoghdukaQueueReceived poghduka_receive(PoghdukaRecvQueue *queue, PoghdukaCellRecord *records, size_t cells, uint8_t *store,
@@ -170,7 +179,8 @@ typedef struct {
     uint32_t index;
 } PoghdukaFragmentMeta;
 
-/* What a frame's header says. A field that the kind lacks is 0, and so are the three of `meta` where the frame is no piece. */
+/* What a frame's header says. A field that the kind lacks in its profile is 0, and so are the three of `meta` where the frame is no
+ * piece. */
 typedef struct {
     uint8_t kind;
     uint32_t reliable;
@@ -201,19 +211,20 @@ typedef struct {
 } PoghdukaFrameWritten;
 
 typedef struct {
+    uint32_t number;
     size_t count; /* frames, one after the other */
     size_t left;  /* bytes from the first that doesn't fit */
-} PoghdukaFramesRead;
+} PoghdukaFramesFound;
 
-/* How many frames stand from place `at` on. Nothing is refused. */
-PoghdukaFramesRead poghduka_read_frames(const uint8_t *s, size_t len, size_t at);
+/* How many frames stand from place `at` on. Refusals: 9, for the profile. */
+PoghdukaFramesFound poghduka_read_frames(uint32_t profile, const uint8_t *s, size_t len, size_t at);
 
-/* The frame at place `at`: 4 for a datagram's first, then each time `next`. Refusals: 1. */
-PoghdukaFrameFound poghduka_read_frame(const uint8_t *s, size_t len, size_t at);
+/* The frame at place `at`: 4 for a datagram's first, then each time `next`. Refusals: 9, for the profile; 1. */
+PoghdukaFrameFound poghduka_read_frame(uint32_t profile, const uint8_t *s, size_t len, size_t at);
 
-/* Writes a frame from place `at` on; `next` is the place after it. Refusals: 15, 12. */
-PoghdukaFrameWritten poghduka_write_frame(uint8_t *out, size_t out_len, size_t at, PoghdukaFrame frame, const uint8_t *body,
-                                          size_t body_len);
+/* Writes a frame from place `at` on; `next` is the place after it. Refusals: 9, for the profile; 15, 12. */
+PoghdukaFrameWritten poghduka_write_frame(uint32_t profile, uint8_t *out, size_t out_len, size_t at, PoghdukaFrame frame,
+                                          const uint8_t *body, size_t body_len);
 
 /* Writes 84 and the number, four bytes. Refusals: 13, 12. */
 uint32_t poghduka_write_head(uint8_t *out, size_t out_len, uint32_t number);
@@ -290,12 +301,13 @@ POGHDUKA_FIELD(PoghdukaReliableWindow, bits, 4);
 POGHDUKA_SIZE(PoghdukaChannel, 8);
 POGHDUKA_FIELD(PoghdukaChannel, newest, 4);
 
-POGHDUKA_SIZE(PoghdukaRecvQueue, 4880);
+POGHDUKA_SIZE(PoghdukaRecvQueue, 4884);
 POGHDUKA_FIELD(PoghdukaRecvQueue, reliables, 260);
 POGHDUKA_FIELD(PoghdukaRecvQueue, channels, 520);
 POGHDUKA_FIELD(PoghdukaRecvQueue, unsent, 776);
 POGHDUKA_FIELD(PoghdukaRecvQueue, pending, 4872);
 POGHDUKA_FIELD(PoghdukaRecvQueue, newest, 4876);
+POGHDUKA_FIELD(PoghdukaRecvQueue, profile, 4880);
 
 POGHDUKA_SIZE(PoghdukaCellRecord, 40);
 POGHDUKA_FIELD(PoghdukaCellRecord, kind, 4);
@@ -347,8 +359,9 @@ POGHDUKA_FIELD(PoghdukaFrameFound, next, 56);
 POGHDUKA_SIZE(PoghdukaFrameWritten, 16);
 POGHDUKA_FIELD(PoghdukaFrameWritten, next, 8);
 
-POGHDUKA_SIZE(PoghdukaFramesRead, 16);
-POGHDUKA_FIELD(PoghdukaFramesRead, left, 8);
+POGHDUKA_SIZE(PoghdukaFramesFound, 24);
+POGHDUKA_FIELD(PoghdukaFramesFound, count, 8);
+POGHDUKA_FIELD(PoghdukaFramesFound, left, 16);
 
 POGHDUKA_SIZE(PoghdukaWindowInsert, 264);
 POGHDUKA_FIELD(PoghdukaWindowInsert, window, 4);

@@ -2,8 +2,9 @@
 """Makes stdin and stdout of the programs replay_frames, replay_acks and replay_windows: their items, and the lines that they must print.
 
 The answers come from this file's own reading and writing of frames, acknowledgements, windows and splits, which shares nothing with the
-Rattle code. It was written from the sentences of document 01 alone, in the readings that docs/DECISIONS.md lists: for frames,
-acknowledgements and windows before their Rattle code was looked at; for splits by the hand that had written that crate, in another way.
+Rattle code. It was written from the sentences of document 01 and of request 2 (profiles) alone, in the readings that docs/DECISIONS.md
+lists: for frames, acknowledgements and windows before their Rattle code was looked at; for splits by the hand that had written that crate,
+in another way.
 The items are the bench lines, the limits, damaged bytes, and random ones from a fixed seed, so that a second run makes the same files.
 
 An item is a tag (1 byte), a length (16 bits) and a payload; every number of a payload is big-endian. Each answer is one line: a word, document
@@ -27,7 +28,26 @@ DATA_SEED = 11029
 
 HAS_RELIABLE = (2, 3, 4, 7)
 HAS_SEQUENCE = (1, 4)
-HAS_ORDER = (1, 3, 7)
+
+# ---- document 02, request 2: "the console profile of document 01 or .. this one"
+
+CONSOLE, CPP = 0, 1
+
+
+def known(profile):
+    if profile not in (CONSOLE, CPP):
+        raise Refused(9)
+
+
+def has_order(profile, kind):
+    """C++ "puts an order number and channel after kind 4's sequence number"."""
+    return kind in (1, 3, 7) or profile == CPP and kind == 4
+
+
+def body_length(profile, bits):
+    """The console drops a remainder; C++ "rounds a bit length up to whole bytes"."""
+    length, remainder = divmod(bits, 8)
+    return length + 1 if profile == CPP and remainder else length
 
 
 class Refused(Exception):
@@ -53,8 +73,9 @@ class Frame:
         return [getattr(self, name) for name in self.FIELDS]
 
 
-def read_frame(s, at):
+def read_frame(profile, s, at):
     """The frame at a place, its body's place and length, and the place after it."""
+    known(profile)
     f = Frame()
     p = at
 
@@ -68,12 +89,12 @@ def read_frame(s, at):
     flags = take(1)[0]
     f.kind = flags >> 5
     f.piece = 1 if flags & 0x10 else 0
-    length = int.from_bytes(take(2), "big") // 8
+    length = body_length(profile, int.from_bytes(take(2), "big"))
     if f.kind in HAS_RELIABLE:
         f.reliable = number24(take(3), 0)
     if f.kind in HAS_SEQUENCE:
         f.sequence = number24(take(3), 0)
-    if f.kind in HAS_ORDER:
+    if has_order(profile, f.kind):
         f.order = number24(take(3), 0)
         f.channel = take(1)[0]
     if f.piece:
@@ -85,38 +106,39 @@ def read_frame(s, at):
     return f, start, length, p
 
 
-def read_frames(s, at):
+def read_frames(profile, s, at):
     """How many frames fit, one after another, and how many bytes are left."""
+    known(profile)
     count = 0
     while True:
         try:
-            at = read_frame(s, at)[3]
+            at = read_frame(profile, s, at)[3]
         except Refused:
             return count, max(len(s) - at, 0)
         count += 1
 
 
-def frame_over_limit(f, body):
+def frame_over_limit(profile, f, body):
     if f.kind > 7 or len(body) > MAX_BODY:
         return True
     if max(f.reliable, f.sequence, f.order) >= LIMIT_24 or f.channel > MAX_CHANNEL:
         return True
     if f.reliable and f.kind not in HAS_RELIABLE or f.sequence and f.kind not in HAS_SEQUENCE:
         return True
-    if (f.order or f.channel) and f.kind not in HAS_ORDER:
+    if (f.order or f.channel) and not has_order(profile, f.kind):
         return True
     if f.piece:
         return not 1 <= f.count <= MAX_FRAGS or f.index >= f.count
     return bool(f.count or f.id or f.index)
 
 
-def frame_bytes(f, body):
+def frame_bytes(profile, f, body):
     out = bytes([f.kind << 5 | (0x10 if f.piece else 0)]) + (len(body) * 8).to_bytes(2, "big")
     if f.kind in HAS_RELIABLE:
         out += bytes24(f.reliable)
     if f.kind in HAS_SEQUENCE:
         out += bytes24(f.sequence)
-    if f.kind in HAS_ORDER:
+    if has_order(profile, f.kind):
         out += bytes24(f.order) + bytes([f.channel])
     if f.piece:
         out += f.count.to_bytes(4, "big") + f.id.to_bytes(2, "big") + f.index.to_bytes(4, "big")
@@ -130,10 +152,11 @@ def store(out, at, data):
     return at + len(data)
 
 
-def write_frame(out, at, f, body):
-    if frame_over_limit(f, body):
+def write_frame(profile, out, at, f, body):
+    known(profile)
+    if frame_over_limit(profile, f, body):
         raise Refused(15)
-    return store(out, at, frame_bytes(f, body))
+    return store(out, at, frame_bytes(profile, f, body))
 
 
 def write_head(out, number):
@@ -303,26 +326,35 @@ class Items:
 
 
 class Frames(Items):
-    READ, WRITE, HEAD, SPLIT = range(1, 5)
+    READ, WRITE, HEAD, SPLIT, LONG = range(1, 6)
 
-    def read(self, s, at=0):
+    def read_lines(self, s, at, profile):
         body = None
 
         def call():
             nonlocal body
-            f, start, length, after = read_frame(s, at)
+            f, start, length, after = read_frame(profile, s, at)
             body = s[start:after]
             return f.values() + [start, length, after]
         line = answer("frame", call)
-        self.add(self.READ, number16(at) + s, line + ("" if body is None else shown(body)), answer("frames", lambda: read_frames(s, at)))
+        return [line + ("" if body is None else shown(body)), answer("frames", lambda: read_frames(profile, s, at))]
 
-    def write(self, f, length, seed=0, room=None, at=0):
+    def read(self, s, at=0, profile=CONSOLE):
+        self.add(self.READ, number32(profile) + number16(at) + s, *self.read_lines(s, at, profile))
+
+    def read_long(self, first, length, profile):
+        """Many bytes of a pattern, the first of them as given."""
+        s = first + bytes(pattern(length, DATA_SEED))[len(first):]
+        self.add(self.LONG, number32(profile) + number16(length) + first, *self.read_lines(s, 0, profile))
+
+    def write(self, f, length, seed=0, room=None, at=0, profile=CONSOLE):
         body = bytes(pattern(length, seed))
         if room is None:
-            room = at + (2 + length if frame_over_limit(f, body) else len(frame_bytes(f, body)) + 2)
-        payload = number16(room) + number16(at) + bytes([f.kind]) + b"".join(number32(n) for n in (f.reliable, f.sequence, f.order))
+            room = at + (2 + length if frame_over_limit(profile, f, body) else len(frame_bytes(profile, f, body)) + 2)
+        payload = number32(profile) + number16(room) + number16(at) + bytes([f.kind])
+        payload += b"".join(number32(n) for n in (f.reliable, f.sequence, f.order))
         payload += bytes([f.channel, f.piece]) + number32(f.count) + number16(f.id) + number32(f.index) + number16(length) + number16(seed)
-        self.add(self.WRITE, payload, self.written("write", room, lambda out: [write_frame(out, at, f, body)]))
+        self.add(self.WRITE, payload, self.written("write", room, lambda out: [write_frame(profile, out, at, f, body)]))
 
     def head(self, room, number):
         self.add(self.HEAD, number16(room) + number32(number), self.written("head", room, lambda out: write_head(out, number) or []))
@@ -423,14 +455,14 @@ def bench_lines(frames, acks, windows):
 ALL_FIELDS = Frame(reliable=0x030201, sequence=0x060504, order=0x090807, channel=31)
 
 
-def carried(kind, piece=False):
+def carried(kind, piece=False, profile=CONSOLE):
     """A frame of a kind whose carried fields are all different and not 0."""
     f = Frame(kind=kind)
     if kind in HAS_RELIABLE:
         f.reliable = ALL_FIELDS.reliable
     if kind in HAS_SEQUENCE:
         f.sequence = ALL_FIELDS.sequence
-    if kind in HAS_ORDER:
+    if has_order(profile, kind):
         f.order, f.channel = ALL_FIELDS.order, ALL_FIELDS.channel
     if piece:
         f.piece, f.count, f.id, f.index = 1, 1024, 0xABCD, 1023
@@ -441,40 +473,48 @@ def changed(f, **fields):
     return Frame(**{**dict(zip(Frame.FIELDS, f.values())), **fields})
 
 
-def frame_limits(frames):
+def kind_limits(frames, profile=CONSOLE):
     for kind in range(8):
         for piece in (False, True):
-            f = carried(kind, piece)
-            whole = frame_bytes(f, b"\x41\x42")
-            frames.read(whole)
-            frames.read(whole[:-1])
-            frames.read(whole[:-3])
-            frames.read(b"\xFF" * 3 + whole + b"\x99", 3)
-            frames.write(f, 2, 7)
-            frames.write(f, 0, room=len(whole) - 2)
-            frames.write(f, 2, 7, room=len(whole) - 1)
-            frames.write(f, 2, 7, room=len(whole) + 5, at=5)
-            frames.write(f, 2, 7, room=len(whole) + 4, at=5)
-    for whole in (frame_bytes(carried(7, True), b"\x41"), frame_bytes(carried(4), b"\x41")):
+            f = carried(kind, piece, profile)
+            whole = frame_bytes(profile, f, b"\x41\x42")
+            frames.read(whole, 0, profile)
+            frames.read(whole[:-1], 0, profile)
+            frames.read(whole[:-3], 0, profile)
+            frames.read(b"\xFF" * 3 + whole + b"\x99", 3, profile)
+            frames.write(f, 2, 7, profile=profile)
+            frames.write(f, 0, room=len(whole) - 2, profile=profile)
+            frames.write(f, 2, 7, room=len(whole) - 1, profile=profile)
+            frames.write(f, 2, 7, room=len(whole) + 5, at=5, profile=profile)
+            frames.write(f, 2, 7, room=len(whole) + 4, at=5, profile=profile)
+    for f in (carried(7, True, profile), carried(4, False, profile)):
+        whole = frame_bytes(profile, f, b"\x41")
         for length in range(len(whole) + 1):
-            frames.read(whole[:length])
+            frames.read(whole[:length], 0, profile)
+
+
+def frame_limits(frames):
+    kind_limits(frames)
     for length in range(4):
         frames.read(bytes(length))
     frames.read(b"\x00\x00\x00", 3)
     frames.read(b"\x00\x00\x00", 4)
     frames.read(b"\x0F\x00\x07")
     frames.read(b"\x0F\x00\x08")
-    frames.read(b"\x00\xFF\xFF" + bytes(pattern(8191, 7)))
     for room in (0, 2, 3):
         frames.write(Frame(), 0, room=room)
     frames.write(Frame(), 0, room=3, at=4)
     frames.write(Frame(), 0, room=3, at=65535)
 
 
-def over_limits(frames):
+def uncarried(frames, profile=CONSOLE):
     for kind in range(8):
         for name, value in (("reliable", 1), ("sequence", 1), ("order", 1), ("channel", 1)):
-            frames.write(Frame(kind=kind, **{name: value}), 1)
+            frames.write(Frame(kind=kind, **{name: value}), 1, profile=profile)
+
+
+def over_limits(frames):
+    uncarried(frames)
     for kind in (8, 9, 255):
         frames.write(Frame(kind=kind), 0)
     for n in (LIMIT_24 - 1, LIMIT_24, 2 ** 32 - 1):
@@ -498,6 +538,41 @@ def over_limits(frames):
     for number in (0, 1, 255, 256, LIMIT_24 - 1, LIMIT_24, 2 ** 32 - 1):
         for room in (0, 3, 4, 6):
             frames.head(room, number)
+
+
+def profiles(frames):
+    """Request 2, each item under both profiles where they differ; and numbers that are no profile's."""
+    both = (CONSOLE, CPP)
+    for profile in both:
+        frames.read(bytes.fromhex("00 00 0C 41 42"), 0, profile)
+        for bits in range(18):
+            frames.read(b"\x00" + number16(bits) + b"\x41\x42", 0, profile)
+        # two frames, the second read from where the first ends
+        frames.read(bytes.fromhex("00 00 09 41 00 00 08 43 00 00 08 44"), 0, profile)
+        for bits in range(65527, 65536):
+            for length in (3 + 8190, 3 + 8191, 3 + 8192):
+                frames.read_long(b"\x00" + number16(bits), length, profile)
+        frames.read_long(b"\x90\xFF\xFF", 23 + 8192, profile)
+        # kind 4's bytes of one profile, read under either
+        for writer in both:
+            frames.read(frame_bytes(writer, carried(4, False, writer), b"\x41\x42\x43\x44\x45\x46"), 0, profile)
+    kind_limits(frames, CPP)
+    uncarried(frames, CPP)
+    for n in (LIMIT_24 - 1, LIMIT_24, 2 ** 32 - 1):
+        for name in ("reliable", "sequence", "order"):
+            frames.write(Frame(kind=4, **{name: n}), 0, profile=CPP)
+    for channel in (0, 31, 32, 255):
+        frames.write(Frame(kind=4, channel=channel), 0, profile=CPP)
+        frames.read(frame_bytes(CPP, Frame(kind=4, channel=channel), b"\x41"), 0, CPP)
+    for length, room in ((8190, 8220), (8191, 8204), (8191, 8203), (8192, 8220)):
+        frames.write(carried(4, False, CPP), length, 11, room, profile=CPP)
+    # 9 comes before 15 and 12, and leaves the output
+    for profile in (2, 3, 255, 256, 257, 65537, 2 ** 31, 2 ** 32 - 1):
+        frames.read(bytes.fromhex("00 00 0C 41 42"), 0, profile)
+        frames.read(b"", 0, profile)
+        frames.write(Frame(), 2, 7, 6, profile=profile)
+        frames.write(Frame(kind=8), 2, 7, 0, profile=profile)
+        frames.write(Frame(kind=4, order=1), 2, 7, 20, profile=profile)
 
 
 def ack_limits(acks):
@@ -589,7 +664,7 @@ def split_limits(frames):
 
 # ---- damaged bytes, and random items
 
-def random_frame(rng):
+def random_frame(rng, profile):
     f = Frame(kind=rng.randrange(8))
     small = rng.random() < 0.5
     limit = 5 if small else LIMIT_24
@@ -597,7 +672,7 @@ def random_frame(rng):
         f.reliable = rng.randrange(limit)
     if f.kind in HAS_SEQUENCE:
         f.sequence = rng.randrange(limit)
-    if f.kind in HAS_ORDER:
+    if has_order(profile, f.kind):
         f.order, f.channel = rng.randrange(limit), rng.randrange(32)
     if rng.random() < 0.4:
         f.piece, f.count, f.id = 1, rng.randint(1, 4 if small else 1024), rng.randrange(65536)
@@ -628,21 +703,22 @@ def damaged(rng, s):
     return bytes(s)
 
 
-def random_frames(frames, rng):
+def random_frames(frames, rng, profile=CONSOLE):
     for _ in range(100):
-        f, length, seed, at = random_frame(rng), random_length(rng), rng.randrange(65536), rng.randrange(3)
-        s = frame_bytes(f, pattern(length, seed))
-        frames.read(damaged(rng, s))
-        frames.write(f, length, seed, len(s) + rng.randrange(-2, 4) if rng.random() < 0.5 else None, at)
+        f, length, seed, at = random_frame(rng, profile), random_length(rng), rng.randrange(65536), rng.randrange(3)
+        s = frame_bytes(profile, f, pattern(length, seed))
+        frames.read(damaged(rng, s), 0, profile)
+        frames.write(f, length, seed, len(s) + rng.randrange(-2, 4) if rng.random() < 0.5 else None, at, profile)
         name = rng.choice(Frame.FIELDS[1:5] + Frame.FIELDS[6:])
-        frames.write(changed(f, **{name: rng.choice((1, 31, 32, 255) if name == "channel" else (1, 1024, 65535))}), length, seed)
+        value = rng.choice((1, 31, 32, 255) if name == "channel" else (1, 1024, 65535))
+        frames.write(changed(f, **{name: value}), length, seed, profile=profile)
     for _ in range(70):
         s = bytes([rng.randrange(0x80, 0x8E)]) + rng.randbytes(3)
-        s += b"".join(frame_bytes(random_frame(rng), rng.randbytes(random_length(rng))) for _ in range(rng.randrange(5)))
-        frames.read(s, 4)
-        frames.read(s[:4] + damaged(rng, s[4:]), 4)
+        s += b"".join(frame_bytes(profile, random_frame(rng, profile), rng.randbytes(random_length(rng))) for _ in range(rng.randrange(5)))
+        frames.read(s, 4, profile)
+        frames.read(s[:4] + damaged(rng, s[4:]), 4, profile)
     for _ in range(20):
-        frames.read(rng.randbytes(rng.randrange(40)), rng.randrange(6))
+        frames.read(rng.randbytes(rng.randrange(40)), rng.randrange(6), profile)
 
 
 def random_splits(frames, rng):
@@ -681,6 +757,8 @@ def main():
     split_limits(frames)
     random_frames(frames, rng)
     random_splits(frames, rng)
+    profiles(frames)
+    random_frames(frames, random.Random(2), CPP)
     ack_limits(acks)
     random_acks(acks, rng)
     window_limits(windows)

@@ -1,34 +1,47 @@
 //! Document 01's bare receiver, without cells, and its line. The model with cells is held against it in every comparison.
 use crate::model::{ordered, over_limit, Message};
-use crate::wire::{self, Frame};
+use crate::wire::{self, Frame, Profile};
 use std::collections::{BTreeMap, HashMap, HashSet};
 
 /// What the pieces of one id agree on: count, kind, sequence number, order number, channel.
 type Agreed = (u32, u8, u32, u32, u8);
 
-#[derive(Default)]
+/// Whose newest sequence number it is: a channel's, or kind 4's own.
+#[derive(PartialEq, Eq, Hash)]
+enum Memory {
+    Channel(u8),
+    KindFour,
+}
+
 pub struct Bare {
+    /// "The bare receiver has its list's profile."
+    profile: Profile,
     reliables: HashSet<u32>,
     open: HashMap<u16, (Agreed, BTreeMap<u32, Vec<u8>>)>,
     next: HashMap<u8, u32>,
     held: HashMap<(u8, u32), Message>,
-    /// "Document 01's bare receiver remembers the same": newest sequence numbers, by kind and, for kind 1, channel.
-    newest: HashMap<(u8, u8), u32>,
+    /// "Document 01's bare receiver remembers the same": newest sequence numbers.
+    newest: HashMap<Memory, u32>,
     pub line: Vec<Message>,
 }
 
 impl Bare {
+    pub fn new(profile: Profile) -> Bare {
+        let (reliables, open, next, held, newest) = Default::default();
+        Bare { profile, reliables, open, next, held, newest, line: Vec::new() }
+    }
+
     /// An accepted datagram: how many messages it made ready and how many frames it dropped.
     pub fn feed(&mut self, datagram: &[u8]) -> (u32, u32) {
         let before = self.line.len();
-        let (frames, _) = wire::frames(&datagram[4..]);
+        let (frames, _) = wire::frames(self.profile, &datagram[4..]);
         let dropped = frames.into_iter().map(|f| self.frame(f)).filter(|kept| !kept).count();
         ((self.line.len() - before) as u32, dropped as u32)
     }
 
     /// The four steps; false where the frame or the message that it completed is dropped.
     fn frame(&mut self, f: Frame) -> bool {
-        if f.fields().reliable && !self.reliables.insert(f.reliable) {
+        if wire::reliable(f.kind) && !self.reliables.insert(f.reliable) {
             return false;
         }
         if over_limit(&f) {
@@ -74,9 +87,9 @@ impl Bare {
         true
     }
 
-    /// Only a message above the highest that its memory has goes into the line. Kind 4 carries no channel: its is 0.
+    /// Only a message above the highest that its memory has goes into the line. A kind without a channel has a memory of its own.
     fn put_sequenced(&mut self, m: Message, sequence: u32) -> bool {
-        let memory = (m.kind, m.channel);
+        let memory = if self.profile.fields(m.kind).order { Memory::Channel(m.channel) } else { Memory::KindFour };
         let newer = match self.newest.get(&memory) {
             Some(highest) => sequence > *highest,
             None => true,

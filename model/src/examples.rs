@@ -5,7 +5,7 @@ use crate::rng::Rng;
 use crate::sender::datagram;
 use crate::sound::{sound_cells, sound_values};
 use crate::window::{NUMBERS, REACH};
-use crate::wire::{frame_bytes, frames, Frame, Piece, KINDS};
+use crate::wire::{frame_bytes, frames, reliable, Frame, Piece, Profile, PROFILES};
 use std::fmt::Display;
 
 fn list<T: Display>(items: impl IntoIterator<Item = T>) -> String {
@@ -59,6 +59,7 @@ fn message(m: &Message) -> String {
 
 /// A sender of small frames: reliable numbers mostly new, and pieces that wait for their turn.
 struct Small {
+    profile: Profile,
     kinds: &'static [u8],
     channels: &'static [u8],
     reliable: u32,
@@ -67,13 +68,13 @@ struct Small {
 
 impl Small {
     /// All kinds; or lever positions above all, on two channels.
-    fn new(rng: &mut Rng) -> Small {
+    fn new(rng: &mut Rng, profile: Profile) -> Small {
         let (kinds, channels): (&[u8], &[u8]) = if rng.percent(40) {
             (&[1, 1, 1, 4, 4, 3], &[0, 0, 0, 1])
         } else {
-            (&[0, 1, 1, 2, 3, 3, 3, 3, 4, 5, 6, 7, 7], &[0, 0, 0, 0, 0, 1, 1, 31, 32])
+            (&[0, 1, 1, 2, 3, 3, 3, 3, 4, 4, 5, 6, 7, 7], &[0, 0, 0, 0, 0, 1, 1, 31, 32])
         };
-        Small { kinds, channels, reliable: 0, waiting: Vec::new() }
+        Small { profile, kinds, channels, reliable: 0, waiting: Vec::new() }
     }
 
     fn reliable(&mut self, rng: &mut Rng) -> u32 {
@@ -90,11 +91,16 @@ impl Small {
         if !self.waiting.is_empty() && rng.percent(70) {
             let at = rng.below(self.waiting.len());
             let mut f = self.waiting.remove(at);
-            f.reliable = if f.fields().reliable { self.reliable(rng) } else { 0 };
+            f.reliable = if reliable(f.kind) { self.reliable(rng) } else { 0 };
+            if self.profile.fields(f.kind).order && rng.percent(10) {
+                // a piece that does not agree
+                f.order += rng.below(2) as u32;
+                f.channel ^= rng.below(2) as u8;
+            }
             return f;
         }
         let kind = rng.pick(self.kinds);
-        let fields = &KINDS[kind as usize];
+        let fields = self.profile.fields(kind);
         let reliable = if fields.reliable { self.reliable(rng) } else { 0 };
         let sequence = if fields.sequence { rng.pick(&[0, 1, 1, 2, 2, 3]) } else { 0 };
         let order = if fields.order { rng.pick(&[0, 0, 1, 1, 2, 3]) } else { 0 };
@@ -129,25 +135,26 @@ fn body(rng: &mut Rng) -> Vec<u8> {
     (0..length).map(|_| rng.below(100) as u8).collect()
 }
 
-/// The frames' bytes: reading them gives the very frames back.
-fn bytes_of(number: u32, all: &[Frame]) -> Vec<u8> {
-    let bytes: Vec<Vec<u8>> = all.iter().map(|f| frame_bytes(f, 0, 0)).collect();
+/// The frames' bytes, with lengths that are so many bits off a multiple of 8: reading them gives the very frames back.
+fn bytes_of(profile: Profile, number: u32, all: &[Frame], inexact: u16) -> Vec<u8> {
+    let bytes: Vec<Vec<u8>> = all.iter().map(|f| frame_bytes(profile, f, 0, inexact)).collect();
     let d = datagram(0x84, number, &bytes);
-    assert!(frames(&d[4..]).0 == all);
+    assert!(frames(profile, &d[4..]).0 == all);
     d
 }
 
 /// Frames as values on a receiver with cells, and the line of the accepted ones.
 fn cells_example(rng: &mut Rng, name: &str) -> String {
     let cells = rng.from_to(1, 6);
-    let mut r = Receiver::new(cells);
-    let mut bare = Bare::default();
-    let mut small = Small::new(rng);
+    let profile = rng.pick(&PROFILES);
+    let mut r = Receiver::new(cells, profile);
+    let mut bare = Bare::new(profile);
+    let mut small = Small::new(rng, profile);
     let (mut calls, mut seen, mut fed, mut counts) = (Vec::new(), Vec::new(), Vec::new(), Vec::new());
     for number in 0..rng.from_to(2, 6) as u32 {
         let told = if rng.percent(70) {
             let all = small.frames(rng, 4);
-            let bytes = bytes_of(number, &all);
+            let bytes = bytes_of(profile, number, &all, 0);
             let text = arg(all.iter().map(frame));
             calls.push(format!("receive {text}"));
             match r.receive(&bytes) {
@@ -170,7 +177,8 @@ fn cells_example(rng: &mut Rng, name: &str) -> String {
     }
     let line = format!("line.seen {} {}", arg(&counts), arg(bare.line.iter().map(message)));
     format!(
-        "pub {name} :\n    (run {cells} ({})\n    ≡ {})\n    × (line.run ({})\n    ≡ {line})\nunfolding run line.run\n{name} = (refl, refl)\n",
+        "pub {name} :\n    (runAs {profile:?} {cells} ({})\n    ≡ {})\n    × (line.runAs {profile:?} ({})\n    ≡ {line})\n\
+         unfolding run runAs line.runAs\n{name} = (refl, refl)\n",
         lines(&calls),
         lines(&seen),
         lines(&fed)
@@ -201,10 +209,11 @@ fn small_datagram(rng: &mut Rng, small: &mut Small, r: &Receiver) -> Vec<u8> {
         _ => low,
     };
     let mut all = small.frames(rng, 3);
-    if let Some(f) = all.iter_mut().find(|f| f.fields().reliable).filter(|_| rng.percent(10)) {
+    if let Some(f) = all.iter_mut().find(|f| reliable(f.kind)).filter(|_| rng.percent(10)) {
         f.reliable = r.reliables.low + REACH + rng.below(2) as u32;
     }
-    let mut d = bytes_of(number, &all);
+    let inexact = rng.pick(&[0, 0, 1, 4, 7]);
+    let mut d = bytes_of(small.profile, number, &all, inexact);
     match rng.below(16) {
         0 => d.truncate(rng.below(d.len())),
         1 => d.extend([0x60, 0, 8]),
@@ -248,8 +257,9 @@ fn bytes_call(rng: &mut Rng, small: &mut Small, r: &mut Receiver) -> (String, St
 /// Bytes on a receiver: every call's answer and the whole state after it.
 fn bytes_example(rng: &mut Rng, name: &str) -> String {
     let cells = rng.from_to(1, 4);
-    let mut r = Receiver::new(cells);
-    let mut small = Small::new(rng);
+    let profile = rng.pick(&PROFILES);
+    let mut r = Receiver::new(cells, profile);
+    let mut small = Small::new(rng, profile);
     let (mut calls, mut seen) = (Vec::new(), Vec::new());
     for _ in 0..rng.from_to(2, 6) {
         let (call, told) = bytes_call(rng, &mut small, &mut r);
@@ -259,7 +269,7 @@ fn bytes_example(rng: &mut Rng, name: &str) -> String {
         seen.push(format!("saw {told} {lows} {} {nexts} {memories} {}", arg(&r.unsent), arg(r.cells.iter().map(slot))));
         calls.push(call);
     }
-    format!("pub {name} :\n    run {cells} ({})\n    ≡ {}\nunfolding run\n{name} = refl\n", lines(&calls), lines(&seen))
+    format!("pub {name} :\n    run {profile:?} {cells} ({})\n    ≡ {}\nunfolding run\n{name} = refl\n", lines(&calls), lines(&seen))
 }
 
 /// A random field of a random cell is changed.
@@ -286,11 +296,12 @@ fn spoil(rng: &mut Rng, cells: &mut [Cell]) {
 
 /// A state that calls lead to, and what becomes of it where fields are changed: sound or not.
 fn sound_example(rng: &mut Rng, name: &str) -> String {
-    let mut r = Receiver::new(rng.from_to(2, 6));
-    let mut small = Small::new(rng);
+    let profile = rng.pick(&PROFILES);
+    let mut r = Receiver::new(rng.from_to(2, 6), profile);
+    let mut small = Small::new(rng, profile);
     for number in 0..rng.from_to(3, 8) as u32 {
         let all = small.frames(rng, 4);
-        let _ = r.receive(&bytes_of(number, &all));
+        let _ = r.receive(&bytes_of(profile, number, &all, 0));
     }
     let mut states = Vec::new();
     let next = rng.pick(&[0, 0, 1]);
@@ -310,7 +321,7 @@ fn sound_example(rng: &mut Rng, name: &str) -> String {
 fn values_example(rng: &mut Rng, name: &str) -> String {
     let mut states = Vec::new();
     for _ in 0..4 {
-        let mut r = Receiver::new(1);
+        let mut r = Receiver::new(1, Profile::Console);
         let channel = rng.pick(&[0, 1, 30, CHANNELS as usize - 1]);
         let near_top = [0, 1, NUMBERS - 1, NUMBERS];
         let beyond = NUMBERS + 1;
@@ -321,11 +332,13 @@ fn values_example(rng: &mut Rng, name: &str) -> String {
         // kept as the number plus 1
         r.newest[channel] = limit(rng, 15).checked_sub(1);
         r.newest[MEMORIES - 1] = limit(rng, 15).checked_sub(1);
+        r.profile = if rng.percent(12) { rng.pick(&[2, 3, 256, u32::MAX]) } else { rng.below(2) as u32 };
         r.unsent = (0..rng.below(3)).map(|_| rng.pick(&[0, 1, 2, 2, NUMBERS - 1])).collect();
         let verdict = if sound_values(&r) { "true" } else { "false" };
         let lows = format!("{} {}", r.datagrams.low, r.reliables.low);
         let at = format!("{channel} {} {}", r.next[channel], stored(r.newest[channel]));
-        states.push(format!("(soundValues {lows} {at} {} {} ≡ {verdict})", stored(r.newest[MEMORIES - 1]), arg(&r.unsent)));
+        let own = format!("{} {}", stored(r.newest[MEMORIES - 1]), r.profile);
+        states.push(format!("(soundValues {lows} {at} {own} {} ≡ {verdict})", arg(&r.unsent)));
     }
     let proofs = vec!["refl"; states.len()].join(", ");
     format!("pub {name} :\n    {}\nunfolding run soundValues\n{name} = ({proofs})\n", states.join("\n    × "))
@@ -333,16 +346,18 @@ fn values_example(rng: &mut Rng, name: &str) -> String {
 
 const CELLS_HEAD: &str = "use mathlib.Core.Path.{_≡_, refl}
 use mathlib.Core.List.{List, [], _∷_}
+use Rattle.reliability.specs.declared.Profile.the-variants.{Console, Cpp}
 use Rattle.bare.proofs.Shown as line
 use Rattle.bare.proofs.Shown.{msg}
 use Rattle.cells.specs.Cell.{emptySlot}
-use Rattle.cells.proofs.Shown.{slot, receive, take, gave, took, refused, saw, run}
+use Rattle.cells.proofs.Shown.{slot, receive, take, gave, took, refused, saw, run, runAs}
 use Rattle.examples.proofs.Shown.{whole, part}
 ";
 
 const BYTES_HEAD: &str = "use mathlib.Core.Path.{_≡_, refl}
 use mathlib.Core.List.{List, [], _∷_}
 use lib.ListN.{replicate}
+use Rattle.reliability.specs.declared.Profile.the-variants.{Console, Cpp}
 use Rattle.cells.specs.Cell.{emptySlot}
 use Rattle.cells.proofs.Shown.{slot}
 use Rattle.receiver.specs.Calls.{receive, take-with, write-unsent, write-missing}
@@ -373,7 +388,11 @@ pub fn file(what: &str, seed: u64, n: u64) -> Option<String> {
         ),
         "bytes" => ("bytes on a receiver, with what it keeps after every call", BYTES_HEAD, bytes_example),
         "sound" => ("states that calls lead to, and the same with fields changed: sound or not", SOUND_HEAD, sound_example),
-        "values" => ("a receiver's own values, sound or not: lows, a next, memories and unsent numbers", VALUES_HEAD, values_example),
+        "values" => (
+            "a receiver's own values, sound or not: lows, a next, memories, profile and unsent numbers",
+            VALUES_HEAD,
+            values_example,
+        ),
         _ => return None,
     };
     let mut text = format!("-- Random examples: {about}.\n-- Made by `model examples {what} {seed} {n}` (folder model/), an independent model of document 01; here they are computed.\n-- Assumes nothing.\n{head}");

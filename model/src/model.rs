@@ -1,7 +1,7 @@
-//! The receiver of document 01 with its cells, and document 02's request 1; written from their sentences alone, nothing here comes from
-//! crates/.
+//! The receiver of document 01 with its cells, and document 02's requests 1 and 2; written from their sentences alone, nothing here comes
+//! from crates/.
 use crate::window::Window;
-use crate::wire::{self, Frame};
+use crate::wire::{self, Frame, Profile};
 
 pub const CHANNELS: u8 = 32;
 pub const MAX_FRAGS: u32 = 1024;
@@ -69,17 +69,22 @@ pub enum Fate {
 
 pub const FATES: usize = 10;
 
+/// Frames by kind and fate, for each profile.
+pub type Fates = [[[u64; FATES]; 8]; 2];
+
 #[derive(Clone)]
 pub struct Receiver {
+    /// The profile's number: "keep the profile as a number whose other values are unsound".
+    pub profile: u32,
     pub datagrams: Window,
     pub reliables: Window,
     pub next: [u32; CHANNELS as usize],
-    /// The highest sequence numbers made ready: by kind 1 on each channel, then by kind 4.
+    /// The highest sequence numbers made ready: by kind 1 (in C++ by kind 4 too) on each channel, then by kind 4 of a console.
     pub newest: [Option<u32>; MEMORIES],
     pub unsent: Vec<u32>,
     pub cells: Vec<Cell>,
-    /// Frames by kind and fate, over the accepted datagrams.
-    pub fates: [[u64; FATES]; 8],
+    /// Over the accepted datagrams.
+    pub fates: Fates,
 }
 
 /// "Kinds 3 and 7" go through a channel.
@@ -88,11 +93,11 @@ pub fn ordered(kind: u8) -> bool {
 }
 
 /// "each channel remembers the highest sequence number it made ready by kind 1 .. Kind 4 has no channel and gets one such memory for the
-/// whole receiver": which memory a frame's message goes by.
-pub fn memory(kind: u8, channel: u8) -> Option<usize> {
-    match kind {
-        1 => Some(channel as usize),
-        4 => Some(MEMORIES - 1),
+/// whole receiver"; in C++ "Kind 4 then uses its channel's memory": which memory a frame's message goes by.
+pub fn memory(profile: Profile, kind: u8, channel: u8) -> Option<usize> {
+    match (kind, profile) {
+        (1, _) | (4, Profile::Cpp) => Some(channel as usize),
+        (4, Profile::Console) => Some(MEMORIES - 1),
         _ => None,
     }
 }
@@ -104,16 +109,22 @@ pub fn over_limit(f: &Frame) -> bool {
 }
 
 impl Receiver {
-    pub fn new(cells: usize) -> Receiver {
+    pub fn new(cells: usize, profile: Profile) -> Receiver {
         Receiver {
+            profile: profile.number(),
             datagrams: Window::default(),
             reliables: Window::default(),
             next: [0; CHANNELS as usize],
             newest: [None; MEMORIES],
             unsent: Vec::new(),
             cells: vec![Cell::default(); cells],
-            fates: [[0; FATES]; 8],
+            fates: [[[0; FATES]; 8]; 2],
         }
+    }
+
+    /// The profile that it was made for.
+    pub fn made_for(&self) -> Profile {
+        Profile::of(self.profile).expect("a sound receiver")
     }
 
     /// "Receive": a refusal's number, or what the answer reports. A refusal leaves the receiver as it was.
@@ -133,7 +144,7 @@ impl Receiver {
         if self.unsent.len() >= UNSENT {
             return Err(6);
         }
-        let (frames, left) = wire::frames(&datagram[4..]);
+        let (frames, left) = wire::frames(self.made_for(), &datagram[4..]);
         self.all_within_reach(&frames)?;
         let mut pass = Pass::over(self.clone());
         for f in &frames {
@@ -150,7 +161,7 @@ impl Receiver {
     /// "7 a reliable number, at its frame's turn, above low + 2,048": the window alone decides it, before 8.
     fn all_within_reach(&self, frames: &[Frame]) -> Result<(), u8> {
         let mut window = self.reliables.clone();
-        for f in frames.iter().filter(|f| f.fields().reliable) {
+        for f in frames.iter().filter(|f| wire::reliable(f.kind)) {
             if window.insert(f.reliable) == Err(5) {
                 return Err(7);
             }
@@ -205,6 +216,7 @@ impl Receiver {
 /// "A datagram's frames, in order": a receiver on its way through them.
 struct Pass {
     receiver: Receiver,
+    profile: Profile,
     /// The cells unused before the datagram and not taken in it; the lowest is the last.
     unused: Vec<usize>,
     turn: u32,
@@ -222,7 +234,7 @@ impl Pass {
     fn over(receiver: Receiver) -> Pass {
         let unused = (0..receiver.cells.len()).rev().filter(|i| receiver.cells[*i].used == Use::Unused).collect();
         let turn = receiver.cells.iter().map(|c| c.turn + 1).max().unwrap_or(0);
-        Pass { receiver, unused, turn, ready: 0, dropped: 0 }
+        Pass { profile: receiver.made_for(), receiver, unused, turn, ready: 0, dropped: 0 }
     }
 
     /// The four steps on one frame. 8 is the only refusal left.
@@ -230,12 +242,12 @@ impl Pass {
         let fate = self.steps(f)?;
         let dropped = [Fate::AcceptedBefore, Fate::OverLimit, Fate::PieceRefused, Fate::Late, Fate::JoinedDropped];
         self.dropped += dropped.contains(&fate) as u32;
-        self.receiver.fates[f.kind as usize][fate as usize] += 1;
+        self.receiver.fates[self.profile as usize][f.kind as usize][fate as usize] += 1;
         Ok(())
     }
 
     fn steps(&mut self, f: &Frame) -> Result<Fate, u8> {
-        if f.fields().reliable && self.receiver.reliables.insert(f.reliable).is_err() {
+        if wire::reliable(f.kind) && self.receiver.reliables.insert(f.reliable).is_err() {
             return Ok(Fate::AcceptedBefore);
         }
         if over_limit(f) {
@@ -253,7 +265,7 @@ impl Pass {
             return self.ordered(f);
         }
         // "a frame or joined message of kind 1 at or below it is dropped in step 4 .. The first is always made ready."
-        let newest = memory(f.kind, f.channel).and_then(|m| self.receiver.newest[m]);
+        let newest = memory(self.profile, f.kind, f.channel).and_then(|m| self.receiver.newest[m]);
         if newest.is_some_and(|n| f.sequence <= n) {
             Channel::Drop
         } else {
@@ -276,7 +288,7 @@ impl Pass {
 
     /// The frame's message is made ready: its sequence number, if its kind is sequenced, is remembered.
     fn remember(&mut self, f: &Frame) {
-        if let Some(m) = memory(f.kind, f.channel) {
+        if let Some(m) = memory(self.profile, f.kind, f.channel) {
             self.receiver.newest[m] = Some(f.sequence);
         }
     }

@@ -1,7 +1,7 @@
 //! What the programs `trace` and `calls` must print, and their inputs as lists of items.
 use crate::model::{Report, CELL_BYTES};
 use crate::session::Session;
-use crate::wire;
+use crate::wire::{self, Profile};
 
 /// "Program `trace` (32 cells)"
 pub const TRACE_CELLS: usize = 32;
@@ -48,6 +48,16 @@ pub fn with_length(d: &[u8]) -> Vec<u8> {
 /// A call of receive as `calls` reads it.
 pub fn receive_item(d: &[u8]) -> Vec<u8> {
     [vec![0], with_length(d)].concat()
+}
+
+/// A new receiver.
+pub fn new_item(profile: Profile) -> Vec<u8> {
+    other_item(4, profile.number() as usize)
+}
+
+/// The profile of the receiver that an item makes, if it makes one.
+pub fn made_by(item: &[u8]) -> Option<Profile> {
+    (item[0] == 4).then(|| Profile::of(big16(&item[1..]) as u32))?
 }
 
 /// Another call: its byte and the length of its buffer or output.
@@ -123,16 +133,21 @@ pub fn call_line(session: &mut Session, item: &[u8]) -> String {
             Err(number) => format!("t {number}\n"),
         },
         2 => written('u', session.write_unsent(n)),
-        _ => written('m', session.write_missing(n)),
+        3 => written('m', session.write_missing(n)),
+        _ => {
+            session.renew(made_by(item).expect("a call that makes a receiver"));
+            "n 0\n".to_string()
+        }
     }
 }
 
-/// How many bytes the first call has; None where it is cut or no call.
+/// How many bytes the first call has; None where it is cut or no call ("above 1 ends the list").
 fn call_item(input: &[u8]) -> Option<usize> {
     let head = input.get(..3)?;
     let size = match head[0] {
         0 => 3 + big16(&head[1..]),
         1..=3 => 3,
+        4 if made_by(head).is_some() => 3,
         _ => return None,
     };
     (size <= input.len()).then_some(size)

@@ -1,7 +1,7 @@
 //! A sender that keeps to the rules: numbers its messages, splits long ones, packs frames into datagrams.
 use crate::model::{memory, ordered, MEMORIES};
 use crate::rng::Rng;
-use crate::wire::{frame_bytes, little24, Frame, Piece, KINDS};
+use crate::wire::{frame_bytes, little24, reliable, Frame, Piece, Profile};
 
 pub const MAX_DATAGRAM: usize = 1500;
 
@@ -59,6 +59,7 @@ pub const ORDERED: Style =
     Style { kinds: &[3, 7], channels: &[0, 0, 0, 31], lengths: &[0, 1, 5], split: 15, pieces: 3, chunks: &[1, 2], ids: 4, per_datagram: 4 };
 
 pub struct Sender {
+    pub profile: Profile,
     pub number: u32,
     pub reliable: u32,
     /// The next sequence number of each memory.
@@ -67,16 +68,14 @@ pub struct Sender {
     pub id: u16,
 }
 
-impl Default for Sender {
-    fn default() -> Sender {
-        Sender { number: 0, reliable: 0, sequences: [0; MEMORIES], next: [0; 32], id: 0 }
-    }
-}
-
 impl Sender {
+    pub fn new(profile: Profile) -> Sender {
+        Sender { profile, number: 0, reliable: 0, sequences: [0; MEMORIES], next: [0; 32], id: 0 }
+    }
+
     fn frame(&mut self, like: &Frame, piece: Option<Piece>, body: Vec<u8>) -> Frame {
         let mut f = Frame { piece, body, ..like.clone() };
-        if f.fields().reliable {
+        if reliable(f.kind) {
             f.reliable = self.reliable;
             self.reliable += 1;
         }
@@ -99,16 +98,16 @@ impl Sender {
     /// The frames of one more message.
     pub fn message(&mut self, rng: &mut Rng, style: &Style) -> Vec<Frame> {
         let kind = rng.pick(style.kinds);
-        let fields = &KINDS[kind as usize];
+        let fields = self.profile.fields(kind);
         let mut like = Frame { kind, reliable: 0, sequence: 0, order: 0, channel: 0, piece: None, body: Vec::new() };
         if fields.order {
             like.channel = rng.pick(style.channels);
             let next = &mut self.next[like.channel as usize];
             like.order = *next;
-            // kind 1 passes its channel by: a number of its own would leave a gap
+            // kinds 1 and 4 pass their channel by: a number of their own would leave a gap
             *next += ordered(kind) as u32;
         }
-        if let Some(m) = memory(kind, like.channel) {
+        if let Some(m) = memory(self.profile, kind, like.channel) {
             like.sequence = self.sequence(rng, m);
         }
         if !rng.percent(style.split) {
@@ -132,13 +131,14 @@ impl Sender {
         datagram(0x84, self.number - 1, frames)
     }
 
-    /// Packs frames into datagrams, each of some frames and within the limit.
+    /// Packs frames into datagrams, each of some frames and within the limit. Some hosts' lengths are no multiples of 8.
     pub fn pack(&mut self, rng: &mut Rng, style: &Style, frames: &[Frame]) -> Vec<Vec<u8>> {
         let mut all = Vec::new();
         let mut together: Vec<Vec<u8>> = Vec::new();
         let mut most = rng.from_to(1, style.per_datagram);
+        let inexact = rng.percent(25);
         for f in frames {
-            let bytes = frame_bytes(f, 0, 0);
+            let bytes = frame_bytes(self.profile, f, 0, if inexact { rng.next() as u16 } else { 0 });
             let size: usize = together.iter().map(|b| b.len()).sum();
             if together.len() >= most || 4 + size + bytes.len() > MAX_DATAGRAM {
                 all.push(self.datagram(&together));

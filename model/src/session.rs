@@ -2,16 +2,22 @@
 use crate::bare::Bare;
 use crate::model::{Message, Receiver, Report};
 use crate::sound::sound;
+use crate::wire::Profile;
 use std::collections::BTreeMap;
 
 /// A joining buffer that no message outgrows.
 const PLENTY: usize = 1 << 20;
 
 /// The bare receiver fed with the accepted datagrams, and what the takes handed out.
-#[derive(Default)]
 struct Checks {
     bare: Bare,
     handed: Vec<Message>,
+}
+
+impl Checks {
+    fn new(profile: Profile) -> Checks {
+        Checks { bare: Bare::new(profile), handed: Vec::new() }
+    }
 }
 
 pub struct Session {
@@ -25,15 +31,28 @@ pub struct Session {
 }
 
 impl Session {
+    /// With a console receiver.
     pub fn new(cells: usize, checked: bool) -> Session {
         Session {
-            receiver: Receiver::new(cells),
-            checks: checked.then(Checks::default),
+            receiver: Receiver::new(cells, Profile::Console),
+            checks: checked.then(|| Checks::new(Profile::Console)),
             answers: BTreeMap::new(),
             longest_missing: 0,
             longest_unsent: 0,
             longest_message: 0,
         }
+    }
+
+    /// A new receiver over the same cells: another list begins, and the one before it ends.
+    pub fn renew(&mut self, profile: Profile) {
+        self.end();
+        let cells = self.receiver.cells.len();
+        self.receiver = Receiver { fates: self.receiver.fates, ..Receiver::new(cells, profile) };
+        if let Some(checks) = &mut self.checks {
+            *checks = Checks::new(profile);
+            assert!(sound(&self.receiver), "the model's receiver is not sound");
+        }
+        self.count('n', None);
     }
 
     pub fn count(&mut self, letter: char, number: Option<u8>) {

@@ -1,7 +1,7 @@
 //! A smaller input on which a program and the model still differ.
 use crate::compare::differs;
-use crate::programs::{Input, Program};
-use crate::wire::{frame_bytes, frames};
+use crate::programs::{made_by, Input, Program};
+use crate::wire::{frame_bytes, frames, Profile};
 
 /// Where in an item its datagram begins, if it has one.
 fn datagram_at(input: &Input, item: &[u8]) -> Option<usize> {
@@ -10,6 +10,12 @@ fn datagram_at(input: &Input, item: &[u8]) -> Option<usize> {
         Program::Calls if item[0] == 0 => Some(3),
         Program::Calls => None,
     }
+}
+
+/// The profile of the receiver that item i is a call on.
+fn profile_at(input: &Input, i: usize) -> Profile {
+    let made = |item: &Vec<u8>| if input.program == Program::Calls { made_by(item) } else { None };
+    input.items[..i].iter().rev().find_map(made).unwrap_or(Profile::Console)
 }
 
 /// Leaves out runs of items, long ones first, while the difference stays.
@@ -34,8 +40,8 @@ fn fewer_items(command: &str, input: &mut Input) {
 }
 
 /// The datagram with frame k left out, or with its body left out.
-fn without(datagram: &[u8], k: usize, body_only: bool) -> Vec<u8> {
-    let (all, left) = frames(&datagram[4..]);
+fn without(profile: Profile, datagram: &[u8], k: usize, body_only: bool) -> Vec<u8> {
+    let (all, left) = frames(profile, &datagram[4..]);
     let mut out = datagram[..4].to_vec();
     for (i, f) in all.iter().enumerate() {
         let mut f = f.clone();
@@ -45,7 +51,7 @@ fn without(datagram: &[u8], k: usize, body_only: bool) -> Vec<u8> {
             }
             f.body.clear();
         }
-        out.extend(frame_bytes(&f, 0, 0));
+        out.extend(frame_bytes(profile, &f, 0, 0));
     }
     out.extend(&datagram[datagram.len() - left..]);
     out
@@ -55,14 +61,15 @@ fn without(datagram: &[u8], k: usize, body_only: bool) -> Vec<u8> {
 fn fewer_frames(command: &str, input: &mut Input) {
     for i in 0..input.items.len() {
         let Some(at) = datagram_at(input, &input.items[i]) else { continue };
+        let profile = profile_at(input, i);
         for body_only in [false, true] {
             let mut k = 0;
             loop {
                 let datagram = input.items[i][at..].to_vec();
-                if datagram.len() < 4 || k >= frames(&datagram[4..]).0.len() {
+                if datagram.len() < 4 || k >= frames(profile, &datagram[4..]).0.len() {
                     break;
                 }
-                let shorter = without(&datagram, k, body_only);
+                let shorter = without(profile, &datagram, k, body_only);
                 let mut tried = input.clone();
                 let length = (shorter.len() as u16).to_be_bytes();
                 tried.items[i] = [&input.items[i][..at - 2], &length, &shorter].concat();

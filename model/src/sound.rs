@@ -1,7 +1,8 @@
 //! Document 01's sentence "Sound means no more than this", clause by clause, over the model's receiver. A memory of a newest sequence
-//! number is a value too: it obeys the limit on numbers.
+//! number is a value too: it obeys the limit on numbers, under either profile. So is the profile: 0 or 1.
 use crate::model::{Cell, Receiver, Use, CELL_BYTES, CHANNELS, MAX_FRAGS, UNSENT};
 use crate::window::{Window, NUMBERS, REACH};
+use crate::wire::Profile;
 
 /// The key that makes cells one message: an open one's id, a held one's channel and order number, a ready one's turn.
 fn key(c: &Cell) -> (u8, u32, u32) {
@@ -49,7 +50,8 @@ pub fn sound_cells(next: &[u32], cells: &[Cell]) -> bool {
 /// "only the rules on values and unsent numbers"
 pub fn sound_values(r: &Receiver) -> bool {
     let differ = r.unsent.iter().enumerate().all(|(i, n)| !r.unsent[..i].contains(n));
-    sound_window(&r.datagrams)
+    Profile::of(r.profile).is_some()
+        && sound_window(&r.datagrams)
         && sound_window(&r.reliables)
         && r.next.iter().all(|n| *n <= NUMBERS)
         && r.newest.iter().flatten().all(|n| *n < NUMBERS)

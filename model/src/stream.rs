@@ -3,7 +3,7 @@ use crate::model::{memory, Cell, Receiver, Use};
 use crate::rng::Rng;
 use crate::sender::{datagram, Sender, Style, IN_PIECES, LEVERS, MAX_DATAGRAM, ORDERED, PLAIN};
 use crate::window::{Window, NUMBERS, REACH};
-use crate::wire::{frame_bytes, Frame, Piece};
+use crate::wire::{frame_bytes, Frame, Piece, Profile};
 use std::collections::VecDeque;
 
 #[derive(Clone, Copy, PartialEq, Debug)]
@@ -39,6 +39,8 @@ pub const MODES: [Mode; 12] = [
 
 pub struct Stream {
     pub mode: Mode,
+    /// The senders' profile; a receiver may have been made for the other.
+    profile: Profile,
     planned: VecDeque<Vec<u8>>,
     sent: Vec<Vec<u8>>,
 }
@@ -80,8 +82,8 @@ fn wild_sequence(rng: &mut Rng, newest: Option<u32>) -> u32 {
     }
 }
 
-fn wild_frame(rng: &mut Rng, live: &Receiver, reliable: u32, pieces: usize) -> Vec<u8> {
-    let kind = rng.pick(&[0, 1, 2, 2, 3, 3, 3, 4, 5, 6, 7, 7]);
+fn wild_frame(rng: &mut Rng, profile: Profile, live: &Receiver, reliable: u32, pieces: usize) -> Vec<u8> {
+    let kind = rng.pick(&[0, 1, 2, 2, 3, 3, 3, 4, 4, 5, 6, 7, 7]);
     let channel = if rng.percent(10) { rng.pick(&[30, 31, 32, 33, 255]) } else { rng.pick(&[0, 0, 1]) };
     let next = live.next[channel.min(31) as usize];
     let order = match rng.below(10) {
@@ -91,18 +93,18 @@ fn wild_frame(rng: &mut Rng, live: &Receiver, reliable: u32, pieces: usize) -> V
         4 => rng.pick(&[NUMBERS - 1, NUMBERS - 2, NUMBERS / 2, 256, 65536]),
         _ => next,
     };
-    let newest = memory(kind, channel.min(31)).and_then(|m| live.newest[m]);
+    let newest = memory(profile, kind, channel.min(31)).and_then(|m| live.newest[m]);
     let sequence = wild_sequence(rng, newest);
     let piece = if rng.percent(pieces) { Some(wild_piece(rng)) } else { None };
     let length = rng.pick(&[0, 0, 1, 1, 2, 7, 33, 100, 400]);
     let f = Frame { kind, reliable, sequence, order, channel, piece, body: rng.bytes(length) };
     let (flag_bits, length_bits) = if rng.percent(20) { (rng.next() as u8, rng.next() as u16) } else { (0, 0) };
-    frame_bytes(&f, flag_bits, length_bits)
+    frame_bytes(profile, &f, flag_bits, length_bits)
 }
 
-/// A frame that meets an open message: one more of its pieces, or a whole message with its channel, order and sequence number (or the
-/// sequence number after it), which makes it late.
-fn follow(rng: &mut Rng, live: &Receiver, reliable: u32) -> Option<Vec<u8>> {
+/// A frame that meets an open message: one more of its pieces, perhaps with another order number or channel; or a whole message with its
+/// channel, order and sequence number (or the sequence number after it), which makes it late.
+fn follow(rng: &mut Rng, profile: Profile, live: &Receiver, reliable: u32) -> Option<Vec<u8>> {
     let open: Vec<&Cell> = live.cells.iter().filter(|c| c.used == Use::Open).collect();
     if open.is_empty() {
         return None;
@@ -112,12 +114,19 @@ fn follow(rng: &mut Rng, live: &Receiver, reliable: u32) -> Option<Vec<u8>> {
     let piece = if rng.percent(60) { Some(Piece { count: c.count, id: c.id, index: lacking }) } else { None };
     let later = (piece.is_none() && rng.percent(50)) as u32;
     let sequence = (c.sequence + later).min(NUMBERS - 1);
-    let f = Frame { kind: c.kind, reliable, sequence, order: c.order, channel: c.channel, piece, body: rng.bytes(1) };
-    Some(frame_bytes(&f, 0, 0))
+    let (order, channel) = match rng.below(16) {
+        0 => (c.order ^ 1, c.channel),
+        1 => (c.order, c.channel ^ 1),
+        _ => (c.order, c.channel),
+    };
+    // in C++ the channel's other sequenced kind goes by the same memory
+    let kind = if piece.is_none() && (c.kind == 1 || c.kind == 4) { rng.pick(&[1, 4]) } else { c.kind };
+    let f = Frame { kind, reliable, sequence, order, channel, piece, body: rng.bytes(1) };
+    Some(frame_bytes(profile, &f, 0, 0))
 }
 
 /// Any fields, most of them near where they matter.
-fn wild(rng: &mut Rng, live: &Receiver) -> Vec<u8> {
+fn wild(rng: &mut Rng, profile: Profile, live: &Receiver) -> Vec<u8> {
     if rng.percent(3) {
         let length = rng.pick(&[0, 1, 2, 3, 4, 5, 100, 1500, 1501, 4000]);
         return rng.bytes(length);
@@ -132,15 +141,15 @@ fn wild(rng: &mut Rng, live: &Receiver) -> Vec<u8> {
         if rng.percent(90) {
             let _ = seen.insert(reliable);
         }
-        let following = if rng.percent(30) { follow(rng, live, reliable) } else { None };
-        frames.push(following.unwrap_or_else(|| wild_frame(rng, live, reliable, pieces)));
+        let following = if rng.percent(30) { follow(rng, profile, live, reliable) } else { None };
+        frames.push(following.unwrap_or_else(|| wild_frame(rng, profile, live, reliable, pieces)));
     }
     let first = if rng.percent(5) { rng.pick(&[0x7F, 0x80, 0x8D, 0x8E, 0xC0, 0xA0, 0]) } else { 0x84 };
     datagram(first, near(rng, &live.datagrams, beyond), &frames)
 }
 
 /// Many reliable numbers at once, spent by frames of channel 32, so that the windows' edges move fast; and jumps to the last places.
-fn edge(rng: &mut Rng, live: &Receiver) -> Vec<u8> {
+fn edge(rng: &mut Rng, profile: Profile, live: &Receiver) -> Vec<u8> {
     let window = &live.reliables;
     let from = match rng.below(5) {
         0 => window.low + REACH - rng.below(150) as u32,
@@ -148,10 +157,12 @@ fn edge(rng: &mut Rng, live: &Receiver) -> Vec<u8> {
         2 => window.low + rng.below(REACH as usize) as u32,
         _ => window.low,
     };
-    let how_many = rng.pick(&[1, 2, 20, 148, 149]);
+    // kind 4 has a channel in C++ alone; its frames are longer
+    let kind = if profile == Profile::Cpp && rng.percent(50) { 4 } else { 3 };
+    let how_many = if kind == 4 { rng.pick(&[1, 2, 20, 114, 115]) } else { rng.pick(&[1, 2, 20, 148, 149]) };
     let step = rng.pick(&[1, 1, 1, 2]);
-    let spent = |reliable| Frame { kind: 3, reliable, sequence: 0, order: 0, channel: 32, piece: None, body: Vec::new() };
-    let frames: Vec<Vec<u8>> = (0..how_many).map(|i| frame_bytes(&spent((from + i * step).min(NUMBERS - 1)), 0, 0)).collect();
+    let spent = |reliable| Frame { kind, reliable, sequence: 0, order: 0, channel: 32, piece: None, body: Vec::new() };
+    let frames: Vec<Vec<u8>> = (0..how_many).map(|i| frame_bytes(profile, &spent((from + i * step).min(NUMBERS - 1)), 0, 0)).collect();
     datagram(0x84, near(rng, &live.datagrams, 10), &frames)
 }
 
@@ -205,18 +216,38 @@ fn again(rng: &mut Rng, sender: &mut Sender, style: &Style, frames: &[Frame], al
 fn overtake(rng: &mut Rng, sender: &mut Sender, frames: &mut Vec<Frame>) {
     for _ in 0..rng.below(frames.len()) / 4 {
         let at = rng.below(frames.len());
-        if frames[at].piece.is_some() && (frames[at].fields().order || frames[at].fields().sequence) {
+        let fields = sender.profile.fields(frames[at].kind);
+        if frames[at].piece.is_some() && (fields.order || fields.sequence) {
             let reliable = sender.reliable;
             sender.reliable += 1;
             let sequence = frames[at].sequence + rng.below(2) as u32;
-            let whole = Frame { reliable, sequence, piece: None, body: rng.bytes(1), ..frames[at].clone() };
+            let kind = if fields.sequence && fields.order { rng.pick(&[1, 4]) } else { frames[at].kind };
+            let whole = Frame { kind, reliable, sequence, piece: None, body: rng.bytes(1), ..frames[at].clone() };
             frames.insert(at, whole);
         }
     }
 }
 
-fn planned(rng: &mut Rng, mode: Mode, messages: usize) -> Vec<Vec<u8>> {
-    let mut sender = Sender::default();
+/// Puts pieces among the others that do not agree with them: another count, sequence number, order number or channel.
+fn stray(rng: &mut Rng, sender: &mut Sender, frames: &mut Vec<Frame>) {
+    for _ in 0..rng.below(frames.len()) / 6 {
+        let at = rng.below(frames.len());
+        let Some(piece) = frames[at].piece else { continue };
+        let reliable = sender.reliable;
+        sender.reliable += 1;
+        let mut f = Frame { reliable, body: rng.bytes(2), ..frames[at].clone() };
+        match rng.below(4) {
+            0 => f.piece = Some(Piece { count: piece.count + 1, ..piece }),
+            1 => f.sequence += 1,
+            2 => f.order += 1,
+            _ => f.channel ^= 1,
+        }
+        frames.insert(at, f);
+    }
+}
+
+fn planned(rng: &mut Rng, profile: Profile, mode: Mode, messages: usize) -> Vec<Vec<u8>> {
+    let mut sender = Sender::new(profile);
     let style = &style(rng, mode);
     let mut frames = sender.messages(rng, style, messages);
     let span = rng.pick(&[2, 4, 16, 64]);
@@ -224,11 +255,13 @@ fn planned(rng: &mut Rng, mode: Mode, messages: usize) -> Vec<Vec<u8>> {
         Mode::Pieces => {
             rng.shuffle(&mut frames, span);
             overtake(rng, &mut sender, &mut frames);
+            stray(rng, &mut sender, &mut frames);
         }
         Mode::Levers => {
             let near = rng.pick(&[1, 2, 4, 8]);
             rng.shuffle(&mut frames, near);
             overtake(rng, &mut sender, &mut frames);
+            stray(rng, &mut sender, &mut frames);
         }
         Mode::Crowded => frames.reverse(),
         _ => {}
@@ -271,24 +304,25 @@ fn full(rng: &mut Rng) -> Vec<Vec<u8>> {
 }
 
 impl Stream {
-    pub fn new(rng: &mut Rng, mode: Mode, messages: usize) -> Stream {
+    pub fn new(rng: &mut Rng, profile: Profile, mode: Mode, messages: usize) -> Stream {
         let planned = match mode {
             Mode::Wild | Mode::Edges => Vec::new(),
             Mode::Full => full(rng),
-            _ => planned(rng, mode, messages),
+            _ => planned(rng, profile, mode, messages),
         };
-        Stream { mode, planned: planned.into(), sent: Vec::new() }
+        Stream { mode, profile, planned: planned.into(), sent: Vec::new() }
     }
 
     /// The next datagram; a planned stream ends.
     pub fn next(&mut self, rng: &mut Rng, live: &Receiver) -> Option<Vec<u8>> {
+        let profile = self.profile;
         let d = match self.mode {
-            Mode::Wild => wild(rng, live),
-            Mode::Edges if rng.percent(70) => edge(rng, live),
-            Mode::Edges => wild(rng, live),
+            Mode::Wild => wild(rng, profile, live),
+            Mode::Edges if rng.percent(70) => edge(rng, profile, live),
+            Mode::Edges => wild(rng, profile, live),
             Mode::Mixed => match rng.below(10) {
-                0 => edge(rng, live),
-                1 | 2 => wild(rng, live),
+                0 => edge(rng, profile, live),
+                1 | 2 => wild(rng, profile, live),
                 3 if !self.sent.is_empty() => self.sent[rng.below(self.sent.len())].clone(),
                 4 if !self.sent.is_empty() => {
                     let old = rng.below(self.sent.len());

@@ -1,7 +1,8 @@
 //! What a comparison covered.
 use crate::gen::mode_of;
-use crate::model::FATES;
+use crate::model::{Fates, FATES};
 use crate::programs::{expected, Input, Program};
+use crate::wire::PROFILES;
 use std::collections::BTreeMap;
 
 const FATE_NAMES: [&str; FATES] = [
@@ -23,7 +24,7 @@ pub struct Tally {
     bytes: usize,
     trace: BTreeMap<u8, u64>,
     calls: BTreeMap<(char, u8), u64>,
-    fates: [[u64; FATES]; 8],
+    fates: Fates,
     longest: [usize; 3],
 }
 
@@ -40,7 +41,7 @@ impl Tally {
                 *self.trace.entry(*number).or_default() += n;
             }
         }
-        for (sums, more) in self.fates.iter_mut().zip(run.receiver.fates) {
+        for (sums, more) in self.fates.iter_mut().flatten().zip(run.receiver.fates.iter().flatten()) {
             for (sum, n) in sums.iter_mut().zip(more) {
                 *sum += n;
             }
@@ -66,10 +67,12 @@ impl Tally {
         for ((letter, number), n) in &self.calls {
             println!("  {n:7} {letter} {number}");
         }
-        println!("frames of accepted datagrams, by fate, for kinds 0 to 7:");
-        for (fate, name) in FATE_NAMES.iter().enumerate() {
-            let by_kind: Vec<String> = self.fates.iter().map(|kind| format!("{:7}", kind[fate])).collect();
-            println!("  {name:15} {}", by_kind.join(" "));
+        for profile in PROFILES {
+            println!("frames of accepted datagrams, profile {profile:?}, by fate, for kinds 0 to 7:");
+            for (fate, name) in FATE_NAMES.iter().enumerate() {
+                let by_kind: Vec<String> = self.fates[profile as usize].iter().map(|kind| format!("{:7}", kind[fate])).collect();
+                println!("  {name:15} {}", by_kind.join(" "));
+            }
         }
         let [missing, unsent, message] = self.longest;
         println!("longest: missing list {missing}, unsent list {unsent}, message {message} bytes");

@@ -1,13 +1,14 @@
-//! Three long inputs that carry the numbers up to 2^24, compared while they stream: trace with datagram, reliable and order numbers in
-//! step; trace with reliable numbers alone; calls with datagram numbers alone. The first and the last have 2^24 datagrams.
+//! Long inputs that carry the numbers up to 2^24, compared while they stream: trace with datagram, reliable and order numbers in step;
+//! trace with reliable numbers alone; calls with reliable numbers alone, by kind 4 to a C++ receiver; calls with datagram numbers alone. The
+//! first and the last have 2^24 datagrams.
 use crate::gen::other_call;
-use crate::programs::{call_line, receive_item, trace_lines, with_length, Program, TRACE_CELLS};
+use crate::programs::{call_line, new_item, receive_item, trace_lines, with_length, Program, TRACE_CELLS};
 use crate::rng::Rng;
 use crate::sender::{datagram, Sender, Style, PLAIN};
 use crate::session::Session;
 use crate::stream::{Mode, Stream};
 use crate::window::NUMBERS;
-use crate::wire::{frame_bytes, Frame};
+use crate::wire::{frame_bytes, Frame, Profile};
 use std::io::{Read, Write};
 use std::process::{Child, ChildStdin, ChildStdout, Command, Stdio};
 use std::sync::mpsc;
@@ -15,8 +16,9 @@ use std::sync::mpsc;
 /// The last numbers, which do not come in a row.
 const LAST: u32 = 4000;
 
-/// As many reliable numbers as frames of ten bytes fit into a datagram.
+/// As many reliable numbers as frames of ten bytes, or of C++'s kind 4, fit into a datagram.
 const SPENT: u32 = 149;
+const SPENT_CPP: u32 = 115;
 
 /// A program and the model beside it. An item's lines go to the reader before its bytes go to the program, so neither waits for the other.
 struct Feed {
@@ -41,6 +43,17 @@ impl Feed {
         self.count();
     }
 
+    /// A datagram, after which `calls` is told to do what `trace` does: takes all ready and sends the unsent.
+    fn settled(&mut self, d: &[u8]) {
+        self.datagram(d);
+        if self.program == Program::Calls {
+            while self.live.receiver.earliest().is_some() {
+                self.call(&[1, 0xFF, 0xFF]);
+            }
+            self.call(&[2, 0xFF, 0xFF]);
+        }
+    }
+
     fn call(&mut self, item: &[u8]) {
         self.lines += &call_line(&mut self.live, item);
         self.bytes.extend(item);
@@ -63,7 +76,7 @@ impl Feed {
 
     fn wild(&mut self, rng: &mut Rng, how_many: usize) {
         for mode in [Mode::Wild, Mode::Edges] {
-            let mut stream = Stream::new(rng, mode, 0);
+            let mut stream = Stream::new(rng, self.live.receiver.made_for(), mode, 0);
             for _ in 0..how_many {
                 if let Some(d) = stream.next(rng, &self.live.receiver) {
                     self.datagram(&d);
@@ -77,23 +90,28 @@ impl Feed {
     }
 }
 
-/// A whole ordered frame of channel 0 without a body.
-fn ordered(n: u32, channel: u8) -> Vec<u8> {
-    frame_bytes(&Frame { kind: 3, reliable: n, sequence: 0, order: n, channel, piece: None, body: Vec::new() }, 0, 0)
+/// A whole frame of kind 3, or of kind 4 in C++, without a body.
+fn whole(profile: Profile, n: u32, channel: u8) -> Vec<u8> {
+    let (kind, sequence) = if profile == Profile::Cpp { (4, n) } else { (3, 0) };
+    frame_bytes(profile, &Frame { kind, reliable: n, sequence, order: n, channel, piece: None, body: Vec::new() }, 0, 0)
+}
+
+fn ordered(n: u32) -> Vec<u8> {
+    whole(Profile::Console, n, 0)
 }
 
 /// Every number is a datagram's, a reliable and an order number; the last ones come out of order and twice.
 fn in_step(feed: &mut Feed, rng: &mut Rng, below: u32) {
     for n in 0..below - LAST {
-        feed.datagram(&datagram(0x84, n, &[ordered(n, 0)]));
+        feed.datagram(&datagram(0x84, n, &[ordered(n)]));
     }
     let mut last: Vec<u32> = (below - LAST..below).collect();
     rng.shuffle(&mut last, 20);
     for i in 0..last.len() {
-        feed.datagram(&datagram(0x84, last[i], &[ordered(last[i], 0)]));
+        feed.datagram(&datagram(0x84, last[i], &[ordered(last[i])]));
         let before = last[i.saturating_sub(rng.below(50))];
         if rng.percent(20) {
-            feed.datagram(&datagram(0x84, before, &[ordered(before, 0)]));
+            feed.datagram(&datagram(0x84, before, &[ordered(before)]));
         }
     }
     feed.wild(rng, 2000);
@@ -101,15 +119,17 @@ fn in_step(feed: &mut Feed, rng: &mut Rng, below: u32) {
 
 /// Reliable numbers are spent by frames of channel 32; the last ones are a sender's.
 fn reliable_alone(feed: &mut Feed, rng: &mut Rng, below: u32) {
+    let profile = feed.live.receiver.made_for();
+    let spent = if profile == Profile::Cpp { SPENT_CPP } else { SPENT };
     let mut n = 0;
     let mut number = 0;
-    while n + SPENT <= below - LAST {
-        let frames: Vec<Vec<u8>> = (n..n + SPENT).map(|i| ordered(i, 32)).collect();
-        feed.datagram(&datagram(0x84, number, &frames));
-        n += SPENT;
+    while n + spent <= below - LAST {
+        let frames: Vec<Vec<u8>> = (n..n + spent).map(|i| whole(profile, i, 32)).collect();
+        feed.settled(&datagram(0x84, number, &frames));
+        n += spent;
         number += 1;
     }
-    let mut sender = Sender { number, reliable: n, ..Sender::default() };
+    let mut sender = Sender { number, reliable: n, ..Sender::new(profile) };
     let mut all = Vec::new();
     let style = Style { ids: 60_000, ..PLAIN };
     while sender.reliable < below - 100 {
@@ -118,9 +138,15 @@ fn reliable_alone(feed: &mut Feed, rng: &mut Rng, below: u32) {
     }
     rng.shuffle(&mut all, 3);
     for d in all {
-        feed.datagram(&d);
+        feed.settled(&d);
     }
     feed.wild(rng, 2000);
+}
+
+/// The same to a C++ receiver of `calls`.
+fn reliable_cpp(feed: &mut Feed, rng: &mut Rng, below: u32) {
+    feed.call(&new_item(Profile::Cpp));
+    reliable_alone(feed, rng, below);
 }
 
 /// Bare datagrams; the last ones come out of order, with gaps, among writings.
@@ -198,12 +224,13 @@ fn one(name: &str, command: &str, program: Program, below: u32, input: fn(&mut F
     agreed
 }
 
-/// One of the three inputs, with numbers below `below`, which is 2^24 but for trials; None where there is no such input.
+/// One of the inputs, with numbers below `below`, which is 2^24 but for trials; None where there is no such input.
 pub fn compare(which: &str, command: &str, below: u32) -> Option<bool> {
     assert!(LAST < below && below <= NUMBERS);
     match which {
         "step" => Some(one("trace, all numbers in step", command, Program::Trace, below, in_step)),
         "reliable" => Some(one("trace, reliable numbers alone", command, Program::Trace, below, reliable_alone)),
+        "cpp" => Some(one("calls, reliable numbers of kind 4", command, Program::Calls, below, reliable_cpp)),
         "datagram" => Some(one("calls, datagram numbers alone", command, Program::Calls, below, datagrams_alone)),
         _ => None,
     }

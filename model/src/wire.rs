@@ -1,5 +1,50 @@
-//! Document 01's section 'Bytes': frames and acknowledgements.
+//! Document 01's section 'Bytes': frames and acknowledgements; frames under a profile, by document 02's request 2.
 use crate::window::{LIST, NUMBERS};
+
+/// "A receiver, frame reader or frame writer is made for the console profile of document 01 or for this one, and keeps it."
+#[derive(Clone, Copy, PartialEq, Eq, Debug)]
+pub enum Profile {
+    Console,
+    Cpp,
+}
+
+pub const PROFILES: [Profile; 2] = [Profile::Console, Profile::Cpp];
+
+impl Profile {
+    /// 0 console, 1 C++; no other number is a profile's.
+    pub fn of(number: u32) -> Option<Profile> {
+        PROFILES.get(number as usize).copied()
+    }
+
+    pub fn number(self) -> u32 {
+        self as u32
+    }
+
+    pub fn fields(self, kind: u8) -> &'static Fields {
+        match self {
+            Profile::Console => &CONSOLE[kind as usize],
+            Profile::Cpp => &CPP[kind as usize],
+        }
+    }
+
+    /// The bytes of a body of so many bits: "the remainder after dividing by 8 is dropped"; C++ "rounds a bit length up to whole bytes".
+    pub fn body_bytes(self, bits: u32) -> usize {
+        match self {
+            Profile::Console => bits as usize / 8,
+            Profile::Cpp => bits as usize / 8 + (bits % 8 != 0) as usize,
+        }
+    }
+
+    /// A length in bits for so many bytes; `inexact` bits of it are ones that reading drops, or that it rounds away.
+    fn bits(self, bytes: usize, inexact: u16) -> u16 {
+        let exact = (bytes as u16).wrapping_mul(8);
+        match self {
+            Profile::Console => exact | inexact & 7,
+            Profile::Cpp if bytes == 0 => exact,
+            Profile::Cpp => exact.wrapping_sub(inexact & 7),
+        }
+    }
+}
 
 /// "One table of eight rows gives each kind's fields."
 pub struct Fields {
@@ -12,7 +57,7 @@ const fn row(reliable: bool, sequence: bool, order: bool) -> Fields {
     Fields { reliable, sequence, order }
 }
 
-pub const KINDS: [Fields; 8] = [
+const CONSOLE: [Fields; 8] = [
     row(false, false, false),
     row(false, true, true),
     row(true, false, false),
@@ -22,6 +67,23 @@ pub const KINDS: [Fields; 8] = [
     row(false, false, false),
     row(true, false, true),
 ];
+
+/// "It puts an order number and channel after kind 4's sequence number"
+const CPP: [Fields; 8] = [
+    row(false, false, false),
+    row(false, true, true),
+    row(true, false, false),
+    row(true, false, true),
+    row(true, true, true),
+    row(false, false, false),
+    row(false, false, false),
+    row(true, false, true),
+];
+
+/// Kinds with a reliable number, the same under both profiles.
+pub fn reliable(kind: u8) -> bool {
+    CONSOLE[kind as usize].reliable
+}
 
 #[derive(Clone, Copy, PartialEq, Debug)]
 pub struct Piece {
@@ -39,12 +101,6 @@ pub struct Frame {
     pub channel: u8,
     pub piece: Option<Piece>,
     pub body: Vec<u8>,
-}
-
-impl Frame {
-    pub fn fields(&self) -> &'static Fields {
-        &KINDS[self.kind as usize]
-    }
 }
 
 /// The bytes of a slice from its beginning on; None once one is wanted that is not there.
@@ -76,28 +132,28 @@ impl<'a> Reader<'a> {
         }
     }
 
-    fn frame(&mut self) -> Option<Frame> {
+    fn frame(&mut self, profile: Profile) -> Option<Frame> {
         let flags = self.big(1)?;
         let bits = self.big(2)?;
         let kind = (flags >> 5) as u8;
-        let fields = &KINDS[kind as usize];
+        let fields = profile.fields(kind);
         let reliable = self.little_if(fields.reliable, 3)?;
         let sequence = self.little_if(fields.sequence, 3)?;
         let order = self.little_if(fields.order, 3)?;
         let channel = self.little_if(fields.order, 1)? as u8;
         let piece = if flags & 0x10 != 0 { Some(Piece { count: self.big(4)?, id: self.big(2)? as u16, index: self.big(4)? }) } else { None };
-        let body = self.bytes(bits as usize / 8)?.to_vec();
+        let body = self.bytes(profile.body_bytes(bits))?.to_vec();
         Some(Frame { kind, reliable, sequence, order, channel, piece, body })
     }
 }
 
 /// "reading ends before the first frame that doesn't fit; the bytes left are reported": the frames after a datagram's head, and how many bytes are left.
-pub fn frames(after_head: &[u8]) -> (Vec<Frame>, usize) {
+pub fn frames(profile: Profile, after_head: &[u8]) -> (Vec<Frame>, usize) {
     let mut all = Vec::new();
     let mut at = after_head;
     loop {
         let mut reader = Reader(at);
-        match reader.frame() {
+        match reader.frame(profile) {
             None => return (all, at.len()),
             Some(frame) => all.push(frame),
         }
@@ -114,12 +170,11 @@ pub fn number_of(datagram: &[u8]) -> u32 {
     datagram[1] as u32 | (datagram[2] as u32) << 8 | (datagram[3] as u32) << 16
 }
 
-/// A frame's bytes, with flag bits and bits of length that reading drops. Fields are not judged: the generator writes bad ones too.
-pub fn frame_bytes(f: &Frame, flag_bits: u8, length_bits: u16) -> Vec<u8> {
-    let fields = f.fields();
+/// A frame's bytes, with flag bits and bits of length that reading does not see. Fields are not judged: the generator writes bad ones too.
+pub fn frame_bytes(profile: Profile, f: &Frame, flag_bits: u8, length_bits: u16) -> Vec<u8> {
+    let fields = profile.fields(f.kind);
     let mut out = vec![f.kind << 5 | if f.piece.is_some() { 0x10 } else { 0 } | flag_bits & 0x0F];
-    let bits = (f.body.len() as u16).wrapping_mul(8) | length_bits & 7;
-    out.extend(bits.to_be_bytes());
+    out.extend(profile.bits(f.body.len(), length_bits).to_be_bytes());
     if fields.reliable {
         out.extend(little24(f.reliable));
     }

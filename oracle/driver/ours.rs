@@ -1,10 +1,10 @@
 //! Our calls, over bindings/poghduka.rs and the static libraries, with vectors where a comparison wants them. A number is document 01's
-//! refusal.
+//! refusal. "The Rust is the yardstick for the console profile only": all is of that profile.
 #[path = "../../bindings/poghduka.rs"]
 mod poghduka;
 
 pub use poghduka::{FramesRead, Piece, Received as Report};
-use poghduka::{CellRecord, RecvQueue, Refused, ReliableWindow, CELL_BYTES, HEAD_BYTES, LIST_BYTES, MAX_MISSING};
+use poghduka::{CellRecord, Profile, RecvQueue, Refused, ReliableWindow, CELL_BYTES, HEAD_BYTES, LIST_BYTES, MAX_MISSING};
 
 fn number(Refused(number): Refused) -> u32 {
     number
@@ -13,7 +13,7 @@ fn number(Refused(number): Refused) -> u32 {
 /// How many frames a datagram has, and the bytes left. (For speed/.)
 #[allow(dead_code)]
 pub fn read_frames(datagram: &[u8]) -> FramesRead {
-    poghduka::read_frames(datagram, HEAD_BYTES)
+    poghduka::read_frames(Profile::Console, datagram, HEAD_BYTES)
 }
 
 pub struct Window(ReliableWindow);
@@ -70,7 +70,7 @@ impl Receiver {
         let mut records = vec![CellRecord::UNUSED; cells];
         let store = vec![0; CELL_BYTES * cells];
         let mut queue = Box::new(RecvQueue::BLANK);
-        poghduka::make_new(&mut queue, &mut records, &store).expect("a receiver is made");
+        poghduka::make_new(&mut queue, &mut records, &store, Profile::Console).expect("a receiver is made");
         Receiver { queue, records, store, joined: vec![0; room], out: vec![0; LIST_BYTES] }
     }
 

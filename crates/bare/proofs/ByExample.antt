@@ -7,6 +7,7 @@ use mathlib.Core.List.{List, [], _∷_, map}
 use lib.ListN.{length}
 use Rattle.base.specs.Limits.{numbers24}
 use Rattle.base.specs.Lists.{only}
+use Rattle.reliability.specs.declared.Profile.the-variants.{Console}
 use Rattle.bare.specs.Frame.{Frame, carriesReliable, ordered}
 use Rattle.bare.specs.Bare.{Out, queue}
 use Rattle.bare.specs.Order.{onChannel, lineOf}
@@ -38,8 +39,8 @@ unfolding run
 gaps-and-channels = refl
 
 -- The ordered part of the line, channel by channel; kind 1 on channel 0 is no part of it.
-pub by-channel : map (λ (c : ℕ). lineOf c (whole-frame 3 0 1 0 20 ∷ whole-frame 1 0 0 7 5 ∷ whole-frame 3 1 0 0 10 ∷ whole-frame 7 2 1 1 21
-    ∷ [])) (0 ∷ 1 ∷ 2 ∷ [])
+pub by-channel : map (λ (c : ℕ). lineOf Console c (whole-frame 3 0 1 0 20 ∷ whole-frame 1 0 0 7 5 ∷ whole-frame 3 1 0 0 10
+    ∷ whole-frame 7 2 1 1 21 ∷ [])) (0 ∷ 1 ∷ 2 ∷ [])
     ≡ (msg 3 0 0 (10 ∷ []) ∷ []) ∷ (msg 3 1 0 (20 ∷ []) ∷ msg 7 1 1 (21 ∷ []) ∷ []) ∷ [] ∷ []
 unfolding run lineOf only onChannel
 by-channel = refl
@@ -54,7 +55,7 @@ kind-7-held-and-released = refl
 
 -- The last order number there is: next becomes 2^24, and nothing comes after it.
 unfoldable pub at-the-end : Out
-at-the-end = record { next = λ c. 16777215; newest = λ m. 0; held = []; line = [] }
+at-the-end = record { profile = Console; next = λ c. 16777215; newest = λ m. 0; held = []; line = [] }
 
 pub last-number : (queue (msg 3 0 16777215 []) at-the-end .after .next 0 ≡ numbers24)
     × (queue (msg 3 0 16777215 []) (queue (msg 3 0 16777215 []) at-the-end .after) .dropped ≡ 1)

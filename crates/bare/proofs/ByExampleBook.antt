@@ -5,6 +5,7 @@ use mathlib.Core.Path.{_≡_, refl}
 use mathlib.Core.Bool.{Bool, true, false}
 use mathlib.Core.List.{List, [], _∷_, map, List·Memᴰ}
 use Rattle.base.specs.Lists.{every, pairs, below}
+use Rattle.reliability.specs.declared.Profile.{Profile}
 use Rattle.bare.specs.Frame.{Frame}
 use Rattle.bare.specs.Order.{Within, InOrder}
 use Rattle.bare.proofs.InOrder.{in-order}
@@ -26,8 +27,9 @@ unfolding pages books
 pages-pass = refl
 
 -- So the order theorem speaks of it: in whatever order these frames are read, some of them or all, some of them twice.
-pub pages-in-order : (fs : List Frame) → Within (λ f. List·Memᴰ f pages) fs → (c : ℕ) → InOrder (λ f. List·Memᴰ f pages) fs c
-pages-in-order fs w c = in-order (λ f. List·Memᴰ f pages) (isBook-sound pages pages-pass) fs w c
+pub pages-in-order : (p : Profile) (fs : List Frame) → Within (λ f. List·Memᴰ f pages) fs → (c : ℕ)
+    → InOrder p (λ f. List·Memᴰ f pages) fs c
+pages-in-order p fs w c = in-order p (λ f. List·Memᴰ f pages) (isBook-sound pages pages-pass) fs w c
 
 -- No books: a reliable number twice; a message that is whole and split; two counts; an index twice; an index lacking; an id of two
 -- messages; a whole message twice; an ordered frame over its limits.

@@ -6,6 +6,7 @@ use mathlib.Core.Bool.{true, false}
 use mathlib.Core.List.{List, [], _∷_, _++_, map}
 use lib.ListN.{length, drop}
 use Rattle.base.specs.Lists.{only}
+use Rattle.reliability.specs.declared.Profile.the-variants.{Console}
 use Rattle.bare.specs.Frame.{Frame, sequenced}
 use Rattle.bare.specs.Sequenced.{numberedAs, putBy, numberedFrom, numberedLine, sequencesOf, kind1On, kind4}
 use Rattle.bare.proofs.Shown.{whole-frame, piece-frame, msg, gave, seen, run}
@@ -98,7 +99,8 @@ unfoldable pub some-levers : List Frame
 some-levers = half 1 0 2 5 7 0 10 ∷ lever 1 0 2 6 11 ∷ lever 4 0 0 3 12 ∷ half 1 0 2 5 7 1 13 ∷ lever 1 0 3 1 14 ∷ half 1 0 2 8 7 1 15
     ∷ lever 1 0 2 7 16 ∷ half 1 0 2 8 7 0 17 ∷ lever 4 1 0 9 18 ∷ lever 4 2 0 9 19 ∷ []
 
-pub numbers-in-the-line : (sequencesOf (kind1On 2) (numberedLine some-levers) ≡ 6 ∷ 7 ∷ 8 ∷ [])
-    × (sequencesOf (kind1On 3) (numberedLine some-levers) ≡ 1 ∷ []) × (sequencesOf kind4 (numberedLine some-levers) ≡ 3 ∷ 9 ∷ [])
+pub numbers-in-the-line : (sequencesOf (kind1On 2) (numberedLine Console some-levers) ≡ 6 ∷ 7 ∷ 8 ∷ [])
+    × (sequencesOf (kind1On 3) (numberedLine Console some-levers) ≡ 1 ∷ [])
+    × (sequencesOf kind4 (numberedLine Console some-levers) ≡ 3 ∷ 9 ∷ [])
 unfolding run some-levers lever half numberedLine numberedFrom putBy numberedAs sequencesOf kind1On kind4 only
 numbers-in-the-line = (refl, refl, refl)

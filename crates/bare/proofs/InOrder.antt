@@ -12,6 +12,7 @@ use lib.Dec.{ltb}
 use borrow.Author.Tests.{ltb-true, ltb-false}
 use Rattle.base.proofs.Choices.{cases, neither}
 use Rattle.base.proofs.EachAt.{EachAt-length, EachAt-get, EachAt-at}
+use Rattle.reliability.specs.declared.Profile.{Profile}
 use Rattle.bare.specs.Frame.{Frame, Message, pieceOf}
 use Rattle.bare.specs.Bare.{Bare, new, feed}
 use Rattle.bare.specs.Book.{Of, Book, Joins, Written, Arrived}
@@ -94,58 +95,58 @@ module _ (B : Frame → Type 0) (book : Book B) where
 
 -- Where all frames read stand in a sender's book, the line has of each channel exactly the book's messages before the first order number
 -- not arrived, in order, once each.
-pub in-order : (B : Frame → Type 0) → Book B → (fs : List Frame) → Within B fs → (c : ℕ) → InOrder B fs c
+pub in-order : (p : Profile) (B : Frame → Type 0) → Book B → (fs : List Frame) → Within B fs → (c : ℕ) → InOrder p B fs c
 unfolding lineOf lineFor
-in-order B book fs h c =
-    let v = all-inv B book fs h in
-    let b = feed new fs .after in
+in-order p B book fs h c =
+    let v = all-inv B book p fs h in
+    let b = feed (new p) fs .after in
     let run = v .chan .line-good c in
     record {
       first-absent = b .out .next c;
       absent = next-absent B book _ b v c;
       before = λ o lt. (EachAt-at _ (b .out .next c) _ run o lt) .1 .arrived;
-      long = EachAt-length _ (b .out .next c) (lineOf c fs) run;
-      at = λ o lt d. (EachAt-get _ (b .out .next c) (lineOf c fs) run o lt d) .written;
+      long = EachAt-length _ (b .out .next c) (lineOf p c fs) run;
+      at = λ o lt d. (EachAt-get _ (b .out .next c) (lineOf p c fs) run o lt d) .written;
     }
 
 -- Where no less arrived, the first order number not arrived is no lower.
-no-later-absent : {B : Frame → Type 0} {fs gs : List Frame} {c : ℕ} (p : InOrder B fs c) (q : InOrder B gs c)
-    → ((o : ℕ) → HasArrived B fs c o → HasArrived B gs c o) → p .first-absent ≤ q .first-absent
-no-later-absent p q up = cases (ltb (q .first-absent) (p .first-absent))
-    (λ t. absurd (q .absent (up _ (p .before _ (ltb-true _ _ t)))))
+no-later-absent : {p q : Profile} {B : Frame → Type 0} {fs gs : List Frame} {c : ℕ} (v : InOrder p B fs c) (w : InOrder q B gs c)
+    → ((o : ℕ) → HasArrived B fs c o → HasArrived B gs c o) → v .first-absent ≤ w .first-absent
+no-later-absent v w up = cases (ltb (w .first-absent) (v .first-absent))
+    (λ t. absurd (w .absent (up _ (v .before _ (ltb-true _ _ t)))))
     (λ t. ltb-false _ _ t)
 
--- Two lines, the first no longer, agree as far as the first goes.
-agree-so-far : {B : Frame → Type 0} → Book B → {fs gs : List Frame} {c : ℕ} (p : InOrder B fs c) (q : InOrder B gs c)
-    → p .first-absent ≤ q .first-absent → lineOf c fs ≡ take (p .first-absent) (lineOf c gs)
-agree-so-far {B} book {fs} {gs} {c} p q le = ext-getD blank (lineOf c fs) (take (p .first-absent) (lineOf c gs))
-    (p .long ∙ sym (length-take-le (p .first-absent) (lineOf c gs) (omega (arith, q .long))))
+-- Two lines, the first no longer, agree as far as the first goes: the book says what they have, whatever the receivers' profiles.
+agree-so-far : {p q : Profile} {B : Frame → Type 0} → Book B → {fs gs : List Frame} {c : ℕ} (v : InOrder p B fs c) (w : InOrder q B gs c)
+    → v .first-absent ≤ w .first-absent → lineOf p c fs ≡ take (v .first-absent) (lineOf q c gs)
+agree-so-far {p} {q} {B} book {fs} {gs} {c} v w le = ext-getD blank (lineOf p c fs) (take (v .first-absent) (lineOf q c gs))
+    (v .long ∙ sym (length-take-le (v .first-absent) (lineOf q c gs) (omega (arith, w .long))))
     (λ i lt.
-    let lt′ : i < p .first-absent = omega (arith, p .long) in
-    rw (getD-take (p .first-absent) (lineOf c gs) i blank lt′)
-    (Written-unique B book c i _ _ (p .at i lt′ blank) (q .at i (omega arith) blank)))
+    let lt′ : i < v .first-absent = omega (arith, v .long) in
+    rw (getD-take (v .first-absent) (lineOf q c gs) i blank lt′)
+    (Written-unique B book c i _ _ (v .at i lt′ blank) (w .at i (omega arith) blank)))
   where
     blank : Message
     blank = record { kind = 0; channel = 0; order = 0; body = [] }
 
--- Equal arrivals give equal lines, whatever the order they came in.
-pub same-line : (B : Frame → Type 0) → Book B → (fs gs : List Frame) → Within B fs → Within B gs → (c : ℕ)
-    → ((o : ℕ) → HasArrived B fs c o → HasArrived B gs c o) → ((o : ℕ) → HasArrived B gs c o → HasArrived B fs c o) → lineOf c fs
-    ≡ lineOf c gs
-same-line B book fs gs h k c up down =
-    let p = in-order B book fs h c in
-    let q = in-order B book gs k c in
-    let le : p .first-absent ≤ q .first-absent = no-later-absent p q up in
-    let ge : q .first-absent ≤ p .first-absent = no-later-absent q p down in
-    agree-so-far book p q le ∙ take-all (p .first-absent) (lineOf c gs) (omega (arith, q .long))
+-- Equal arrivals give equal lines, whatever the order they came in and whatever the profiles.
+pub same-line : (p q : Profile) (B : Frame → Type 0) → Book B → (fs gs : List Frame) → Within B fs → Within B gs → (c : ℕ)
+    → ((o : ℕ) → HasArrived B fs c o → HasArrived B gs c o) → ((o : ℕ) → HasArrived B gs c o → HasArrived B fs c o) → lineOf p c fs
+    ≡ lineOf q c gs
+same-line p q B book fs gs h k c up down =
+    let v = in-order p B book fs h c in
+    let w = in-order q B book gs k c in
+    let le : v .first-absent ≤ w .first-absent = no-later-absent v w up in
+    let ge : w .first-absent ≤ v .first-absent = no-later-absent w v down in
+    agree-so-far book v w le ∙ take-all (v .first-absent) (lineOf q c gs) (omega (arith, w .long))
 
 -- Where all that arrived of a channel in the first list also arrived in the second, the first's begin the second's.
-pub begins : (B : Frame → Type 0) → Book B → (fs gs : List Frame) → Within B fs → Within B gs → (c : ℕ)
-    → ((o : ℕ) → HasArrived B fs c o → HasArrived B gs c o) → (rest : List Message) × (lineOf c gs ≡ lineOf c fs ++ rest)
-begins B book fs gs h k c up =
-    let p = in-order B book fs h c in
-    let q = in-order B book gs k c in (
-      drop (p .first-absent) (lineOf c gs),
-      rw (agree-so-far book p q (no-later-absent p q up))
-          (sym (take-append-drop (p .first-absent) (lineOf c gs))),
+pub begins : (p q : Profile) (B : Frame → Type 0) → Book B → (fs gs : List Frame) → Within B fs → Within B gs → (c : ℕ)
+    → ((o : ℕ) → HasArrived B fs c o → HasArrived B gs c o) → (rest : List Message) × (lineOf q c gs ≡ lineOf p c fs ++ rest)
+begins p q B book fs gs h k c up =
+    let v = in-order p B book fs h c in
+    let w = in-order q B book gs k c in (
+      drop (v .first-absent) (lineOf q c gs),
+      rw (agree-so-far book v w (no-later-absent v w up))
+          (sym (take-append-drop (v .first-absent) (lineOf q c gs))),
     )

@@ -13,6 +13,7 @@ use Rattle.base.proofs.Choices.{byBool, cases, byOption, and-left, and-right, n
 use Rattle.base.proofs.Lists.{any-true, without-mem, mem-without}
 use Rattle.base.proofs.EachAt.{EachAt-map}
 use Rattle.reliability.proofs.Table.{at}
+use Rattle.reliability.specs.declared.Profile.{Profile}
 use Rattle.bare.specs.Frame.{Frame, Piece, Message, carriesReliable, ordered, inLimits, pieceOf, message}
 use Rattle.bare.specs.Bare.{Out, Bare, Fed, new, conflict, hasId, joined, Kept, refused, waiting, complete, keep, assemble}
 use Rattle.bare.specs.Bare.{seenBefore, acceptReliable, dropIn, finish, step, feed}
@@ -380,9 +381,9 @@ module _ (B : Frame → Type 0) (book : Book B) where
       back f (inl r) = inl (inl r)
       back f (inr i) = back′ f (List·Memᴰ·cases-cons i)
 
-  new-inv : Inv (λ f. ⊥) new
+  new-inv : (p : Profile) → Inv (λ f. ⊥) (new p)
   unfolding new only
-  new-inv = record {
+  new-inv p = record {
     sub = λ f r. absurd r;
     numbers = record { known = λ f r. absurd r; named = λ n e. absurd (false≢true e) };
     pieces = record { kept = λ g i. absurd (List·Memᴰ·not-nil i); seen = λ f r. absurd r; lacking = λ f r. absurd r };
@@ -394,8 +395,8 @@ module _ (B : Frame → Type 0) (book : Book B) where
     };
   }
 
-  pub all-inv : (fs : List Frame) → ((f : Frame) → List·Memᴰ f fs → B f) → Inv (λ f. List·Memᴰ f fs) (feed new fs .after)
-  all-inv fs h = Inv-same _ there (λ f i. inr i) (feed-inv (λ f. ⊥) new new-inv fs h)
+  pub all-inv : (p : Profile) (fs : List Frame) → ((f : Frame) → List·Memᴰ f fs → B f) → Inv (λ f. List·Memᴰ f fs) (feed (new p) fs .after)
+  all-inv p fs h = Inv-same _ there (λ f i. inr i) (feed-inv (λ f. ⊥) (new p) (new-inv p) fs h)
     where
       there : (f : Frame) → ⊥ ⊎ List·Memᴰ f fs → List·Memᴰ f fs
       there f (inl r) = absurd r

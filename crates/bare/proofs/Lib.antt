@@ -5,10 +5,12 @@ pub mod Join
 pub mod Invariant
 pub mod InOrder
 pub mod Feed
+pub mod Profile
 pub mod Same
 pub mod Sequenced
 pub mod IsBook
 pub mod Shown
 pub mod ByExample
 pub mod ByExampleSequenced
+pub mod ByExampleProfile
 pub mod ByExampleBook

@@ -12,6 +12,7 @@ use Rattle.base.specs.Lists.{find, any, without}
 use Rattle.base.proofs.Choices.{byBool, byOption, same-cond, same-option, and-both, or-right, neither}
 use Rattle.base.proofs.Lists.{find-some, any-false, without-mem}
 use Rattle.base.proofs.Alike.{Alike, any-alike, without-alike, cons-alike, find-alike}
+use Rattle.reliability.specs.declared.Profile.{Profile}
 use Rattle.bare.specs.Frame.{Frame, Piece, Message, ordered, sequenced, inLimits, pieceOf}
 use Rattle.bare.specs.Bare.{Out, Bare, Sent, Fed, new, isAt, bump, emit, follow, quiet, hold, append, queue, memoryOf, older, noted}
 use Rattle.bare.specs.Bare.{remember, ready, sequence, deliver, conflict}
@@ -64,7 +65,8 @@ deliver-once : (n : ℕ) (m : Message) (o : Out) → HeldOnce (o .held) → Held
 unfolding deliver sequence remember quiet ready append
 deliver-once n m o h = byBool (λ (s : Sent). HeldOnce (s .after .held)) (ordered (m .kind)) (λ t. queue-once m o h)
     (λ t. byBool (λ (s : Sent). HeldOnce (s .after .held)) (sequenced (m .kind))
-    (λ u. byBool (λ (s : Sent). HeldOnce (s .after .held)) (older (o .newest) (memoryOf (m .kind) (m .channel)) n) (λ v. h) (λ v. h))
+    (λ u. byBool (λ (s : Sent). HeldOnce (s .after .held)) (older (o .newest) (memoryOf (o .profile) (m .kind) (m .channel)) n) (λ v. h)
+    (λ v. h))
     (λ u. h))
 
 -- Step 3.
@@ -161,14 +163,18 @@ feed-once b [] h = h
 feed-once b (f ∷ fs) h = feed-once (step b f .after) fs (step-once b f h)
 
 -- Whatever a new receiver was fed, it holds each piece and each held message once.
-pub fed-once : (fs : List Frame) → Once (feed new fs .after)
+pub fed-once : (p : Profile) (fs : List Frame) → Once (feed (new p) fs .after)
 unfolding new
-fed-once fs = feed-once new fs (record { pieces = λ f g i. absurd (List·Memᴰ·not-nil i); held = λ m n i. absurd (List·Memᴰ·not-nil i) })
+fed-once p fs = feed-once (new p) fs (record {
+  pieces = λ f g i. absurd (List·Memᴰ·not-nil i);
+  held = λ m n i. absurd (List·Memᴰ·not-nil i);
+})
 
 -- The messages that were taken from the front of the second receiver's line.
 module _ (taken : List Message) where
   -- Step 4.
   pub record SameOut (o o′ : Out) : Type 0 where
+    pub profile : o .profile ≡ o′ .profile
     pub next : (c : ℕ) → o .next c ≡ o′ .next c
     pub newest : (c : ℕ) → o .newest c ≡ o′ .newest c
     pub held : Alike (o .held) (o′ .held)
@@ -183,6 +189,7 @@ module _ (taken : List Message) where
   unfolding emit bump
   emit-same m s s′ r = record {
     after = record {
+      profile = r .after .profile;
       next = λ c. rw (r .after .next c);
       newest = r .after .newest;
       held = without-alike _ _ _ (r .after .held);
@@ -218,7 +225,7 @@ module _ (taken : List Message) where
       (emit-same m (quiet o 0) (quiet o′ 0) (record { after = r; ready = refl; dropped = refl })) (emit-once m (quiet o 0) h)
       (emit-not-longer m (quiet o 0)) (emit-not-longer m (quiet o′ 0)))
       (λ u. record {
-        after = record { next = r .next; newest = r .newest; held = cons-alike m _ _ (r .held); line = r .line };
+        after = record { profile = r .profile; next = r .next; newest = r .newest; held = cons-alike m _ _ (r .held); line = r .line };
         ready = refl;
         dropped = refl;
       }))
@@ -231,6 +238,7 @@ module _ (taken : List Message) where
   unfolding ready append
   ready-same m o o′ r = record {
     after = record {
+      profile = r .profile;
       next = r .next;
       newest = r .newest;
       held = r .held;
@@ -244,16 +252,28 @@ module _ (taken : List Message) where
   unfolding sequence older remember noted quiet
   sequence-same n m o o′ r = same-cond SameSent _ _ test
       (λ t. record { after = r; ready = refl; dropped = refl })
-      (λ t. ready-same m _ _ (record { next = r .next; newest = noted-same; held = r .held; line = r .line }))
+      (λ t. ready-same m _ _ (record {
+        profile = r .profile;
+        next = r .next;
+        newest = noted-same;
+        held = r .held;
+        line = r .line;
+      }))
     where
       i : ℕ
-      i = memoryOf (m .kind) (m .channel)
+      i = memoryOf (o .profile) (m .kind) (m .channel)
 
-      test : older (o .newest) i n ≡ older (o′ .newest) i n
-      test = rw (r .newest i)
+      i′ : ℕ
+      i′ = memoryOf (o′ .profile) (m .kind) (m .channel)
 
-      noted-same : (d : ℕ) → noted i n (o .newest) d ≡ noted i n (o′ .newest) d
-      noted-same d = rw (r .newest d)
+      one-memory : i ≡ i′
+      one-memory = ap (λ (p : Profile). memoryOf p (m .kind) (m .channel)) (r .profile)
+
+      test : older (o .newest) i n ≡ older (o′ .newest) i′ n
+      test = rw (one-memory, r .newest i′)
+
+      noted-same : (d : ℕ) → noted i n (o .newest) d ≡ noted i′ n (o′ .newest) d
+      noted-same d = rw (one-memory, r .newest d)
 
   deliver-same : (n : ℕ) (m : Message) (o o′ : Out) → SameOut o o′ → HeldOnce (o .held) → SameSent (deliver n m o) (deliver n m o′)
   unfolding deliver

@@ -4,6 +4,8 @@ use Prim.Native.Nat.{ℕ}
 use mathlib.Core.Bool.{true, false}
 use mathlib.Core.List.{List, [], _∷_, flatten}
 use Rattle.base.specs.Lists.{find, any, without}
+use Rattle.reliability.specs.declared.Profile.{Profile}
+use Rattle.reliability.specs.declared.Profile.the-variants.{Console}
 use Rattle.bare.specs.Frame.{Frame, Message, carriesReliable, ordered, sequenced, inLimits, pieceOf, message}
 use Rattle.bare.specs.Bare.{Bare, new, isAt, bump, emit, follow, quiet, hold, append, queue, memoryOf, older, noted, remember}
 use Rattle.bare.specs.Bare.{ready, sequence, deliver, conflict, isPieceAt, hasId}
@@ -59,9 +61,14 @@ unfoldable pub answersOf : Bare → List (List Frame) → List (List ℕ)
 answersOf b [] = []
 answersOf b (fs ∷ ds) = gave (feed b fs .ready) (feed b fs .dropped) ∷ answersOf (feed b fs .after) ds
 
--- `unfolding run` opens every definition that a run computes with.
-unfoldable pub run : List (List Frame) → Seen
+-- A run for one profile. `unfolding runAs` opens every definition that a run computes with, and so does `unfolding run`.
+unfoldable pub runAs : Profile → List (List Frame) → Seen
 unfolding whole-frame piece-frame msg gave seen answersOf flatten find any without carriesReliable ordered sequenced isAt bump emit follow
     quiet hold append queue memoryOf older noted remember ready sequence deliver pieceOf conflict isPieceAt hasId joined message keep
     assemble inLimits acceptReliable seenBefore dropIn finish step feed new lineFor
-run ds = seen (answersOf new ds) (lineFor (flatten ds))
+runAs p ds = seen (answersOf (new p) ds) (lineFor p (flatten ds))
+
+-- Document 01's frames are the consoles'.
+unfoldable pub run : List (List Frame) → Seen
+unfolding runAs
+run ds = runAs Console ds

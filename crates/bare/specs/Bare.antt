@@ -1,5 +1,5 @@
 -- The bare receiver of document 01 ("The line, the book and demand 3"): no cells, and four steps for each frame ("A datagram's frames, in
--- order"); with document 02's request 1, late sequenced messages.
+-- order"); with document 02's request 1, late sequenced messages, and request 2, "The bare receiver has its list's profile".
 use Prim.Native.Nat.{ℕ, zero, suc, _+_}
 use mathlib.Core.Bool.{Bool, true, false, cond, not, _&&_, _||_}
 use mathlib.Core.Option.{Option, none, some}
@@ -9,12 +9,15 @@ use lib.ListN.{length}
 use Rattle.base.specs.Limits.{maxOrdChans}
 use Rattle.base.specs.Numbers.{behind, following}
 use Rattle.base.specs.Lists.{option, find, any, without}
+use Rattle.reliability.specs.declared.Profile.{Profile}
+use Rattle.reliability.specs.declared.Profile.the-variants.{Console, Cpp}
 use Rattle.bare.specs.Frame.{Frame, Piece, Message, carriesReliable, ordered, sequenced, inLimits, pieceOf, message}
 
 -- "for each channel a next order number and held messages, and the line": what step 4 works on. newest: the memories of request 1,
 -- "Document 01's bare receiver remembers the same": that of each channel and, as number 32, the receiver's own. A memory is the newest
--- sequence number plus 1, and 0 where there is none.
+-- sequence number plus 1, and 0 where there is none. profile: whose frames it is fed; it stays as it is.
 pub record Out : Type 0 where
+  pub profile : Profile
   pub next : ℕ → ℕ
   pub newest : ℕ → ℕ
   pub held : List Message
@@ -38,8 +41,8 @@ pub record Fed : Type 0 where
   pub dropped : ℕ
 
 -- "At first each next is 0 and all else is empty."
-unfoldable pub new : Bare
-new = record { accepted = λ n. false; pieces = []; out = record { next = λ c. 0; newest = λ m. 0; held = []; line = [] } }
+unfoldable pub new : Profile → Bare
+new p = record { accepted = λ n. false; pieces = []; out = record { profile = p; next = λ c. 0; newest = λ m. 0; held = []; line = [] } }
 
 -- ---- step 4
 
@@ -55,6 +58,7 @@ bump c next d = cond (eqb d c) (following (next d)) (next d)
 unfoldable pub emit : Message → Sent → Sent
 emit m s = record {
   after = record {
+    profile = s .after .profile;
     next = bump (m .channel) (s .after .next);
     newest = s .after .newest;
     held = without (isAt (m .channel) (m .order)) (s .after .held);
@@ -74,10 +78,10 @@ unfoldable pub quiet : Out → ℕ → Sent
 quiet o n = record { after = o; ready = 0; dropped = n }
 
 unfoldable pub hold : Message → Out → Out
-hold m o = record { next = o .next; newest = o .newest; held = m ∷ o .held; line = o .line }
+hold m o = record { profile = o .profile; next = o .next; newest = o .newest; held = m ∷ o .held; line = o .line }
 
 unfoldable pub append : Message → Out → Out
-append m o = record { next = o .next; newest = o .newest; held = o .held; line = o .line ++ (m ∷ []) }
+append m o = record { profile = o .profile; next = o .next; newest = o .newest; held = o .held; line = o .line ++ (m ∷ []) }
 
 -- "order number below the channel's next, or held: drop. Above: hold. Equal: ready, with the held ones that follow."
 unfoldable pub queue : Message → Out → Sent
@@ -87,9 +91,10 @@ queue m o =
     (quiet (hold m o) 0))
 
 -- "each channel remembers the highest sequence number it made ready by kind 1 .. Kind 4 has no channel and gets one such memory for the
--- whole receiver": the memory of a sequenced kind and channel
-unfoldable pub memoryOf : ℕ → ℕ → ℕ
-memoryOf kind channel = cond (eqb kind 1) channel maxOrdChans
+-- whole receiver": the memory of a sequenced kind and channel. Request 2, in the C++ profile: "Kind 4 then uses its channel's memory."
+unfoldable pub memoryOf : Profile → ℕ → ℕ → ℕ
+memoryOf Console kind channel = cond (eqb kind 1) channel maxOrdChans
+memoryOf Cpp kind channel = channel
 
 -- "at or below it": is n no newer than memory m? "The first is always made ready": no number is, where there is none
 unfoldable pub older : (ℕ → ℕ) → ℕ → ℕ → Bool
@@ -100,7 +105,7 @@ unfoldable pub noted : ℕ → ℕ → (ℕ → ℕ) → ℕ → ℕ
 noted m n newest d = cond (eqb d m) (following n) (newest d)
 
 unfoldable pub remember : ℕ → ℕ → Out → Out
-remember m n o = record { next = o .next; newest = noted m n (o .newest); held = o .held; line = o .line }
+remember m n o = record { profile = o .profile; next = o .next; newest = noted m n (o .newest); held = o .held; line = o .line }
 
 unfoldable pub ready : Message → Out → Sent
 ready m o = record { after = append m o; ready = 1; dropped = 0 }
@@ -109,8 +114,8 @@ ready m o = record { after = append m o; ready = 1; dropped = 0 }
 -- and so is one of kind 4; else it is ready, and the memory is its number
 unfoldable pub sequence : ℕ → Message → Out → Sent
 sequence n m o =
-    cond (older (o .newest) (memoryOf (m .kind) (m .channel)) n) (quiet o 1)
-    (ready m (remember (memoryOf (m .kind) (m .channel)) n o))
+    cond (older (o .newest) (memoryOf (o .profile) (m .kind) (m .channel)) n) (quiet o 1)
+    (ready m (remember (memoryOf (o .profile) (m .kind) (m .channel)) n o))
 
 -- "Kinds 3 and 7: .. Other kinds: ready", where a sequenced one is not late; n is the message's sequence number
 unfoldable pub deliver : ℕ → Message → Out → Sent

@@ -41,7 +41,8 @@ pub record Message : Type 0 where
 unfoldable pub carriesReliable : ℕ → Bool
 carriesReliable k = hasReliable k
 
--- "Kinds 3 and 7": the ordered messages. (They are the kinds that carry a reliable and an order number: proofs/OrderedKinds.antt.)
+-- "Kinds 3 and 7": the ordered messages. (They are the kinds that carry a reliable and an order number and no sequence number:
+-- proofs/OrderedKinds.antt.)
 unfoldable pub ordered : ℕ → Bool
 ordered k = eqb k 3 || eqb k 7
 

@@ -17,9 +17,13 @@ maxOrdChans = 32
 abbrev pub memories : ℕ
 memories = 33
 
--- the numbers that step 4 compares with: a next for each channel, and the memories
+-- request 2, "for the console profile of document 01 or for this one": how many profiles there are
+abbrev pub profiles : ℕ
+profiles = 2
+
+-- the numbers that step 4 goes by: a next for each channel, the memories, and the profile
 abbrev pub manyNexts : ℕ
-manyNexts = 65
+manyNexts = 66
 
 -- "piece count 1 to 1,024 (`MAX_FRAGS`)"
 abbrev pub maxFrags : ℕ

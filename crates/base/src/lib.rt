@@ -13,7 +13,9 @@ pub const NUMBERS_16: u32 = 65536;
 
 pub const MAX_ORD_CHANS: u8 = 32;
 
-pub const NEXTS: usize = 65;
+pub const PROFILES: u32 = 2;
+
+pub const NEXTS: usize = 66;
 
 pub const MAX_FRAGS: u32 = 1024;
 

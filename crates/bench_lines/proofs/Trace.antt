@@ -6,6 +6,7 @@ use Rattle.base.specs.If.{ifTrue, ifLt, ifLe, ifEq}
 use Rattle.base.specs.Lists as lists
 use Rattle.base.specs.Put.{andThen}
 use Rattle.reliability.specs.Kinds.{fieldsOf}
+use Rattle.reliability.specs.Profiles.{profileOf}
 use Rattle.frame.specs.Read as frame
 use Rattle.frame.specs.Frames as frames
 use Rattle.ack.specs.Records as records
@@ -30,7 +31,7 @@ use Rattle.bench_lines.specs.Trace.{Trace}
 pub trace : Trace
 unfolding ifTrue ifLt ifLe ifEq be16 le24 be16Bytes le24Bytes andThen
     lists.find lists.any lists.every lists.countOf lists.below
-    fieldsOf frame.frameAt frame.placedAt frame.readFrameOf
+    fieldsOf profileOf frame.frameAt frame.bodyLength frame.placedAt frame.readFrameOf
     frames.onRead frames.framesFrom frames.endFrom frames.framesOf frames.endOf
     records.firstOf records.lastOf records.recordBytes records.recordsBytes records.grow records.runs
     ack.idOf ack.ackHeaderBytes ack.listBytes ack.someOver ack.tooLarge ack.ascending ack.byListCase ack.writeListOf
@@ -44,8 +45,8 @@ unfolding ifTrue ifLt ifLe ifEq be16 le24 be16Bytes le24Bytes andThen
     cells.indexOf ready.lower ready.earliest
     sound.keyOf sound.limits sound.agree sound.lacksNone sound.soundCell sound.lengths
     store.cellSize store.cellBody store.slotsOf store.cellsOf store.laid store.storeOf
-    queue.nextIn queue.nextOf queue.memoriesIn queue.newestOf queue.unsentOf queue.newQueue queue.placesWithin queue.soundWindow
-    queue.differ queue.soundUnsent queue.soundQueue queue.insertUnsent
+    queue.nextIn queue.nextOf queue.memoriesIn queue.newestOf queue.unsentOf queue.newQueue queue.profileIn queue.placesWithin queue.soundWindow
+    queue.soundProfile queue.differ queue.soundUnsent queue.soundQueue queue.insertUnsent
     receive.frameIn receive.framesIn receive.bytesLeft receive.acceptAll receive.stateOf receive.channelsAfter receive.queueAfter
     receive.acceptedResult receive.refusedResult receive.soundCall receive.receiveOf
     take.handed take.takeOf write.sorted write.writeOf write.emptied write.writeUnsentOf

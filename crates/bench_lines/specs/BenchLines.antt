@@ -6,6 +6,8 @@ use mathlib.Core.Bool.{true, false}
 use mathlib.Core.List.{List, [], _∷_}
 use lib.ListN.{length, replicate}
 use Rattle.base.specs.Answer.{Answer, refused, gives}
+use Rattle.reliability.specs.declared.Profile.{Profile}
+use Rattle.reliability.specs.declared.Profile.the-variants.{Console}
 use Rattle.frame.specs.declared.FragmentMeta.{FragmentMeta}
 use Rattle.frame.specs.declared.Frame.{Frame}
 use Rattle.frame.specs.declared.Placed.{Placed}
@@ -19,9 +21,9 @@ use Rattle.receiver.specs.Receive.{Report, receiveOf}
 use Rattle.receiver.specs.Calls.{Receiver}
 use Rattle.receiver.specs.Claim.{Start, begun}
 
--- reading at the first byte gives this frame with this body, to the last byte
+-- reading at the first byte, under document 01's own profile, gives this frame with this body, to the last byte
 abbrev pub ReadsAs : List ℕ → Frame → List ℕ → Type 0
-ReadsAs s f body = (p : Placed) × (readFrameOf s 0 ≡ gives (p, length s)) × (p .frame ≡ f) × (bodyOf s p ≡ body)
+ReadsAs s f body = (p : Placed) × (readFrameOf Console s 0 ≡ gives (p, length s)) × (p .frame ≡ f) × (bodyOf s p ≡ body)
 
 -- a frame that is no pieceOf3
 abbrev pub wholeFrame : ℕ → ℕ → ℕ → ℕ → ℕ → Frame
@@ -99,8 +101,8 @@ pub record BenchLines : Type 0 where
   pub split-1440 : (k : ℕ) → splitPieceOf 1440 1500 k ≡ refused 17
   -- "mtu 60: 16.": whatever the data
   pub mtu-60 : (n k : ℕ) → splitPieceOf n 60 k ≡ refused 16
-  -- "Piece index 2 of count 2: dropped.": by a receiver just made, of any number of cells
+  -- "Piece index 2 of count 2: dropped.": by a receiver just made, of either profile and any number of cells
   pub index-2-of-2 : (s : Start) (id₁ id₂ byte : ℕ) → reported (begun s) (withPiece id₁ id₂ byte)
       ≡ gives (record { ready = 0; dropped = 1; left = 0 })
   -- and by the bare receiver
-  pub bare-index-2-of-2 : (id : ℕ) → (step new (pieceOf3 2 id 2) .dropped ≡ 1) × (step new (pieceOf3 2 id 2) .ready ≡ 0)
+  pub bare-index-2-of-2 : (p : Profile) (id : ℕ) → (step (new p) (pieceOf3 2 id 2) .dropped ≡ 1) × (step (new p) (pieceOf3 2 id 2) .ready ≡ 0)

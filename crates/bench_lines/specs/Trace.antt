@@ -6,6 +6,7 @@ use mathlib.Core.List.{List, [], _∷_}
 use lib.ListN.{replicate}
 use Rattle.base.specs.Answer.{Answer, refused, gives}
 use Rattle.base.specs.Limits.{cellBytes}
+use Rattle.reliability.specs.declared.Profile.the-variants.{Console}
 use Rattle.bare.specs.Frame.{Message}
 use Rattle.receiver.specs.Receive.{datagramNumber}
 use Rattle.receiver.specs.Take.{Handed, takeOf}
@@ -20,9 +21,9 @@ firstAhead = 0x84 ∷ 0x00 ∷ 0x00 ∷ 0x00 ∷ 0x60 ∷ 0x00 ∷ 0x08 ∷ 0x00
 abbrev pub due : List ℕ
 due = 0x84 ∷ 0x01 ∷ 0x00 ∷ 0x00 ∷ 0x60 ∷ 0x00 ∷ 0x08 ∷ 0x01 ∷ 0x00 ∷ 0x00 ∷ 0x00 ∷ 0x00 ∷ 0x00 ∷ 0x00 ∷ 0x41 ∷ []
 
--- "Program `trace` (32 cells)", over a store of zeros
+-- "Program `trace` (32 cells)", over a store of zeros, console profile
 abbrev pub start : Receiver
-start = made 32 (replicate (cellBytes * 32) 0)
+start = made Console 32 (replicate (cellBytes * 32) 0)
 
 -- an output that an ACK of one number fills
 abbrev pub ackRoom : List ℕ

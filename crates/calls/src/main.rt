@@ -2,12 +2,14 @@
 //
 // Input: the number of cells, 16 bits big-endian, 1 to 256 (else `- 9` is printed and nothing else); then per call one byte and 16 bits n
 // big-endian: 0 receive, followed by n bytes; 1 take with a joining buffer of n bytes; 2 write the unsent, 3 write the missing, each into
-// an output of n bytes. A cut call ends the input, as does another first byte. Output, one line a call: `r 0 READY DROPPED LEFT`,
-// `t 0 LENGTH SUM KIND CHANNEL ORDER`, `u 0 LENGTH SUM`, `m 0 LENGTH SUM`; on a refusal the letter and document 01's number. SUM is over
-// the bytes handed out: from 1 on, for each byte h = (31 h + byte) mod 65521.
+// an output of n bytes; 4 a new receiver over the same cells, of profile n (0 console, 1 C++; above 1 ends the list). The first receiver is
+// a console's. A cut call ends the input, as does another first byte. Output, one line a call: `r 0 READY DROPPED LEFT`,
+// `t 0 LENGTH SUM KIND CHANNEL ORDER`, `u 0 LENGTH SUM`, `m 0 LENGTH SUM`, `n 0`; on a refusal the letter and document 01's number. SUM is
+// over the bytes handed out: from 1 on, for each byte h = (31 h + byte) mod 65521.
 use libc::STDIN_FILENO;
 use recv_answers::QueueReceived;
 use recv_queue::CellRecord;
+use recv_queue::Profile;
 use recv_queue::RecvQueue;
 use recv_queue::Take;
 use recv_queue::WriteQueue;
@@ -98,7 +100,26 @@ fn write_missing(x: Receiver, out: &mut [u8]) -> Receiver {
     with_cells(queue, records)
 }
 
+fn profile_of(n: usize) -> Profile {
+    if n == 1 {
+        return Profile::Cpp;
+    }
+    Profile::Console
+}
+
+fn make_new(cells: usize, n: usize, store: &[u8]) -> Receiver {
+    let made = recv_array::new_held(cells, store, profile_of(n));
+    let answer = made.answer;
+    let queue = made.queue;
+    let records = made.records;
+    replay::line(b"n", recv_answers::new_number(answer) as u64, &[]);
+    with_cells(queue, records)
+}
+
 // ---- the input
+
+// The last call's first byte.
+const NEW: u8 = 4;
 
 // What stands for the first byte of a call where the input ends.
 const END: u8 = 255;
@@ -113,12 +134,16 @@ fn call_of(what: u8, n: usize) -> Call {
     Call { what, n }
 }
 
-// A datagram follows its call; the other calls write over what stands there. The call's first byte, or END where the datagram is cut.
+// A datagram follows its call; the other calls write over what stands there. The call's first byte, or END where the datagram is cut or
+// the profile is none.
 fn filled(what: u8, bytes: &mut [u8]) -> u8 {
+    let n = bytes.len();
+    if (what == NEW) & (base::PROFILES as usize <= n) {
+        return END;
+    }
     if what != 0 {
         return what;
     }
-    let n = bytes.len();
     if io::read_full(STDIN_FILENO, bytes) < n {
         return END;
     }
@@ -150,7 +175,8 @@ fn answered(x: Receiver, cells: usize, what: u8, store: &mut [u8], bytes: &mut [
         0 => receive(x, cells, store, bytes),
         1 => take(x, cells, store, bytes),
         2 => write_unsent(x, bytes),
-        _ => write_missing(x, bytes),
+        3 => write_missing(x, bytes),
+        _ => make_new(cells, bytes.len(), store),
     }
 }
 
@@ -171,7 +197,7 @@ fn run(x: Receiver, cells: usize, store: &mut [u8], buffer: &mut [u8]) {
     let mut left: u64 = 18446744073709551615;
     while 0 < left {
         let call = read_call(buffer);
-        if 3 < call.what {
+        if NEW < call.what {
             return;
         }
         now = one_call(now, cells, call, store, buffer);
@@ -180,7 +206,7 @@ fn run(x: Receiver, cells: usize, store: &mut [u8], buffer: &mut [u8]) {
 }
 
 fn start(cells: usize, store: &mut [u8], buffer: &mut [u8]) {
-    let made = recv_array::new_held(cells, store);
+    let made = recv_array::new_held(cells, store, Profile::Console);
     let answer = made.answer;
     let queue = made.queue;
     let records = made.records;

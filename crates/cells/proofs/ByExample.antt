@@ -4,6 +4,7 @@ use mathlib.Core.Path.{_≡_, refl}
 use mathlib.Core.Bool.{true, false}
 use mathlib.Core.List.{List, [], _∷_, map}
 use lib.ListN.{replicate}
+use Rattle.reliability.specs.declared.Profile.the-variants.{Console, Cpp}
 use Rattle.bare.specs.Frame.{Frame}
 use Rattle.bare.specs.Bare.{new, feed}
 use Rattle.bare.proofs.Shown.{whole-frame, piece-frame, msg}
@@ -11,7 +12,7 @@ use Rattle.cells.specs.Cell.{Slot, emptySlot}
 use Rattle.cells.specs.Take.{drain}
 use Rattle.cells.specs.Room.{keptAsFrame, bodies, exceeds}
 use Rattle.cells.proofs.Shown.{slot, open-cell, held-cell, ready-cell, numbered, SlotCall, receive, take, gave, took, refused, Seen}
-use Rattle.cells.proofs.Shown.{saw, stateAfter, stateAt, run, runFrom, soundAt}
+use Rattle.cells.proofs.Shown.{saw, stateAfter, stateAt, run, runAs, runFrom, soundAt}
 
 -- Order number 1 is held, 0 releases it; takes hand them out in order and free their cells; then 20.
 pub held-then-released : run 2 (receive (whole-frame 3 0 0 1 66 ∷ []) ∷ receive (whole-frame 3 1 0 0 65 ∷ []) ∷ take ∷ take ∷ take ∷ [])
@@ -38,8 +39,8 @@ unfolding run split-frames
 split-needs-5 = (refl, refl, refl)
 
 -- Refusal 8's condition counts the same: five of the seven frames are not dropped as frames.
-pub room-condition : (bodies new split-frames ≡ 5) × (exceeds new (replicate 5 emptySlot) split-frames ≡ false)
-    × (exceeds new (replicate 4 emptySlot) split-frames ≡ true)
+pub room-condition : (bodies (new Console) split-frames ≡ 5) × (exceeds (new Console) (replicate 5 emptySlot) split-frames ≡ false)
+    × (exceeds (new Console) (replicate 4 emptySlot) split-frames ≡ true)
 unfolding run split-frames bodies keptAsFrame exceeds
 room-condition = (refl, refl, refl)
 
@@ -67,7 +68,7 @@ unfolding run late-join
 late-join-of-4 = refl
 
 -- Refusal 8's condition counts the late piece too: three bodies are not dropped as frames.
-pub late-join-takes-a-cell : bodies (feed new (piece-frame 3 0 0 0 2 5 0 8 ∷ whole-frame 3 1 0 0 9 ∷ []) .after)
+pub late-join-takes-a-cell : bodies (feed (new Console) (piece-frame 3 0 0 0 2 5 0 8 ∷ whole-frame 3 1 0 0 9 ∷ []) .after)
     (piece-frame 3 2 0 0 2 5 1 8 ∷ whole-frame 0 0 0 0 1 ∷ whole-frame 0 0 0 0 2 ∷ []) ≡ 3
 unfolding run bodies keptAsFrame
 late-join-takes-a-cell = refl
@@ -90,6 +91,14 @@ pub own-memories : run 3 (receive (numbered 7 (whole-frame 4 0 0 0 1) ∷ number
     ≡ saw (gave 3 2) (slot 3 0 0 4 0 1 7 0 0 (1 ∷ []) ∷ slot 3 9 0 1 0 1 3 0 1 (2 ∷ []) ∷ slot 3 0 0 1 1 1 2 0 2 (4 ∷ []) ∷ []) ∷ []
 unfolding run
 own-memories = refl
+
+-- In the C++ profile kind 4 uses its channel's memory (request 2): kind 1's number is late after kind 4's on one channel, and kind 4's
+-- lower one passes on another. A late one takes no cell.
+pub shared-memories : runAs Cpp 3 (receive (numbered 7 (whole-frame 4 0 1 5 1) ∷ numbered 7 (whole-frame 1 0 1 0 2)
+    ∷ numbered 6 (whole-frame 4 1 2 0 3) ∷ numbered 8 (piece-frame 1 0 1 0 1 9 0 4) ∷ []) ∷ [])
+    ≡ saw (gave 3 1) (slot 3 0 0 4 1 1 7 5 0 (1 ∷ []) ∷ slot 3 0 0 4 2 1 6 0 1 (3 ∷ []) ∷ slot 3 9 0 1 1 1 8 0 2 (4 ∷ []) ∷ []) ∷ []
+unfolding run runAs
+shared-memories = refl
 
 -- A joined message of kind 1 whose number is not newer: sequence number 4 comes whole, then the second piece of number 3. The joined
 -- message is dropped and counts one; as with the late join above its cells count for 8, and are unused after the datagram. 3 cells do not
@@ -115,9 +124,9 @@ unfolding run late-sequenced-join
 late-sequenced-join-of-4 = refl
 
 -- Refusal 8's condition counts the same: none for whole frames dropped late, one for the piece of a late join.
-pub late-sequenced-cells : (bodies (feed new (numbered 5 (whole-frame 1 0 0 0 9) ∷ []) .after) (numbered 5 (whole-frame 1 0 0 0 8)
+pub late-sequenced-cells : (bodies (feed (new Console) (numbered 5 (whole-frame 1 0 0 0 9) ∷ []) .after) (numbered 5 (whole-frame 1 0 0 0 8)
     ∷ numbered 4 (whole-frame 1 0 0 0 7) ∷ []) ≡ 0)
-    × (bodies (feed new (numbered 3 (piece-frame 1 0 0 0 2 5 0 8) ∷ numbered 4 (whole-frame 1 0 0 0 9) ∷ []) .after)
+    × (bodies (feed (new Console) (numbered 3 (piece-frame 1 0 0 0 2 5 0 8) ∷ numbered 4 (whole-frame 1 0 0 0 9) ∷ []) .after)
     (numbered 3 (piece-frame 1 0 0 0 2 5 1 8) ∷ whole-frame 0 0 0 0 1 ∷ whole-frame 0 0 0 0 2 ∷ []) ≡ 3)
 unfolding run bodies keptAsFrame
 late-sequenced-cells = (refl, refl)

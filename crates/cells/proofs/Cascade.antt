@@ -26,6 +26,7 @@ use Rattle.cells.proofs.Moves.{of-held, ready-moved, ready-others, read
 -- The working state w has what the bare receiver's answer x has; r and d are the counts that w began with.
 pub record Sim (x : Fed) (w : Work) (r d : ℕ) (h : List Message) : Type 0 where
   pub accepted : x .after .accepted ≡ w .state .accepted
+  pub profile : x .after .out .profile ≡ w .state .profile
   pub newest : x .after .out .newest ≡ w .state .newest
   pub pieces : Pieces (x .after .pieces) (w .state .slots)
   pub outs : Outs (x .after .out) (w .state .next) (w .state .slots) 0 (w .turn) h
@@ -57,6 +58,7 @@ module _ (a : ℕ → Bool) (ps : List Piece) (r d : ℕ) (h : List Message) whe
   unfolding emit goOn rise made turnTo
   goOn-sim c m s w v e = record {
     accepted = v .accepted;
+    profile = v .profile;
     newest = v .newest;
     pieces = pieces-other (of key) (mark 3 (w .turn)) ps (w .state .slots)
         (λ x i y. (isOpen-used x 2 (of-used key x y) (λ q. omega arith), isOpen-mark 3 (w .turn) x (λ q. omega arith))) (v .pieces);

@@ -173,6 +173,7 @@ module _ (s : State) (v : Rest (s .next) (s .slots)) where
   drained = drain-by-order (rank (s .slots)) (s .slots) (rank-rising (s .next) (s .slots) v)
 
   begin-outs : Outs (record {
+    profile = s .profile;
     next = s .next;
     newest = s .newest;
     held = bareOf s .out .held;
@@ -200,6 +201,7 @@ module _ (s : State) (v : Rest (s .next) (s .slots)) where
   unfolding bareOf begin
   stands = record {
     accepted = refl;
+    profile = refl;
     newest = refl;
     pieces = renumber-pieces _ (s .slots) (pieces-open (s .slots));
     outs = rw (← drained, drain-is begin-outs) begin-outs;

@@ -27,18 +27,20 @@ use Rattle.cells.proofs.Step.{settle, early≢late, newer≢late, free�
 -- The working state w has what the bare receiver b has; h are the messages handed out before.
 pub record Rel (b : Bare) (w : Work) (h : List Message) : Type 0 where
   pub accepted : b .accepted ≡ w .state .accepted
+  pub profile : b .out .profile ≡ w .state .profile
   pub newest : b .out .newest ≡ w .state .newest
   pub pieces : Pieces (b .pieces) (w .state .slots)
   pub outs : Outs (b .out) (w .state .next) (w .state .slots) 0 (w .turn) h
 
 pub sim-rel : {x : Fed} {w : Work} {r d : ℕ} {h : List Message} → Sim x w r d h → Rel (x .after) w h
-sim-rel v = record { accepted = v .accepted; newest = v .newest; pieces = v .pieces; outs = v .outs }
+sim-rel v = record { accepted = v .accepted; profile = v .profile; newest = v .newest; pieces = v .pieces; outs = v .outs }
 
 -- nothing counted
 rel-sim : (b : Bare) (w : Work) (h : List Message) → Rel b w h → Sim (record { after = b; ready = 0; dropped = 0 }) w (w .counts .ready)
     (w .counts .dropped) h
 rel-sim b w h v = record {
   accepted = v .accepted;
+  profile = v .profile;
   newest = v .newest;
   pieces = v .pieces;
   outs = v .outs;
@@ -50,6 +52,7 @@ drop-sim : (b : Bare) (w : Work) (h : List Message) → Rel b w h → Sim (dropI
 unfolding dropIn dropOne
 drop-sim b w h v = record {
   accepted = v .accepted;
+  profile = v .profile;
   newest = v .newest;
   pieces = v .pieces;
   outs = v .outs;
@@ -67,7 +70,7 @@ unfolding roomy
 roomy-is w r e = rw e
 
 whole-settle : (x : Fate) (f : Frame) (w : Work) → ((x ≡ late → ⊥) → any isFree (w .state .slots) ≡ true) → whole x f w
-    ≡ settle x (f .channel) (memoryOf (f .kind) (f .channel)) (f .sequence) w
+    ≡ settle x (f .channel) (memoryOf (w .state .profile) (f .kind) (f .channel)) (f .sequence) w
     (putSlot (slotOf f 2 0) (w .state .slots)) (putSlot (slotOf f 3 (w .turn)) (w .state .slots)) (w .state .slots)
 unfolding whole settle readied rememberIn dropOne place
 whole-settle late f w room = refl
@@ -92,10 +95,11 @@ whole-sim b w h f v e full =
     let room = whole-room (fateOf f w) f w full in
     rw (whole-settle (fateOf f w) f w room)
     (deliver-sim (fateOf f w) (b .accepted) (b .pieces) h (f .sequence) (message f (f .body)) (b .out) w _ _ _
-    (whole-placing (fateOf f w) f (b .pieces) (w .turn) (w .state .slots) e room (v .outs .unique) (v .pieces)) (v .accepted)
+    (whole-placing (fateOf f w) f (b .pieces) (w .turn) (w .state .slots) e room (v .outs .unique) (v .pieces)) (v .accepted) (v .profile)
     (v .newest) (v .outs) refl)
 
-joins-settle : (x : Fate) (f : Frame) (w : Work) → joins x f w ≡ settle x (f .channel) (memoryOf (f .kind) (f .channel)) (f .sequence) w
+joins-settle : (x : Fate) (f : Frame) (w : Work) → joins x f w
+    ≡ settle x (f .channel) (memoryOf (w .state .profile) (f .kind) (f .channel)) (f .sequence) w
     (turnTo (openAs (f .id)) 2 0 (w .state .slots))
     (turnTo (openAs (f .id)) 3 (w .turn) (w .state .slots)) (turnTo (openAs (f .id)) 4 0 (w .state .slots))
 unfolding joins settle rememberIn
@@ -112,6 +116,7 @@ put-rel : (b : Bare) (w : Work) (h : List Message) (f : Frame) → Rel b w h →
 unfolding place
 put-rel b w h f v e c room = record {
   accepted = v .accepted;
+  profile = v .profile;
   newest = v .newest;
   pieces = pieces-put f (b .pieces) (w .state .slots) room e c (v .pieces);
   outs = outs-keep (putSlot (slotOf f 1 0) (w .state .slots)) (v .outs)
@@ -131,7 +136,7 @@ kept-sim b w h f v le agree = rw (joined-join (pieceOf f ∷ b .pieces) (w .stat
     (cases (allThere (openAs (f .id)) (w .state .slots) (f .count)) (λ t. rw (t, joins-settle (fateOf f w) f w)
     (deliver-sim (fateOf f w) (b .accepted) (without (hasId (f .id)) (b .pieces)) h (f .sequence) (joinedOf f (w .state .slots)) (b .out)
     w _ _ _ (joined-placing f (b .pieces) (w .turn) (w .state .slots) agree le t (v .outs .unique) (v .pieces) (fateOf f w)) (v .accepted)
-    (v .newest) (v .outs) refl))
+    (v .profile) (v .newest) (v .outs) refl))
     (λ t. rw t (rel-sim (record { accepted = b .accepted; pieces = pieceOf f ∷ b .pieces; out = b .out }) w h v)))
 
 piece-sim : (b : Bare) (w : Work) (h : List Message) (f : Frame) → Rel b w h → f .piece ≡ true → 1 ≤ f .count → piece f w .full ≡ false
@@ -178,7 +183,13 @@ frame-sim b w h f v full = rw (ap (seenBefore f) (v .accepted)) (cases (seenBefo
     b′ = record { accepted = acceptReliable f (b .accepted); pieces = b .pieces; out = b .out }
 
     v′ : Rel (record { accepted = acceptReliable f (b .accepted); pieces = b .pieces; out = b .out }) (acceptIn f w) h
-    v′ = record { accepted = ap (acceptReliable f) (v .accepted); newest = v .newest; pieces = v .pieces; outs = v .outs }
+    v′ = record {
+      accepted = ap (acceptReliable f) (v .accepted);
+      profile = v .profile;
+      newest = v .newest;
+      pieces = v .pieces;
+      outs = v .outs;
+    }
 
 -- Once room has run out, that stays said.
 cascade-full : (n c : ℕ) (w : Work) → cascade n c w .full ≡ w .full
@@ -246,6 +257,7 @@ frames-sim (f ∷ fs) b w h v full =
     let r = frames-sim fs (step b f .after) (frame w f) h (sim-rel s) full in
     record {
       accepted = r .accepted;
+      profile = r .profile;
       newest = r .newest;
       pieces = r .pieces;
       outs = r .outs;

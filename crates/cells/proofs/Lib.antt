@@ -24,6 +24,7 @@ pub mod Records
 pub mod SoundTest
 pub mod SoundKept
 pub mod Memories
+pub mod Profile
 pub mod EverySound
 pub mod Counting
 pub mod Shown

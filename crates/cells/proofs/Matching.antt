@@ -12,6 +12,7 @@ use Rattle.base.specs.Lists.{find, any}
 use Rattle.base.proofs.Choices.{neither}
 use Rattle.base.proofs.Lists.{find-no, any-replicate}
 use Rattle.base.proofs.Counts.{count-none}
+use Rattle.reliability.specs.declared.Profile.{Profile}
 use Rattle.bare.specs.Frame.{Frame, Message}
 use Rattle.bare.specs.Bare.{Bare, new, feed}
 use Rattle.cells.specs.Cell.{Key, openAs, heldAs, readyAs, of, sits, emptySlot, freed}
@@ -32,6 +33,7 @@ pub record Matches (b : Bare) (s : State) (handed : List Message) : Type 0 where
   pub lo : ℕ
   pub n : ℕ
   pub accepted : b .accepted ≡ s .accepted
+  pub profile : b .out .profile ≡ s .profile
   pub newest : b .out .newest ≡ s .newest
   pub pieces : Pieces (b .pieces) (s .slots)
   pub outs : Outs (b .out) (s .next) (s .slots) lo n handed
@@ -45,6 +47,7 @@ module _ (b : Bare) (s : State) (h : List Message) (v : Matches b s h) where
   unfolding begin
   begin-rel = record {
     accepted = v .accepted;
+    profile = v .profile;
     newest = v .newest;
     pieces = renumber-pieces (b .pieces) (s .slots) (v .pieces);
     outs = renumber-outs (v .outs);
@@ -72,6 +75,7 @@ module _ (b : Bare) (s : State) (h : List Message) (v : Matches b s h) where
       lo = 0;
       n = datagram s fs .turn;
       accepted = sim .accepted;
+      profile = sim .profile;
       newest = sim .newest;
       pieces = sweep-pieces _ _ (sim .pieces);
       outs = sweep-outs (sim .outs);
@@ -95,6 +99,7 @@ module _ (b : Bare) (s : State) (h : List Message) (v : Matches b s h) where
             lo = suc lo;
             n = n;
             accepted = v .accepted;
+            profile = v .profile;
             newest = v .newest;
             pieces = emptied-pieces (of (readyAs lo)) (b .pieces)
                 (s .slots) (λ s m y. isOpen-used s 3 (of-used (readyAs lo) s y) (λ q. omega arith)) (v .pieces);
@@ -102,12 +107,19 @@ module _ (b : Bare) (s : State) (h : List Message) (v : Matches b s h) where
           })
 
 -- A receiver just made, of n cells, matches the bare receiver at first.
-pub new-matches : (n : ℕ) → Matches new (record { accepted = λ k. false; next = λ c. 0; newest = λ m. 0; slots = replicate n emptySlot }) []
+pub new-matches : (p : Profile) (n : ℕ) → Matches (new p) (record {
+  profile = p;
+  accepted = λ k. false;
+  next = λ c. 0;
+  newest = λ m. 0;
+  slots = replicate n emptySlot;
+}) []
 unfolding new any find pieceAt opens
-new-matches n = record {
+new-matches p n = record {
   lo = 0;
   n = 0;
   accepted = refl;
+  profile = refl;
   newest = refl;
   pieces = record {
     tests = λ p. sym (any-replicate (opens p) emptySlot n (rw empty-open));

@@ -14,6 +14,8 @@ use Rattle.base.specs.Lists.{any}
 use Rattle.base.specs.Numbers.{following}
 use Rattle.base.proofs.Choices.{byBool, and-left}
 use Rattle.base.proofs.Lists.{below-at, below-all}
+use Rattle.reliability.specs.declared.Profile.{Profile}
+use Rattle.reliability.specs.declared.Profile.the-variants.{Console, Cpp}
 use Rattle.bare.specs.Frame.{Frame, inLimits}
 use Rattle.bare.specs.Bare.{memoryOf, noted, seenBefore}
 use Rattle.cells.specs.Cell.{openAs, isFree, allThere, clash, putSlot, slotOf}
@@ -41,12 +43,12 @@ module _ (P : ℕ → Type 0) (m : ℕ) where
   roomy-has w r v u = byBool Has (any isFree (w .state .slots)) (λ t. u) (λ t. v)
 
   abbrev Sets : Frame → Type 0
-  Sets f = m ≡ memoryOf (f .kind) (f .channel) → P (following (f .sequence))
+  Sets f = (p : Profile) → m ≡ memoryOf p (f .kind) (f .channel) → P (following (f .sequence))
 
   remember-has : (f : Frame) (w : Work) → Sets f → Has w → Has (rememberIn f w)
   unfolding rememberIn noted
-  remember-has f w k v = byBool P (eqb m (memoryOf (f .kind) (f .channel)))
-      (λ t. k (eqb-true m (memoryOf (f .kind) (f .channel)) t)) (λ t. v)
+  remember-has f w k v = byBool P (eqb m (memoryOf (w .state .profile) (f .kind) (f .channel)))
+      (λ t. k (w .state .profile) (eqb-true m (memoryOf (w .state .profile) (f .kind) (f .channel)) t)) (λ t. v)
 
   whole-has : (x : Fate) (f : Frame) (w : Work) → Sets f → Has w → Has (whole x f w)
   unfolding whole readied dropOne place made
@@ -86,23 +88,24 @@ module _ (P : ℕ → Type 0) (m : ℕ) where
   frames-has [] w k v = v
   frames-has (f ∷ fs) w k v = frames-has fs (frame w f) (λ g i. k g (List·Memᴰ·tail i)) (frame-has f w (k f (List·Memᴰ·head refl)) v)
 
--- A frame within limits has one of the 33 memories.
-memory-within : (f : Frame) → inLimits f ≡ true → memoryOf (f .kind) (f .channel) < memories
+-- A frame within limits has one of the 33 memories, in either profile.
+memory-within : (p : Profile) (f : Frame) → inLimits f ≡ true → memoryOf p (f .kind) (f .channel) < memories
 unfolding inLimits memoryOf
-memory-within f e = byBool (λ (i : ℕ). i < memories) (eqb (f .kind) 1)
+memory-within Console f e = byBool (λ (i : ℕ). i < memories) (eqb (f .kind) 1)
     (λ t. let p = ltb-true (f .channel) maxOrdChans (and-left (ltb (f .channel) maxOrdChans) _ e) in omega arith) (λ t. omega arith)
+memory-within Cpp f e = let p = ltb-true (f .channel) maxOrdChans (and-left (ltb (f .channel) maxOrdChans) _ e) in omega arith
 
 -- Past them no memory is touched.
 pub memories-past : (s : State) (fs : List Frame) (m : ℕ) → memories ≤ m → end (datagram s fs) .newest m ≡ s .newest m
 unfolding datagram begin end
 memories-past s fs m le = frames-has (λ n. n ≡ s .newest m) m fs (begin s)
-    (λ f i e q. let p = memory-within f e in absurd (omega arith)) refl
+    (λ f i e who q. let p = memory-within who f e in absurd (omega arith)) refl
 
 -- A memory within 24 bits stays so, where the frames came from bytes.
 pub memory-small : (s : State) (fs : List Frame) → ((f : Frame) → List·Memᴰ f fs → Readable f) → (m : ℕ) → s .newest m ≤ numbers24
     → end (datagram s fs) .newest m ≤ numbers24
 unfolding datagram begin end
-memory-small s fs ok m v = frames-has (λ n. n ≤ numbers24) m fs (begin s) (λ f i e q. let p = ok f i .sequence in omega arith) v
+memory-small s fs ok m v = frames-has (λ n. n ≤ numbers24) m fs (begin s) (λ f i e who q. let p = ok f i .sequence in omega arith) v
 
 pub memories-sound : (s : State) (fs : List Frame) → ((f : Frame) → List·Memᴰ f fs → Readable f) → soundMemories (s .newest) ≡ true
     → soundMemories (end (datagram s fs) .newest) ≡ true

@@ -142,6 +142,7 @@ module _ {o : Out} {next : ℕ → ℕ} {l : List Slot} {lo n : ℕ} {h : List M
   pub outs-emit : (next′ next″ : ℕ → ℕ) → next′ ≡ next″ → any (of (heldAs (m .channel) (m .order))) l′ ≡ false
       → ((c k : ℕ) → isAt c k m ≡ false → SameUnder (heldAs c k) l (heldAs c k) l′)
       → Outs (record {
+        profile = o .profile;
         next = next′;
         newest = o .newest;
         held = without (isAt (m .channel) (m .order)) (o .held);

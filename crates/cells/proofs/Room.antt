@@ -12,6 +12,7 @@ use borrow.Author.Tests.{ltb-true, ltb-false, lt-ltb, le-ltb, eqb-true}
 use Rattle.base.specs.Lists.{find, any, countOf}
 use Rattle.base.proofs.Choices.{byBool, cases, byOption}
 use Rattle.base.proofs.Counts.{count-map, count-none, count-both}
+use Rattle.reliability.specs.declared.Profile.{Profile}
 use Rattle.bare.specs.Frame.{Frame, Message, ordered, sequenced, inLimits, pieceOf, message}
 use Rattle.bare.specs.Bare.{Out, Bare, Sent, isAt, emit, follow, quiet, queue, memoryOf, older, ready, sequence, deliver, conflict}
 use Rattle.bare.specs.Bare.{seenBefore, acceptReliable, step}
@@ -105,7 +106,7 @@ follow-dropped (suc n) c s = byOption (λ (t : Sent). t .dropped ≡ s .dropped)
 -- its memory, and no other.
 deliver-dropped : (n : ℕ) (m : Message) (o : Out) → deliver n m o .dropped
     ≡ cond (ordered (m .kind)) (cond (ltb (m .order) (o .next (m .channel)) || any (isAt (m .channel) (m .order)) (o .held)) 1 0)
-    (cond (sequenced (m .kind)) (cond (older (o .newest) (memoryOf (m .kind) (m .channel)) n) 1 0) 0)
+    (cond (sequenced (m .kind)) (cond (older (o .newest) (memoryOf (o .profile) (m .kind) (m .channel)) n) 1 0) 0)
 unfolding deliver queue sequence ready quiet emit
 deliver-dropped n m o = cases (ordered (m .kind))
     (λ t. rw t (cases (ltb (m .order) (o .next (m .channel)) || any (isAt (m .channel) (m .order)) (o .held))
@@ -113,7 +114,7 @@ deliver-dropped n m o = cases (ordered (m .kind))
     (λ u. rw u (byBool (λ (s : Sent). s .dropped ≡ 0) (eqb (m .order) (o .next (m .channel)))
     (λ z. follow-dropped (length (o .held)) (m .channel) (emit m (quiet o 0))) (λ z. refl)))))
     (λ t. rw t (cases (sequenced (m .kind))
-    (λ u. rw u (cases (older (o .newest) (memoryOf (m .kind) (m .channel)) n) (λ z. rw z) (λ z. rw z)))
+    (λ u. rw u (cases (older (o .newest) (memoryOf (o .profile) (m .kind) (m .channel)) n) (λ z. rw z) (λ z. rw z)))
     (λ u. rw u)))
 
 cellsFor-is : (b : Bare) (w : Work) (h : List Message) (f : Frame) → Rel b w h → cellsFor (fateOf f w)
@@ -123,11 +124,13 @@ cellsFor-is b w h f v = rw (
   deliver-dropped (f .sequence) (message f (f .body)) (b .out),
   nx,
   ← isHeld-is (v .outs) (f .channel) (f .order),
-  ap (λ (g : ℕ → ℕ). older g (memoryOf (f .kind) (f .channel)) (f .sequence)) (v .newest),
+  ap (λ (p : Profile). memoryOf p (f .kind) (f .channel)) (v .profile),
+  ap (λ (g : ℕ → ℕ). older g (memoryOf (w .state .profile) (f .kind) (f .channel)) (f .sequence)) (v .newest),
 )
     (go (ordered (f .kind)) (sequenced (f .kind))
     (ltb (f .order) (w .state .next (f .channel)) || isHeld (f .channel) (f .order) (w .state .slots))
-    (eqb (f .order) (w .state .next (f .channel))) (older (w .state .newest) (memoryOf (f .kind) (f .channel)) (f .sequence)))
+    (eqb (f .order) (w .state .next (f .channel)))
+    (older (w .state .newest) (memoryOf (w .state .profile) (f .kind) (f .channel)) (f .sequence)))
   where
     nx : b .out .next (f .channel) ≡ w .state .next (f .channel)
     nx = ap (λ (g : ℕ → ℕ). g (f .channel)) (v .outs .next-same)
@@ -164,7 +167,7 @@ frame-spends b w h f v = rw (ap (seenBefore f) (v .accepted)) (cases (seenBefore
     (λ t. cases (inLimits f)
     (λ y. rw (t, y) (keepIn-spends (record { accepted = acceptReliable f (w .state .accepted); pieces = b .pieces; out = b .out })
     (acceptIn f w)
-    h f (record { accepted = refl; newest = v .newest; pieces = v .pieces; outs = v .outs })))
+    h f (record { accepted = refl; profile = v .profile; newest = v .newest; pieces = v .pieces; outs = v .outs })))
     (λ y. rw (t, y) (inr (refl, omega arith)))))
 
 frames-spends : (fs : List Frame) (b : Bare) (w : Work) (h : List Message) → Rel b w h → w .full ≡ false → frames w fs .full

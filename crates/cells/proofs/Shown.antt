@@ -5,6 +5,8 @@ use mathlib.Core.Bool.{Bool, false, cond}
 use mathlib.Core.List.{List, [], _∷_}
 use lib.ListN.{length, replicate}
 use Rattle.base.specs.Lists.{option, find, any, every, countOf, without, only, below}
+use Rattle.reliability.specs.declared.Profile.{Profile}
+use Rattle.reliability.specs.declared.Profile.the-variants.{Console}
 use Rattle.bare.specs.Frame.{Frame, Message, carriesReliable, ordered, sequenced, inLimits, pieceOf, message}
 use Rattle.bare.specs.Bare.{new, isAt, bump, emit, follow, quiet, hold, append, queue, memoryOf, older, noted, ready, sequence, deliver}
 use Rattle.bare.specs.Bare as bare
@@ -95,22 +97,29 @@ unfoldable pub seeing : State → List SlotCall → List Seen
 seeing s [] = []
 seeing s (c ∷ cs) = saw (telling s c) (stateAfter s c .slots) ∷ seeing (stateAfter s c) cs
 
--- Nothing accepted or remembered, every channel's next at c, and these slots.
+-- Nothing accepted or remembered, every channel's next at c, and these slots, in a profile; in document 01's.
+unfoldable pub stateAs : Profile → ℕ → List Slot → State
+stateAs p c l = record { profile = p; accepted = λ n. false; next = λ d. c; newest = λ m. 0; slots = l }
+
 unfoldable pub stateAt : ℕ → List Slot → State
-stateAt c l = record { accepted = λ n. false; next = λ d. c; newest = λ m. 0; slots = l }
+stateAt c l = stateAs Console c l
 
 -- The calls of a list, from a receiver just made of n cells. `unfolding run` opens every definition that a run computes with.
 unfoldable pub run : ℕ → List SlotCall → List Seen
-unfolding slot open-cell held-cell ready-cell saw telling stateAfter seeing stateAt whole-frame piece-frame numbered msg every keyOf limits
-    agree lacksNone below soundCell sound lengths find any without only carriesReliable ordered sequenced isAt bump emit follow quiet hold
-    append queue memoryOf older noted bare.remember ready sequence deliver message keep assemble joined dropIn finish step feed new pieceOf
-    conflict isPieceAt hasId inLimits acceptReliable seenBefore bears at of sits isFree isOpen isReady countOf join allThere messageOf
-    messageAt pieceIn clash mark markCell emptyCell emptySlot change mapIf turnTo freed putSlot slotOf dropOne fillUp place made rise
-    acceptIn isHeld goOn cascade rememberIn fate fateOf follows roomy readied whole joins kept piece keepIn frame frames isFirst isBefore
-    rank renumber sweep begin end datagram lower earliest taking drainIn drain cellSize cellBody slotsOf cellsOf laid storeOf
+unfolding slot open-cell held-cell ready-cell saw telling stateAfter seeing stateAs stateAt whole-frame piece-frame numbered msg every keyOf
+    limits agree lacksNone below soundCell sound lengths find any without only carriesReliable ordered sequenced isAt bump emit follow quiet
+    hold append queue memoryOf older noted bare.remember ready sequence deliver message keep assemble joined dropIn finish step feed new
+    pieceOf conflict isPieceAt hasId inLimits acceptReliable seenBefore bears at of sits isFree isOpen isReady countOf join allThere
+    messageOf messageAt pieceIn clash mark markCell emptyCell emptySlot change mapIf turnTo freed putSlot slotOf dropOne fillUp place made
+    rise acceptIn isHeld goOn cascade rememberIn fate fateOf follows roomy readied whole joins kept piece keepIn frame frames isFirst
+    isBefore rank renumber sweep begin end datagram lower earliest taking drainIn drain cellSize cellBody slotsOf cellsOf laid storeOf
 run n cs = seeing (stateAt 0 (replicate n emptySlot)) cs
 
--- The same from any slots, with every channel's next at c.
+-- The same in a profile.
+unfoldable pub runAs : Profile → ℕ → List SlotCall → List Seen
+runAs p n cs = seeing (stateAs p 0 (replicate n emptySlot)) cs
+
+-- From any slots, with every channel's next at c.
 unfoldable pub runFrom : ℕ → List Slot → List SlotCall → List Seen
 runFrom c l cs = seeing (stateAt c l) cs
 

@@ -115,7 +115,8 @@ found f w = byBool (λ (x : Fate). Found x f w) (ordered (f .kind))
     let b = ltb-false (f .order) (w .state .next (f .channel)) (or-left (ltb (f .order) (w .state .next (f .channel))) _ y) in
     (omega arith, or-right (ltb (f .order) (w .state .next (f .channel))) _ y))))
     (λ t. byBool (λ (x : Fate). Found x f w) (sequenced (f .kind))
-    (λ y. byBool (λ (x : Fate). Found x f w) (older (w .state .newest) (memoryOf (f .kind) (f .channel)) (f .sequence)) (λ z. tt) (λ z. tt))
+    (λ y. byBool (λ (x : Fate). Found x f w) (older (w .state .newest) (memoryOf (w .state .profile) (f .kind) (f .channel)) (f .sequence))
+    (λ z. tt) (λ z. tt))
     (λ y. tt))
 
 abbrev SoundIn : Work → Type 0

@@ -7,14 +7,16 @@ use lib.Dec.{ltb, eqb}
 use lib.ListN.{length}
 use Rattle.base.specs.Numbers.{behind}
 use Rattle.base.specs.Lists.{any, countOf}
+use Rattle.reliability.specs.declared.Profile.{Profile}
 use Rattle.bare.specs.Frame.{Frame, ordered, sequenced, inLimits}
 use Rattle.bare.specs.Bare.{bump, memoryOf, older, noted, acceptReliable, seenBefore}
 use Rattle.cells.specs.Cell.{Slot, openAs, heldAs, of, isFree, isReady, allThere, clash, mark, emptySlot, mapIf, turnTo, putSlot}
 use Rattle.cells.specs.Cell.{slotOf, heldUse, openUse, readyUse, releasedUse}
 
--- What stays between two calls, as far as the four steps go: the reliable numbers accepted, each channel's next, the memories
+-- What stays between two calls, as far as the four steps go: the profile, the reliable numbers accepted, each channel's next, the memories
 -- of newest sequence numbers and the slots.
 pub record State : Type 0 where
+  pub profile : Profile
   pub accepted : ℕ → Bool
   pub next : ℕ → ℕ
   pub newest : ℕ → ℕ
@@ -34,7 +36,7 @@ pub record Work : Type 0 where
 
 -- with other slots; a datagram at work with another state
 abbrev pub withSlots : List Slot → State → State
-withSlots l s = record { accepted = s .accepted; next = s .next; newest = s .newest; slots = l }
+withSlots l s = record { profile = s .profile; accepted = s .accepted; next = s .next; newest = s .newest; slots = l }
 
 abbrev pub onState : State → Work → Work
 onState s w = record { state = s; counts = w .counts; turn = w .turn; full = w .full }
@@ -45,6 +47,7 @@ place l w = onState (withSlots l (w .state)) w
 
 unfoldable pub rise : ℕ → Work → Work
 rise c w = onState (record {
+  profile = w .state .profile;
   accepted = w .state .accepted;
   next = bump c (w .state .next);
   newest = w .state .newest;
@@ -53,14 +56,16 @@ rise c w = onState (record {
 
 unfoldable pub rememberIn : Frame → Work → Work
 rememberIn f w = onState (record {
+  profile = w .state .profile;
   accepted = w .state .accepted;
   next = w .state .next;
-  newest = noted (memoryOf (f .kind) (f .channel)) (f .sequence) (w .state .newest);
+  newest = noted (memoryOf (w .state .profile) (f .kind) (f .channel)) (f .sequence) (w .state .newest);
   slots = w .state .slots;
 }) w
 
 unfoldable pub acceptIn : Frame → Work → Work
 acceptIn f w = onState (record {
+  profile = w .state .profile;
   accepted = acceptReliable f (w .state .accepted);
   next = w .state .next;
   newest = w .state .newest;
@@ -113,7 +118,7 @@ unfoldable pub fate : ℕ → ℕ → ℕ → ℕ → Work → Fate
 fate kind c o n w =
     let s = w .state in
     cond (ordered kind) (cond (behind (s .next c) o || isHeld c o (s .slots)) late (cond (eqb o (s .next c)) due early))
-    (cond (sequenced kind) (cond (older (s .newest) (memoryOf kind c) n) late newer) free)
+    (cond (sequenced kind) (cond (older (s .newest) (memoryOf (s .profile) kind c) n) late newer) free)
 
 unfoldable pub fateOf : Frame → Work → Fate
 fateOf f w = fate (f .kind) (f .channel) (f .order) (f .sequence) w

@@ -23,6 +23,7 @@ bareOf s = record {
   accepted = s .accepted;
   pieces = map pieceIn (only isOpen (s .slots));
   out = record {
+    profile = s .profile;
     next = s .next;
     newest = s .newest;
     held = map (heldIn (s .slots)) (only isHeldFirst (s .slots));

@@ -1,11 +1,12 @@
 -- What follows of document 01's rules for every call, and for every list of calls.
 -- Assumes nothing.
 use Prim.Native.Nat.{ℕ}
-use mathlib.Core.Path.{_≡_, ap, _∙_}
+use mathlib.Core.Path.{_≡_, sym, ap, subst, _∙_}
 use mathlib.Core.Logic.{_⊎_, _↔_}
 use mathlib.Core.Bool.{true}
 use mathlib.Core.List.{List, [], _∷_, List·Memᴰ}
 use Rattle.base.specs.Answer.{refused}
+use Rattle.reliability.specs.declared.Profile.{Profile}
 use Rattle.window.specs.declared.ReliableWindow.{ReliableWindow}
 use Rattle.window.specs.Window.{insertOf}
 use Rattle.window.proofs.Laws.{refusal-keeps-window}
@@ -15,7 +16,8 @@ use Rattle.receiver.specs.Calls.{Call, receive, Receiver, outcome, afterAll}
 use Rattle.receiver.specs.Claim.{Start, begun, AllBytes, readBy}
 use Rattle.receiver.proofs.Runs.{runs}
 use Rattle.receiver.proofs.Demand.{start-sane, demand-3}
-use Rattle.bare.proofs.Sequenced.{line-numbered, kind-1-rises, kind-4-rises}
+use Rattle.bare.specs.Sequenced.{numberedLine, sequencesOf, kind4, sequencedOn, RisesFrom}
+use Rattle.bare.proofs.Sequenced.{line-numbered, kind-1-rises, kind-4-rises, kinds-1-and-4-rise}
 use Rattle.corollaries.specs.Sequenced.{SequencedRise}
 use Rattle.corollaries.specs.Refusals.{RefusedWith, lent, lentAfter, IsAccepted, soundReceiver, Arrays}
 use Rattle.corollaries.proofs.Refusals.{refusal-keeps, sound-no-9}
@@ -65,11 +67,14 @@ sound-never-9 = sound-no-9
 pub never-9 : (s : Start) (cs : List Call) (c : Call) → AllBytes cs → RefusedWith (afterAll outcome (begun s) cs) c 9 → ⊥
 never-9 s cs c b = sound-no-9 (afterAll outcome (begun s) cs) c (reached-is-sound s cs b)
 
--- Request 1: on one channel the sequence numbers of the kind 1 messages that a list's takes hand out rise strictly, and so do kind 4's
--- among all of them.
+-- Request 1: on one channel the sequence numbers of the kind 1 messages that a list's takes hand out rise strictly, and in the console
+-- profile so do kind 4's among all of them; in the C++ profile (request 2) those of both kinds together, on one channel.
 pub sequenced-rise : (s : Start) (cs : List Call) → AllBytes cs → SequencedRise s cs
 sequenced-rise s cs b = record {
-  messages = line-numbered (readBy outcome s cs) ∙ demand-3 s s cs cs b b .first .line;
-  kind-1 = kind-1-rises (readBy outcome s cs);
-  kind-4 = kind-4-rises (readBy outcome s cs);
+  messages = line-numbered (s .profile) (readBy outcome s cs) ∙ demand-3 s s cs cs b b .first .line;
+  kind-1 = kind-1-rises (s .profile) (readBy outcome s cs);
+  kind-4 = λ e. subst (λ (p : Profile). RisesFrom 0 (sequencesOf kind4 (numberedLine p (readBy outcome s cs)))) (sym e)
+      (kind-4-rises (readBy outcome s cs));
+  kinds-1-and-4 = λ e c. subst (λ (p : Profile). RisesFrom 0 (sequencesOf (sequencedOn c) (numberedLine p (readBy outcome s cs)))) (sym e)
+      (kinds-1-and-4-rise (readBy outcome s cs) c);
 }

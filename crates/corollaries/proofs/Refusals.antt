@@ -23,7 +23,7 @@ use Rattle.cells.specs.Sound.{lengths, soundCells}
 use Rattle.cells.specs.Store.{slotsOf}
 use Rattle.cells.specs.Take.{earliest}
 use Rattle.receiver.specs.declared.RecvQueue.{RecvQueue}
-use Rattle.receiver.specs.Queue.{nextOf, unsentOf, soundQueue}
+use Rattle.receiver.specs.Queue.{nextOf, profileIn, unsentOf, soundQueue}
 use Rattle.receiver.specs.Receive.{Received, datagramNumber, isDatagram, framesIn, acceptAll, stateOf, acceptedResult, refusedResult}
 use Rattle.receiver.specs.Receive.{soundCall, receiveOf}
 use Rattle.receiver.specs.Take.{TakeResult, handed, takeOf}
@@ -51,8 +51,9 @@ receive-refused q rs st d n =
     number : (k : ℕ) → refusedResult q rs st k .answer ≡ refused n → k ≡ n
     number k e = unfold refusedResult in cc
 
-    gave : (a : Accepted q rs st d) → acceptedResult q st d (a .reliables) (datagram (stateOf q rs st) (framesIn d)) .answer ≡ refused n
-        → acceptedResult q st d (a .reliables) (datagram (stateOf q rs st) (framesIn d)) ≡ refusedResult q rs st n
+    gave : (a : Accepted q rs st d)
+        → acceptedResult q st d (a .reliables) (datagram (stateOf q rs st) (framesIn (profileIn q) d)) .answer ≡ refused n
+        → acceptedResult q st d (a .reliables) (datagram (stateOf q rs st) (framesIn (profileIn q) d)) ≡ refusedResult q rs st n
     gave a e = unfold acceptedResult in never-refused _ n e
 
 -- ---- take
@@ -119,8 +120,9 @@ receive-no-9 q rs st d s =
     (λ o. by-lt (λ (r : Received). NotNine (r .answer)) windowPlaces (distance (q .datagrams .low) (datagramNumber d))
     (λ b. other-number 5 9 (omega arith))
     (λ b. by-le (λ (r : Received). NotNine (r .answer)) maxUnsent (q .pending) (λ u. other-number 6 9 (omega arith))
-    (λ u. byOption (λ (r : Received). NotNine (r .answer)) (acceptAll (q .reliables) (framesIn d)) (λ e. other-number 7 9 (omega arith))
-    (λ v e. by-true (λ (r : Received). NotNine (r .answer)) (datagram (stateOf q rs st) (framesIn d) .full)
+    (λ u. byOption (λ (r : Received). NotNine (r .answer)) (acceptAll (q .reliables) (framesIn (profileIn q) d))
+    (λ e. other-number 7 9 (omega arith))
+    (λ v e. by-true (λ (r : Received). NotNine (r .answer)) (datagram (stateOf q rs st) (framesIn (profileIn q) d) .full)
     (λ f. other-number 8 9 (omega arith))
     (λ f. never-refused _ 9))))))
     (λ i. other-number 3 9 (omega arith)))))

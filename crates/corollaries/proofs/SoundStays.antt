@@ -19,7 +19,7 @@ use Rattle.receiver.specs.Queue.{unsentOf, placesWithin, soundWindow, differ, s
 use Rattle.receiver.specs.Calls.{Call, Receiver, outcome, afterAll}
 use Rattle.receiver.specs.Claim.{AllBytes}
 use Rattle.receiver.proofs.Queues.{Good}
-use Rattle.receiver.proofs.Receives.{Sane, unsent-sound}
+use Rattle.receiver.proofs.Receives.{Sane, profile-sound, unsent-sound}
 use Rattle.receiver.proofs.Runs.{runs}
 use Rattle.corollaries.specs.Refusals.{Arrays, soundReceiver}
 use Rattle.corollaries.proofs.Refusals.{queue-sound}
@@ -67,6 +67,7 @@ queue-good q z e =
       datagrams = window-sound (q .datagrams) (z .datagrams) (and-left (soundWindow (q .datagrams)) _ e);
       reliables = window-sound (q .reliables) (z .reliables) (and-left (soundWindow (q .reliables)) _ r);
       channels = z .channels;
+      profile = profile-sound q e;
       unsent = z .unsent;
       pending = leb-true (q .pending) maxUnsent (and-left (leb (q .pending) maxUnsent) _ u);
       members = and-left (every (λ n. ltb n numbers24 && accepted (q .datagrams) n) (unsentOf q)) (differ (unsentOf q)) m;

@@ -10,6 +10,8 @@ use lib.ListN.{length}
 use Rattle.base.specs.Bytes.{be16, be32, le24, be16Bytes, le24Bytes}
 use Rattle.base.specs.Put.{put, andThen}
 use Rattle.base.specs.If.{ifTrue, ifLt, ifLe, ifEq}
+use Rattle.reliability.specs.declared.Profile.the-variants.{Console}
+use Rattle.reliability.specs.Profiles.{profileOf}
 use Rattle.reliability.specs.Kinds.{fieldsOf}
 use Rattle.frame.specs.Read as fr
 use Rattle.frame.specs.Frames as frs
@@ -24,7 +26,7 @@ use Rattle.bare.proofs.Shown.{whole-frame, msg}
 use Rattle.cells.specs.Records.{indexOf}
 use Rattle.cells.proofs.Shown.{run}
 use Rattle.receiver.specs.Queue.{newQueue, placesWithin, soundWindow, differ, soundUnsent, soundQueue, nextIn, nextOf, memoriesIn, newestOf}
-use Rattle.receiver.specs.Queue.{unsentOf, insertUnsent}
+use Rattle.receiver.specs.Queue.{profileIn, unsentOf, soundProfile, insertUnsent}
 use Rattle.receiver.specs.Receive.{frameIn, framesIn, bytesLeft, acceptAll, stateOf, channelsAfter, queueAfter, acceptedResult}
 use Rattle.receiver.specs.Receive.{refusedResult, soundCall, receiveOf}
 use Rattle.receiver.specs.Take.{handed, takeOf}
@@ -41,13 +43,13 @@ use Rattle.corollaries.specs.Wrong.{traceStart}
 unfoldable pub outBy : (Receiver → Call → Outcome) → List Message
 unfolding trace1 trace2 traceCalls traceStart made zeros takes bytesAt messageHanded tookOf acceptedBy refusalOf receiveOutcome
     takeOutcome writeOutcome outcome framesRead bareAnswers afterAll handedOut acceptedOf stillOut drained lineFor
-    framesIn frameIn bytesLeft frs.framesOf frs.framesFrom frs.endOf frs.endFrom frs.onRead fr.readFrameOf fr.frameAt fr.placedAt ifTrue
-    ifLt ifLe ifEq be16 be32 le24 be16Bytes le24Bytes put andThen fieldsOf
+    framesIn frameIn bytesLeft frs.framesOf frs.framesFrom frs.endOf frs.endFrom frs.onRead fr.readFrameOf fr.frameAt fr.bodyLength
+    fr.placedAt ifTrue ifLt ifLe ifEq be16 be32 le24 be16Bytes le24Bytes put andThen fieldsOf profileOf
     records.firstOf records.lastOf records.recordBytes records.recordsBytes records.grow records.runs ack.idOf ack.ackHeaderBytes
     ack.listBytes ack.someOver ack.tooLarge ack.ascending ack.byListCase ack.writeListOf ack.writtenOf
     places.bit places.placeSet places.setPlace places.clearPlace window.newWindow window.accepted window.advance window.accept
-    newQueue placesWithin soundWindow differ soundUnsent soundQueue nextIn nextOf memoriesIn newestOf unsentOf insertUnsent acceptAll
-    stateOf channelsAfter queueAfter acceptedResult refusedResult soundCall receiveOf
+    newQueue placesWithin soundWindow differ soundProfile soundUnsent soundQueue nextIn nextOf memoriesIn newestOf profileIn unsentOf
+    insertUnsent acceptAll stateOf channelsAfter queueAfter acceptedResult refusedResult soundCall receiveOf
     handed takeOf indexOf sorted writeOf emptied writeUnsentOf outcomeWith idle untouched acknowledged firstOnly mute
 outBy by = handedOut by (begun traceStart) traceCalls ++ stillOut by (afterAll by (begun traceStart) traceCalls)
 
@@ -76,16 +78,17 @@ ours-ends : (buffer : List ℕ) → outcome (leftBy outcome traceStart traceCall
 unfolding run outBy
 ours-ends buffer = refl
 
-bare-line : lineFor (framesRead traceAccepted) ≡ traceLine
+bare-line : lineFor Console (framesRead traceAccepted) ≡ traceLine
 unfolding run outBy traceLine traceAccepted
 bare-line = refl
 
-bare-counts : bareAnswers new traceAccepted ≡ traceAccepted
+bare-counts : bareAnswers (new Console) traceAccepted ≡ traceAccepted
 unfolding run outBy traceAccepted
 bare-counts = refl
 
 -- Our receive and take pass.
 pub ours-passes : OneList outcome traceStart traceCalls
+unfolding traceStart
 ours-passes =
     let e : acceptedOf outcome (begun traceStart) traceCalls ≡ traceAccepted = unfold acceptsBy in ours-accepts in
     let h : handedOut outcome (begun traceStart) traceCalls ++ stillOut outcome (afterAll outcome (begun traceStart) traceCalls)
@@ -94,14 +97,14 @@ ours-passes =
     record { line = rw e (bare-line ∙ sym h); until-20 = ours-ends; counts = rw e (sym bare-counts) }
 
 -- Calls that accept frames with two messages in the line and hand out none fail.
-none-handed-out : (by : Receiver → Call → Outcome) → length (lineFor (readBy by traceStart traceCalls)) ≡ 2 → length (outBy by) ≡ 0
+none-handed-out : (by : Receiver → Call → Outcome) → length (lineFor Console (readBy by traceStart traceCalls)) ≡ 2 → length (outBy by) ≡ 0
     → OneList by traceStart traceCalls → ⊥
 none-handed-out by two none o =
-    let c : lineFor (readBy by traceStart traceCalls) ≡ outBy by = unfold outBy in o .line in
-    let n : length (lineFor (readBy by traceStart traceCalls)) ≡ length (outBy by) = ap {B = ℕ} (λ l. length l) c in
+    let c : lineFor Console (readBy by traceStart traceCalls) ≡ outBy by = unfold outBy in o .line in
+    let n : length (lineFor Console (readBy by traceStart traceCalls)) ≡ length (outBy by) = ap {B = ℕ} (λ l. length l) c in
     omega arith
 
-idle-line : length (lineFor (readBy idle traceStart traceCalls)) ≡ 2
+idle-line : length (lineFor Console (readBy idle traceStart traceCalls)) ≡ 2
 unfolding run outBy
 idle-line = refl
 
@@ -113,7 +116,7 @@ idle-out = refl
 pub idle-fails : OneList idle traceStart traceCalls → ⊥
 idle-fails = none-handed-out idle idle-line idle-out
 
-first-only-line : length (lineFor (readBy firstOnly traceStart traceCalls)) ≡ 2
+first-only-line : length (lineFor Console (readBy firstOnly traceStart traceCalls)) ≡ 2
 unfolding run outBy
 first-only-line = refl
 
@@ -125,7 +128,7 @@ first-only-out = refl
 pub first-only-fails : OneList firstOnly traceStart traceCalls → ⊥
 first-only-fails = none-handed-out firstOnly first-only-line first-only-out
 
-mute-line : length (lineFor (readBy mute traceStart traceCalls)) ≡ 2
+mute-line : length (lineFor Console (readBy mute traceStart traceCalls)) ≡ 2
 unfolding run outBy
 mute-line = refl
 

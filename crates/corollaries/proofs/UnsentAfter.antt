@@ -9,7 +9,7 @@ use native.Mathlib.Omega.{arith}
 use lib.Dec.{ltb}
 use Rattle.base.proofs.Choices.{byBool}
 use Rattle.cells.specs.Datagram.{datagram}
-use Rattle.receiver.specs.Queue.{unsentOf, insertUnsent}
+use Rattle.receiver.specs.Queue.{profileIn, unsentOf, insertUnsent}
 use Rattle.receiver.specs.Receive.{Received, datagramNumber, framesIn, stateOf, queueAfter, acceptedResult, refusedResult}
 use Rattle.receiver.specs.Calls.{receive, Receiver, refusalOf, receiveOutcome, outcome}
 use Rattle.receiver.proofs.Unsent.{taken-after}
@@ -69,8 +69,8 @@ unsent-is x d z =
 
     put : (a : Accepted (x .queue) (x .records) (x .store) d)
         → unsentOf (acceptedResult (x .queue) (x .store) d (a .reliables)
-        (datagram (stateOf (x .queue) (x .records) (x .store)) (framesIn d)) .queue) ≡ insertUnsent (datagramNumber d)
-        (unsentOf (x .queue))
+        (datagram (stateOf (x .queue) (x .records) (x .store)) (framesIn (profileIn (x .queue)) d)) .queue)
+        ≡ insertUnsent (datagramNumber d) (unsentOf (x .queue))
     put a = unfold acceptedResult queueAfter unsentOf in taken-after (datagramNumber d) (x .queue .pending) (x .queue .unsent)
         (let m = a .room in let n = z .unsent in omega arith)
 

@@ -7,7 +7,9 @@ use native.Mathlib.Omega.{arith}
 use lib.Dec.{eqb}
 use Rattle.base.specs.Answer.{gives}
 use Rattle.base.specs.Lists.{every}
+use Rattle.reliability.specs.declared.Profile.the-variants.{Console}
 use Rattle.receiver.specs.declared.RecvQueue.{RecvQueue}
+use Rattle.receiver.specs.Queue.{profileIn}
 use Rattle.receiver.specs.Receive.{Received, receiveOf}
 use Rattle.receiver.specs.Take.{TakeResult, takeRefuses, takeOf}
 use Rattle.receiver.specs.Calls.{Call, receive, take-with, write-unsent, write-missing, Receiver, Outcome, receiveOutcome, takeOutcome}
@@ -22,7 +24,7 @@ abbrev pub ourTake : Receiver → List ℕ → TakeResult
 ourTake x buffer = takeOf (x .queue) (x .records) (x .store) buffer
 
 unfoldable pub outcomeWith : (Receiver → List ℕ → Received) → (Receiver → List ℕ → TakeResult) → Receiver → Call → Outcome
-outcomeWith receiving taking x (receive d) = receiveOutcome d (receiving x d)
+outcomeWith receiving taking x (receive d) = receiveOutcome (profileIn (x .queue)) d (receiving x d)
 outcomeWith receiving taking x (take-with buffer) = takeOutcome x (taking x buffer)
 outcomeWith receiving taking x (write-unsent out) = outcome x (write-unsent out)
 outcomeWith receiving taking x (write-missing out) = outcome x (write-missing out)
@@ -52,6 +54,7 @@ acknowledged x r =
         unsent = r .queue .unsent;
         pending = r .queue .pending;
         newest = x .queue .newest;
+        profile = x .queue .profile;
       };
       records = x .records;
       store = x .store;
@@ -83,4 +86,11 @@ traceCalls =
 -- two cells do
 unfoldable pub traceStart : Start
 unfolding zeros
-traceStart = record { cells = 2; store = zeros 3000; some-cells = omega arith; most-cells = omega arith; store-length = refl }
+traceStart = record {
+  profile = Console;
+  cells = 2;
+  store = zeros 3000;
+  some-cells = omega arith;
+  most-cells = omega arith;
+  store-length = refl;
+}

@@ -10,7 +10,9 @@ use Rattle.base.specs.If.{ifTrue, ifLt, ifLe, ifEq}
 use Rattle.base.specs.Limits.{cellBytes, maxOrdChans, maxUnsent}
 use Rattle.base.specs.Lists as lists
 use Rattle.base.specs.Put.{put, andThen}
+use Rattle.reliability.specs.declared.Profile.{Profile}
 use Rattle.reliability.specs.Kinds.{fieldsOf}
+use Rattle.reliability.specs.Profiles.{profileOf}
 use Rattle.frame.specs.Read as frame
 use Rattle.frame.specs.Frames as frames
 use Rattle.ack.specs.Records as records
@@ -121,11 +123,11 @@ unfoldable pub seeing : calls.Receiver → List calls.Call → List Seen
 seeing x [] = []
 seeing x (c ∷ cs) = let y = calls.outcome x c .left in seen (telling x c) y ∷ seeing y cs
 
--- The calls of a list, from a receiver just made of n cells. `unfolding run` opens every definition that a run computes with.
-unfoldable pub run : ℕ → List calls.Call → List Seen
+-- The calls of a list, from a receiver just made of n cells in a profile. `unfolding run` opens every definition that a run computes with.
+unfoldable pub run : Profile → ℕ → List calls.Call → List Seen
 unfolding ifTrue ifLt ifLe ifEq be16 be32 le24 be16Bytes le24Bytes put andThen
     lists.find lists.any lists.every lists.countOf lists.below
-    fieldsOf frame.frameAt frame.placedAt frame.readFrameOf
+    fieldsOf profileOf frame.frameAt frame.bodyLength frame.placedAt frame.readFrameOf
     frames.onRead frames.framesFrom frames.endFrom frames.framesOf frames.endOf
     records.firstOf records.lastOf records.recordBytes records.recordsBytes records.grow records.runs
     ack.idOf ack.ackHeaderBytes ack.listBytes ack.someOver ack.tooLarge ack.ascending ack.byListCase ack.writeListOf ack.writtenOf
@@ -144,19 +146,19 @@ unfolding ifTrue ifLt ifLe ifEq be16 be32 le24 be16Bytes le24Bytes put andThen
     cells.indexOf ready.lower ready.earliest
     sound.keyOf sound.limits sound.agree sound.lacksNone sound.soundCell sound.lengths
     store.cellSize store.cellBody store.slotsOf store.cellsOf store.laid store.storeOf
-    queue.nextIn queue.nextOf queue.memoriesIn queue.newestOf queue.unsentOf queue.newQueue queue.placesWithin queue.soundWindow
-    queue.differ queue.soundUnsent queue.soundQueue queue.insertUnsent
+    queue.nextIn queue.nextOf queue.memoriesIn queue.newestOf queue.unsentOf queue.profileIn queue.newQueue queue.placesWithin
+    queue.soundWindow queue.differ queue.soundProfile queue.soundUnsent queue.soundQueue queue.insertUnsent
     receive.frameIn receive.framesIn receive.bytesLeft receive.acceptAll receive.stateOf receive.channelsAfter receive.queueAfter
     receive.acceptedResult receive.refusedResult receive.soundCall receive.receiveOf
     take.handed take.takeOf write.sorted write.writeOf write.emptied write.writeUnsentOf write.writeMissingOf
     calls.made calls.bytesAt calls.messageHanded calls.receiveOutcome calls.takeOutcome calls.writeOutcome calls.outcome
     received message taken written telling seen seeing slot
-run n cs = seeing (calls.made n (replicate (cellBytes * n) 0)) cs
+run p n cs = seeing (calls.made p n (replicate (cellBytes * n) 0)) cs
 
--- A new receiver but for these values: both windows' low; the next and the memory of channel c; the receiver's own memory; the unsent
--- numbers.
-abbrev pub valuesOf : ℕ → ℕ → ℕ → ℕ → ℕ → ℕ → List ℕ → RecvQueue
-valuesOf datagrams reliables c next newest own unsent =
+-- A new receiver but for these values: both windows' low; the next and the memory of channel c; the receiver's own memory; its profile's
+-- number; the unsent numbers.
+abbrev pub valuesOf : ℕ → ℕ → ℕ → ℕ → ℕ → ℕ → ℕ → List ℕ → RecvQueue
+valuesOf datagrams reliables c next newest own profile unsent =
     record {
       datagrams = window.windowOf datagrams (replicate 256 0);
       reliables = window.windowOf reliables (replicate 256 0);
@@ -165,9 +167,10 @@ valuesOf datagrams reliables c next newest own unsent =
       unsent = unsent ++ replicate (maxUnsent - length unsent) 0;
       pending = length unsent;
       newest = own;
+      profile = profile;
     }
 
 -- Are they sound?
-unfoldable pub soundValues : ℕ → ℕ → ℕ → ℕ → ℕ → ℕ → List ℕ → Bool
-soundValues datagrams reliables c next newest own unsent =
-    queue.soundQueue (valuesOf datagrams reliables c next newest own unsent)
+unfoldable pub soundValues : ℕ → ℕ → ℕ → ℕ → ℕ → ℕ → ℕ → List ℕ → Bool
+soundValues datagrams reliables c next newest own profile unsent =
+    queue.soundQueue (valuesOf datagrams reliables c next newest own profile unsent)

@@ -1,16 +1,21 @@
 // Frames and a datagram's head for programs in other languages, as `exports` has windows, ACKs and splits (`rt staticlib exports_frames`).
-// Each promise says by the called function's own definition what all the numbers are, and what is left of the output.
+// Each promise says by the called function's own definition what all the numbers are, and what is left of the output. A profile is a
+// number here, 0 console and 1 C++; every other is refused with 9.
 ghost use mathlib.Core.Path.{_≡_};
+ghost use lib.Dec.{ltb};
 ghost use lib.ListN.{length};
+ghost use Rattle.base.specs.Answer.{gives};
+ghost use Rattle.base.specs.If.{ifLt};
+ghost use Rattle.base.specs.Limits.{profiles};
+ghost use Rattle.reliability.specs.Profiles.{profileOf};
 ghost use Rattle.frame.specs.Frames.{readFramesOf};
 ghost use Rattle.frame.specs.Read.{readFrameOf, readAnswer};
 ghost use Rattle.frame_write.specs.Valid.{writeFrameOf, frameWrittenOf, frameWriteAnswer};
 ghost use Rattle.frame_write.specs.Head.{writeHeadOf, headWrittenOf, headAnswer};
 ghost use Rattle.exports.specs.Numbers.{numberOf};
-ghost use Rattle.exports_frames.specs.Frames.{noFrame, frameTold, writtenTold};
+ghost use Rattle.exports_frames.specs.Frames.{underProfile, noFrame, frameTold, framesTold, writtenTold};
 use frame::FragmentMeta;
 use frame::Frame;
-use frame::FramesRead;
 use frame::Placed;
 use frame::ReadFrame;
 use frame_write::WriteFrame;
@@ -24,6 +29,14 @@ pub struct FrameFound {
     pub next: usize,
 }
 
+// How many frames there are, and the bytes left from the first that does not fit.
+#[repr(C)]
+pub struct FramesFound {
+    pub number: u32,
+    pub count: usize,
+    pub left: usize,
+}
+
 // The place after the frame.
 #[repr(C)]
 pub struct FrameWritten {
@@ -33,32 +46,58 @@ pub struct FrameWritten {
 
 // The frames from place `at` on.
 #[no_mangle]
-pub extern "C" fn poghduka_read_frames(s: &[u8], at: usize) -> FramesRead
-    ensures { λ r. ⌜ r ≡ readFramesOf (now (s .entry)) at ⌝ }
+pub extern "C" fn poghduka_read_frames(profile: u32, s: &[u8], at: usize) -> FramesFound
+    ensures { λ r. ⌜ r ≡ framesTold (underProfile profile (gives (readFramesOf (profileOf profile) (now (s .entry)) at))) ⌝ }
 {
-    frame::read_frames(s, at)
+    if known(profile) {
+        let p = reliability::profile_of(profile);
+        let found = frame::read_frames(p, s, at);
+        return FramesFound {
+            number: 0,
+            count: found.count,
+            left: found.left,
+        };
+    }
+    FramesFound {
+        number: 9,
+        count: 0,
+        left: 0,
+    }
 }
 
 // The frame at place `at`.
 #[no_mangle]
-pub extern "C" fn poghduka_read_frame(s: &[u8], at: usize) -> FrameFound
-    ensures { λ r. ⌜ r ≡ frameTold (readFrameOf (now (s .entry)) at) ⌝ }
+pub extern "C" fn poghduka_read_frame(profile: u32, s: &[u8], at: usize) -> FrameFound
+    ensures { λ r. ⌜ r ≡ frameTold (underProfile profile (readFrameOf (profileOf profile) (now (s .entry)) at)) ⌝ }
 {
-    frame_told(frame::read_frame(s, at))
+    if known(profile) {
+        let p = reliability::profile_of(profile);
+        let answer = frame::read_frame(p, s, at);
+        return frame_told(answer);
+    }
+    no_frame(9)
 }
 
 // Writes the frame into the output from place `at` on.
 #[no_mangle]
 pub extern "C" fn poghduka_write_frame(
+    profile: u32,
     out: &mut [u8],
     at: usize,
     frame: Frame,
     body: &[u8],
 ) -> FrameWritten
-    ensures { λ r. ⌜ r ≡ writtenTold (writeFrameOf (length (now (out .entry))) at frame (length (now (body .entry)))) ⌝ }
-    ensures { λ r. ⌜ now (out .exit) ≡ frameWrittenOf (now (out .entry)) at frame (now (body .entry)) ⌝ }
+    ensures { λ r. ⌜ r ≡ writtenTold (underProfile profile
+        (writeFrameOf (profileOf profile) (length (now (out .entry))) at frame (length (now (body .entry))))) ⌝ }
+    ensures { λ r. ⌜ now (out .exit)
+        ≡ ifLt profile profiles (frameWrittenOf (profileOf profile) (now (out .entry)) at frame (now (body .entry))) (now (out .entry)) ⌝ }
 {
-    written_told(frame_write::write_frame(out, at, frame, body))
+    if known(profile) {
+        let p = reliability::profile_of(profile);
+        let answer = frame_write::write_frame(p, out, at, frame, body);
+        return written_told(answer);
+    }
+    FrameWritten { number: 9, next: 0 }
 }
 
 // Writes 84 and the number at the start of the output.
@@ -68,6 +107,13 @@ pub extern "C" fn poghduka_write_head(out: &mut [u8], number: u32) -> u32
     ensures { λ r. ⌜ now (out .exit) ≡ headWrittenOf (now (out .entry)) number ⌝ }
 {
     head_number(frame_write::write_head(out, number))
+}
+
+// Is it a profile's number?
+fn known(profile: u32) -> bool
+    ensures { λ r. ⌜ r ≡ ltb profile profiles ⌝ }
+{
+    profile < base::PROFILES
 }
 
 // ---- the answers in numbers

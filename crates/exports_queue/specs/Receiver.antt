@@ -1,17 +1,26 @@
 -- What the exported receiver's calls return, and what they leave of all that was lent: of what the call's own definition comes to.
 use Prim.Native.Nat.{ℕ}
 use mathlib.Core.List.{List}
+use Rattle.base.specs.Answer.{refused}
+use Rattle.base.specs.If.{ifLt}
+use Rattle.base.specs.Limits.{profiles}
+use Rattle.reliability.specs.Profiles.{profileOf}
 use Rattle.cells.specs.Cell.{Cell}
 use Rattle.receiver.specs.declared.RecvQueue.{RecvQueue}
 use Rattle.receiver.specs.Receive.{Received}
 use Rattle.receiver.specs.Take.{TakeResult}
 use Rattle.receiver.specs.Write.{Wrote}
-use Rattle.recv_new.specs.New.{MadeNew}
+use Rattle.recv_new.specs.New.{MadeNew, makeNewOf}
 use Rattle.exports.specs.declared.AckWritten.{AckWritten}
 use Rattle.exports.specs.Numbers.{numberOf, ackTold}
 use Rattle.recv_answers.specs.declared.QueueReceived.{QueueReceived}
 use Rattle.recv_answers.specs.declared.QueueTaken.{QueueTaken}
 use Rattle.recv_answers.specs.Told.{receiveTold, takeTold}
+
+-- make new for the profile of a number: 9 where the number is none's, before all else, and nothing is changed
+unfoldable pub makeNumberedOf : ℕ → RecvQueue → List Cell → List ℕ → MadeNew
+makeNumberedOf profile q rs st =
+    ifLt profile profiles (makeNewOf (profileOf profile) q rs st) (record { answer = refused 9; queue = q; records = rs })
 
 pub record NewNumbers : Type 0 where
   pub told : ℕ

@@ -1,12 +1,11 @@
 // The receiver's calls for programs in other languages, as `exports` has the others (`rt staticlib exports_queue`). The caller keeps the
 // receiver, its records and its store, and lends them for each call. Each promise says by the call's own definition what is returned, all
-// of it, and what is left of everything lent.
+// of it, and what is left of everything lent. A profile is a number here, 0 console and 1 C++; every other is refused with 9.
 ghost use mathlib.Core.Path.{_≡_};
 ghost use Rattle.receiver.specs.Receive.{receiveOf};
 ghost use Rattle.receiver.specs.Take.{takeOf};
 ghost use Rattle.receiver.specs.Write.{writeUnsentOf, writeMissingOf};
-ghost use Rattle.recv_new.specs.New.{makeNewOf};
-ghost use Rattle.exports_queue.specs.Receiver.{newNumbers, newNumbersOf, receiveNumbers, receiveNumbersOf};
+ghost use Rattle.exports_queue.specs.Receiver.{makeNumberedOf, newNumbers, newNumbersOf, receiveNumbers, receiveNumbersOf};
 ghost use Rattle.exports_queue.specs.Receiver.{takeNumbers, takeNumbersOf, writeNumbers, writeNumbersOf};
 use exports::AckWritten;
 use recv_answers::QueueReceived;
@@ -19,12 +18,17 @@ pub extern "C" fn poghduka_make_new(
     queue: &mut RecvQueue,
     records: &mut [CellRecord],
     store: &[u8],
+    profile: u32,
 ) -> u32
     ensures { λ r. ⌜ newNumbers r (now (queue .exit)) (now (records .exit))
-        ≡ newNumbersOf (makeNewOf (now (queue .entry)) (now (records .entry)) (now (store .entry))) ⌝ }
+        ≡ newNumbersOf (makeNumberedOf profile (now (queue .entry)) (now (records .entry)) (now (store .entry))) ⌝ }
 {
-    let answer = recv_queue::make_new(queue, records, store);
-    recv_answers::new_number(answer)
+    if profile < base::PROFILES {
+        let p = reliability::profile_of(profile);
+        let answer = recv_queue::make_new(queue, records, store, p);
+        return recv_answers::new_number(answer);
+    }
+    9
 }
 
 #[no_mangle]

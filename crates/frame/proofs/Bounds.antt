@@ -10,13 +10,15 @@ use lib.ListN.{getD}
 use Rattle.base.specs.Answer.{gives}
 use Rattle.base.specs.Bytes.{be16, be32, le24, Bytes}
 use Rattle.base.specs.If.{ifTrue, ifEq}
-use Rattle.base.specs.Limits.{numbers24, maxBody}
+use Rattle.base.specs.Limits.{numbers24}
 use Rattle.base.proofs.Ifs.{eq-yes, eq-no}
 use Rattle.reliability.specs.Kinds.{fieldsOf}
+use Rattle.reliability.specs.declared.Profile.{Profile}
+use Rattle.reliability.specs.declared.Profile.the-variants.{Console, Cpp}
 use Rattle.frame.specs.declared.FragmentMeta.{FragmentMeta}
 use Rattle.frame.specs.declared.Frame.{Frame}
 use Rattle.frame.specs.declared.Placed.{Placed}
-use Rattle.frame.specs.Read.{maxKind, kindOf, isPiece, numberAt, metaAt, frameAt, placedAt, readFrameOf}
+use Rattle.frame.specs.Read.{maxKind, kindOf, isPiece, numberAt, metaAt, frameAt, bodyLength, longestBody, placedAt, readFrameOf}
 use Rattle.frame.proofs.Reading.{read-whole}
 
 -- ---- a number that was read
@@ -65,21 +67,29 @@ module _ (s : List ℕ) (by : Bytes s) where
   number-small : (at off : ℕ) → numberAt s at off < numbers24
   number-small at off = field-small numbers24 off (le24 s (at + off)) (omega arith) (le24-small s by (at + off))
 
-  frame-small : (at : ℕ) → FrameSmall (frameAt s at)
+-- a body's bytes, under either profile
+pub body-small : (p : Profile) (bits : ℕ) → bits < 65536 → bodyLength p bits ≤ longestBody
+unfolding bodyLength
+body-small Console bits h = omega arith
+body-small Cpp bits h = omega arith
+
+module _ (p : Profile) (s : List ℕ) (by : Bytes s) where
+  frame-small : (at : ℕ) → FrameSmall (frameAt p s at)
   unfolding frameAt
   frame-small at =
-      let k = fieldsOf (kindOf (getD s at 0)) in
+      let k = fieldsOf p (kindOf (getD s at 0)) in
       record {
         kind = omega (arith, by at);
-        reliable = number-small at (k .reliable);
-        sequence = number-small at (k .sequence);
-        order = number-small at (k .order);
+        reliable = number-small s by at (k .reliable);
+        sequence = number-small s by at (k .sequence);
+        order = number-small s by at (k .order);
         channel = field-small 256 (k .channel) (getD s (at + k .channel) 0) (omega arith) (by (at + k .channel));
-        meta = meta-small (isPiece (getD s at 0)) (at + k .header);
+        meta = meta-small s by (isPiece (getD s at 0)) (at + k .header);
       }
 
   -- The header values of a frame read from bytes fit their bits, and its body is at most as long as 16 bits of length can say.
-  pub read-small : (at : ℕ) (p : Placed) (next : ℕ) → readFrameOf s at ≡ gives (p, next) → FrameSmall (p .frame) × (p .len ≤ maxBody)
+  pub read-small : (at : ℕ) (x : Placed) (next : ℕ) → readFrameOf p s at ≡ gives (x, next)
+      → FrameSmall (x .frame) × (x .len ≤ longestBody)
   unfolding placedAt
-  read-small at p next e =
-      rw (read-whole s at p next e .placed) (frame-small at, omega (arith, be16-small s by (at + 1)))
+  read-small at x next e =
+      rw (read-whole p s at x next e .placed) (frame-small at, body-small p (be16 s (at + 1)) (be16-small s by (at + 1)))

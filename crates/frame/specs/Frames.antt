@@ -4,6 +4,7 @@ use Prim.Native.Nat.{ℕ, zero, suc, _-_}
 use mathlib.Core.List.{List, [], _∷_}
 use lib.ListN.{length}
 use Rattle.base.specs.Answer.{Answer, refused, gives}
+use Rattle.reliability.specs.declared.Profile.{Profile}
 use Rattle.frame.specs.declared.Placed.{Placed}
 use Rattle.frame.specs.declared.FramesRead.{FramesRead}
 use Rattle.frame.specs.Read.{readFrameOf}
@@ -14,23 +15,23 @@ onRead (refused n) x g = x
 onRead (gives v) x g = g (v .0) (v .1)
 
 -- the frames from a place on, at most k of them
-unfoldable pub framesFrom : ℕ → List ℕ → ℕ → List Placed
-framesFrom zero s at = []
-framesFrom (suc k) s at = onRead (readFrameOf s at) [] (λ p next. p ∷ framesFrom k s next)
+unfoldable pub framesFrom : Profile → ℕ → List ℕ → ℕ → List Placed
+framesFrom p zero s at = []
+framesFrom p (suc k) s at = onRead (readFrameOf p s at) [] (λ x next. x ∷ framesFrom p k s next)
 
 -- the place where reading them ends
-unfoldable pub endFrom : ℕ → List ℕ → ℕ → ℕ
-endFrom zero s at = at
-endFrom (suc k) s at = onRead (readFrameOf s at) at (λ p next. endFrom k s next)
+unfoldable pub endFrom : Profile → ℕ → List ℕ → ℕ → ℕ
+endFrom p zero s at = at
+endFrom p (suc k) s at = onRead (readFrameOf p s at) at (λ x next. endFrom p k s next)
 
 -- all the frames from a place on: each takes three bytes or more, so there are no more of them than bytes
-unfoldable pub framesOf : List ℕ → ℕ → List Placed
-framesOf s at = framesFrom (length s) s at
+unfoldable pub framesOf : Profile → List ℕ → ℕ → List Placed
+framesOf p s at = framesFrom p (length s) s at
 
 -- the first byte of the frame that does not fit
-unfoldable pub endOf : List ℕ → ℕ → ℕ
-endOf s at = endFrom (length s) s at
+unfoldable pub endOf : Profile → List ℕ → ℕ → ℕ
+endOf p s at = endFrom p (length s) s at
 
 -- how many frames there are, and how many bytes are left; none are where `at` is past the end
-unfoldable pub readFramesOf : List ℕ → ℕ → FramesRead
-readFramesOf s at = record { count = length (framesOf s at); left = length s - endOf s at }
+unfoldable pub readFramesOf : Profile → List ℕ → ℕ → FramesRead
+readFramesOf p s at = record { count = length (framesOf p s at); left = length s - endOf p s at }

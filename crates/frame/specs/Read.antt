@@ -1,4 +1,4 @@
--- A frame read: document 01, "Bytes", paragraph "Frame", and the call "Read frame".
+-- A frame read: document 01, "Bytes", paragraph "Frame", and the call "Read frame"; under a profile (document 02, request 2).
 -- Past the end of the slice a byte reads as 0. No frame that is given depends on it: one that reaches past the end is cut.
 use Prim.Native.Nat.{ℕ, _+_, _/_, _%_}
 use mathlib.Core.Bool.{Bool}
@@ -8,8 +8,11 @@ use lib.Dec.{eqb}
 use Rattle.base.specs.Answer.{Answer, refused, gives}
 use Rattle.base.specs.Bytes.{be16, be32, le24}
 use Rattle.base.specs.If.{ifTrue, ifLt, ifEq}
+use Rattle.base.specs.Limits.{maxBody}
 use Rattle.reliability.specs.Kinds.{fieldsOf}
 use Rattle.reliability.specs.declared.KindFields.{KindFields}
+use Rattle.reliability.specs.declared.Profile.{Profile}
+use Rattle.reliability.specs.declared.Profile.the-variants.{Console, Cpp}
 use Rattle.frame.specs.declared.FragmentMeta.{FragmentMeta}
 use Rattle.frame.specs.declared.Frame.{Frame}
 use Rattle.frame.specs.declared.Placed.{Placed}
@@ -65,16 +68,25 @@ frameBy k flags s at =
     }
 
 -- the header at a place
-unfoldable pub frameAt : List ℕ → ℕ → Frame
-frameAt s at = frameBy (fieldsOf (kindOf (getD s at 0))) (getD s at 0) s at
+unfoldable pub frameAt : Profile → List ℕ → ℕ → Frame
+frameAt p s at = frameBy (fieldsOf p (kindOf (getD s at 0))) (getD s at 0) s at
 
--- the frame at a place and its body: "length in bits, 16 bits big-endian", "the remainder after dividing by 8 is dropped"
-unfoldable pub placedAt : List ℕ → ℕ → Placed
-placedAt s at =
+-- the bytes of a body of so many bits: "the remainder after dividing by 8 is dropped"; C++ "rounds a bit length up to whole bytes"
+unfoldable pub bodyLength : Profile → ℕ → ℕ
+bodyLength Console bits = bits / 8
+bodyLength Cpp bits = (bits + 7) / 8
+
+-- the longest body that 16 bits can name, under either profile: where they are rounded up, one byte more than a writer's longest
+abbrev pub longestBody : ℕ
+longestBody = maxBody + 1
+
+-- the frame at a place and its body: "length in bits, 16 bits big-endian"
+unfoldable pub placedAt : Profile → List ℕ → ℕ → Placed
+placedAt p s at =
     record {
-      frame = frameAt s at;
-      start = at + headerSize (isPiece (getD s at 0)) (fieldsOf (kindOf (getD s at 0)) .header);
-      len = be16 s (at + 1) / 8;
+      frame = frameAt p s at;
+      start = at + headerSize (isPiece (getD s at 0)) (fieldsOf p (kindOf (getD s at 0)) .header);
+      len = bodyLength p (be16 s (at + 1));
     }
 
 -- the body of a frame that stands in s
@@ -86,8 +98,8 @@ abbrev pub endsAt : Placed → ℕ
 endsAt p = p .start + p .len
 
 -- "Read frame. 1 cut.": the frame and the place after it, where its header and its body fit
-unfoldable pub readFrameOf : List ℕ → ℕ → Answer (Placed × ℕ)
-readFrameOf s at = ifLt (length s) (endsAt (placedAt s at)) (refused 1) (gives (placedAt s at, endsAt (placedAt s at)))
+unfoldable pub readFrameOf : Profile → List ℕ → ℕ → Answer (Placed × ℕ)
+readFrameOf p s at = ifLt (length s) (endsAt (placedAt p s at)) (refused 1) (gives (placedAt p s at, endsAt (placedAt p s at)))
 
 -- the code's answer in document 01's numbers and values
 unfoldable pub readAnswer : ReadFrame → Answer (Placed × ℕ)
@@ -95,5 +107,5 @@ readAnswer (Whole p next) = gives (p, next)
 readAnswer Cut = refused 1
 
 -- where the frame's body starts and the place after the frame, where header and body fit
-unfoldable pub spanOf : List ℕ → ℕ → Span
-spanOf s at = ifLt (length s) (endsAt (placedAt s at)) span.Cut (span.Fits (placedAt s at .start) (endsAt (placedAt s at)))
+unfoldable pub spanOf : Profile → List ℕ → ℕ → Span
+spanOf p s at = ifLt (length s) (endsAt (placedAt p s at)) span.Cut (span.Fits (placedAt p s at .start) (endsAt (placedAt p s at)))

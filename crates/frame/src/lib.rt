@@ -1,10 +1,10 @@
-// Frames, as document 01's "Bytes" has them, read from a slice; `frame_write` writes them.
+// Frames, as document 01's "Bytes" has them, read from a slice under a profile (document 02, 2/13); `frame_write` writes them.
+use reliability::Profile;
 ghost use mathlib.Core.Path.{_≡_};
 ghost use Prim.Native.Nat.{_+_, _/_, _<_, _≤_};
 ghost use lib.ListN.{length};
 ghost use Rattle.base.specs.Bytes.{be16, be32, le24};
-ghost use Rattle.base.specs.Limits.{maxBody};
-ghost use Rattle.frame.specs.Read.{headerSize, spanOf};
+ghost use Rattle.frame.specs.Read.{headerSize, bodyLength, longestBody, spanOf};
 
 mod frames;
 mod read;
@@ -53,7 +53,6 @@ pub enum ReadFrame {
 }
 
 // How many frames were read, and the bytes left from the first that does not fit.
-#[repr(C)]
 pub struct FramesRead {
     pub count: usize,
     pub left: usize,
@@ -85,32 +84,32 @@ fn long32(x: u16) -> u32
     x as u32
 }
 
-fn read16(s: &[u8], p: usize) -> u16
-    requires { ⌜ p + 2 ≤ length (now s) ⌝ }
-    ensures { λ r. ⌜ r ≡ be16 (now (s .entry)) p ⌝ }
+fn read16(s: &[u8], at: usize) -> u16
+    requires { ⌜ at + 2 ≤ length (now s) ⌝ }
+    ensures { λ r. ⌜ r ≡ be16 (now (s .entry)) at ⌝ }
 {
-    wide16(s[p]) * 256 + wide16(s[p + 1])
+    wide16(s[at]) * 256 + wide16(s[at + 1])
 }
 
-fn read32(s: &[u8], p: usize) -> u32
-    requires { ⌜ p + 4 ≤ length (now s) ⌝ }
-    ensures { λ r. ⌜ r ≡ be32 (now (s .entry)) p ⌝ }
+fn read32(s: &[u8], at: usize) -> u32
+    requires { ⌜ at + 4 ≤ length (now s) ⌝ }
+    ensures { λ r. ⌜ r ≡ be32 (now (s .entry)) at ⌝ }
 {
-    long32(read16(s, p)) * 65536 + long32(read16(s, p + 2))
+    long32(read16(s, at)) * 65536 + long32(read16(s, at + 2))
 }
 
-fn read24(s: &[u8], p: usize) -> u32
-    requires { ⌜ p + 3 ≤ length (now s) ⌝ }
-    ensures { λ r. ⌜ r ≡ le24 (now (s .entry)) p ⌝ }
+fn read24(s: &[u8], at: usize) -> u32
+    requires { ⌜ at + 3 ≤ length (now s) ⌝ }
+    ensures { λ r. ⌜ r ≡ le24 (now (s .entry)) at ⌝ }
 {
-    wide32(s[p]) + wide32(s[p + 1]) * 256 + wide32(s[p + 2]) * 65536
+    wide32(s[at]) + wide32(s[at + 1]) * 256 + wide32(s[at + 2]) * 65536
 }
 
 // ---- how far a frame reaches: flags and length alone say it
 
 // The span of the frame whose flags stand at `at`.
-fn span_at(s: &[u8], at: usize) -> Span
-    ensures { λ r. ⌜ r ≡ spanOf (now (s .entry)) at ⌝ }
+fn span_at(p: Profile, s: &[u8], at: usize) -> Span
+    ensures { λ r. ⌜ r ≡ spanOf p (now (s .entry)) at ⌝ }
 {
     let n = s.len();
     if n < START_SIZE {
@@ -120,9 +119,9 @@ fn span_at(s: &[u8], at: usize) -> Span
         return Span::Cut;
     }
     let flags = s[at];
-    let k = reliability::fields(flags / 32);
+    let k = reliability::fields(p, flags / 32);
     let start = at + header_size(flags / 16 % 2 == 1, k.header);
-    let next = start + body_len(read16(s, at + 1));
+    let next = start + body_len(p, read16(s, at + 1));
     if next <= n {
         return Span::Fits {
             start: start,
@@ -144,10 +143,28 @@ fn header_size(piece: bool, header: usize) -> usize
     header
 }
 
-// The bytes of a body whose length in bits is given; a remainder is dropped.
-fn body_len(bits: u16) -> usize
+// The bytes of a body whose length in bits is given.
+fn body_len(p: Profile, bits: u16) -> usize
+    ensures is { λ r. ⌜ r ≡ bodyLength p bits ⌝ }
+    ensures small { λ r. ⌜ r ≤ longestBody ⌝ }
+{
+    match p {
+        Profile::Console => rounded_down(bits),
+        Profile::Cpp => rounded_up(bits),
+    }
+}
+
+fn rounded_down(bits: u16) -> usize
     ensures is { λ r. ⌜ r ≡ bits / 8 ⌝ }
-    ensures small { λ r. ⌜ r ≤ maxBody ⌝ }
+    ensures small { λ r. ⌜ r ≤ longestBody ⌝ }
 {
     (bits / 8) as usize
+}
+
+// Seven bits more may not fit 16 bits.
+fn rounded_up(bits: u16) -> usize
+    ensures is { λ r. ⌜ r ≡ (bits + 7) / 8 ⌝ }
+    ensures small { λ r. ⌜ r ≤ longestBody ⌝ }
+{
+    ((long32(bits) + 7) / 8) as usize
 }

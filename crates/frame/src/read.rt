@@ -4,6 +4,7 @@ use super::Frame;
 use super::Placed;
 use super::ReadFrame;
 use super::Span;
+use reliability::Profile;
 ghost use mathlib.Core.Path.{_≡_};
 ghost use mathlib.Core.Bool.{true};
 ghost use Prim.Native.Nat.{_+_, _<_, _≤_};
@@ -11,13 +12,13 @@ ghost use lib.ListN.{length};
 ghost use Rattle.frame.specs.Read.{numberAt, channelAt, metaAt, metaSize, frameAt, placedAt, readFrameOf, readAnswer};
 
 // The frame at `at` and the place after it, or Cut where it does not fit.
-pub fn read_frame(s: &[u8], at: usize) -> ReadFrame
-    ensures { λ r. ⌜ readAnswer r ≡ readFrameOf (now (s .entry)) at ⌝ }
+pub fn read_frame(p: Profile, s: &[u8], at: usize) -> ReadFrame
+    ensures { λ r. ⌜ readAnswer r ≡ readFrameOf p (now (s .entry)) at ⌝ }
 {
-    match super::span_at(s, at) {
+    match super::span_at(p, s, at) {
         Span::Cut => ReadFrame::Cut,
         Span::Fits { start, next } => {
-            let f = frame_at(s, at);
+            let f = frame_at(p, s, at);
             let len = next - start;
             ReadFrame::Whole {
                 placed: Placed {
@@ -32,14 +33,14 @@ pub fn read_frame(s: &[u8], at: usize) -> ReadFrame
 }
 
 // The header whose flags stand at `at`. It fits.
-fn frame_at(s: &[u8], at: usize) -> Frame
-    requires { ⌜ (at < length (now s)) × (placedAt (now s) at .start ≤ length (now s)) ⌝ }
-    ensures { λ r. ⌜ r ≡ frameAt (now (s .entry)) at ⌝ }
+fn frame_at(p: Profile, s: &[u8], at: usize) -> Frame
+    requires { ⌜ (at < length (now s)) × (placedAt p (now s) at .start ≤ length (now s)) ⌝ }
+    ensures { λ r. ⌜ r ≡ frameAt p (now (s .entry)) at ⌝ }
 {
     let flags = s[at];
     let kind = flags / 32;
     let piece = flags / 16 % 2 == 1;
-    let k = reliability::fields(kind);
+    let k = reliability::fields(p, kind);
     Frame {
         kind: kind,
         reliable: number(s, at, k.reliable),
@@ -72,16 +73,16 @@ fn channel(s: &[u8], at: usize, off: usize) -> u8
     s[at + off]
 }
 
-// Count, id and index of a piece, from place p on.
-fn meta_at(piece: bool, s: &[u8], p: usize) -> FragmentMeta
-    requires { ⌜ (piece ≡ true → p + metaSize ≤ length (now s)) ⌝ }
-    ensures { λ r. ⌜ r ≡ metaAt piece (now (s .entry)) p ⌝ }
+// Count, id and index of a piece, from `at` on.
+fn meta_at(piece: bool, s: &[u8], at: usize) -> FragmentMeta
+    requires { ⌜ (piece ≡ true → at + metaSize ≤ length (now s)) ⌝ }
+    ensures { λ r. ⌜ r ≡ metaAt piece (now (s .entry)) at ⌝ }
 {
     if piece {
         return FragmentMeta {
-            count: super::read32(s, p),
-            id: super::read16(s, p + 4),
-            index: super::read32(s, p + 6),
+            count: super::read32(s, at),
+            id: super::read16(s, at + 4),
+            index: super::read32(s, at + 6),
         };
     }
     FragmentMeta {

@@ -5,3 +5,4 @@ pub mod WriteCases
 pub mod WriteThenRead
 pub mod ReadThenWrite
 pub mod HeadCases
+pub mod ByExampleProfile

@@ -11,6 +11,7 @@ use Rattle.base.specs.If.{ifTrue, ifLt, ifEq}
 use Rattle.base.specs.Limits.{numbers24, maxOrdChans, maxFrags, maxBody}
 use Rattle.base.proofs.Ifs.{true-yes, true-no, lt-yes, lt-no, eq-yes, eq-no}
 use Rattle.reliability.specs.Kinds.{fieldsOf}
+use Rattle.reliability.specs.declared.Profile.{Profile}
 use Rattle.frame.specs.declared.FragmentMeta.{FragmentMeta}
 use Rattle.frame.specs.declared.Frame.{Frame}
 use Rattle.frame.specs.Read.{maxKind}
@@ -76,19 +77,19 @@ meta-fits false m e =
     record { count = omega arith; index = omega arith; below = false-true; lacks = λ _. (a .0, b .0, c) }
 
 -- ---- the whole frame, with a body of n bytes
-pub record Within (f : Frame) (n : ℕ) : Type 0 where
+pub record Within (p : Profile) (f : Frame) (n : ℕ) : Type 0 where
   pub kind : f .kind ≤ maxKind
   pub body : n ≤ maxBody
-  pub reliable : Carried numbers24 (fieldsOf (f .kind) .reliable) (f .reliable)
-  pub sequence : Carried numbers24 (fieldsOf (f .kind) .sequence) (f .sequence)
-  pub order : Carried numbers24 (fieldsOf (f .kind) .order) (f .order)
-  pub channel : Carried maxOrdChans (fieldsOf (f .kind) .channel) (f .channel)
+  pub reliable : Carried numbers24 (fieldsOf p (f .kind) .reliable) (f .reliable)
+  pub sequence : Carried numbers24 (fieldsOf p (f .kind) .sequence) (f .sequence)
+  pub order : Carried numbers24 (fieldsOf p (f .kind) .order) (f .order)
+  pub channel : Carried maxOrdChans (fieldsOf p (f .kind) .channel) (f .channel)
   pub meta : MetaFits (f .piece) (f .meta)
 
 -- Where 15 is not due, every field is within its limit.
-pub within : (f : Frame) (n : ℕ) → withinLimits f n ≡ true → Within f n
+pub within : (p : Profile) (f : Frame) (n : ℕ) → withinLimits p f n ≡ true → Within p f n
 unfolding withinLimits fieldsOk numberOk channelOk
-within f n e =
+within p f n e =
     let a = lt-both _ _ _ e in
     let b = lt-both _ _ _ (a .1) in
     let c = true-both _ _ (b .1) in

@@ -18,9 +18,11 @@ use Rattle.base.specs.Put.{put, andThen}
 use Rattle.base.proofs.Ifs.{eq-yes, eq-no}
 use Rattle.reliability.specs.Kinds.{fieldsOf}
 use Rattle.reliability.specs.declared.KindFields.{KindFields}
+use Rattle.reliability.specs.declared.Profile.{Profile}
+use Rattle.reliability.specs.declared.Profile.the-variants.{Console, Cpp}
 use Rattle.frame.specs.declared.Frame.{Frame}
 use Rattle.frame.specs.declared.Placed.{Placed}
-use Rattle.frame.specs.Read.{kindOf, isPiece, numberAt, channelAt, metaAt, headerSize, frameBy, frameAt, bodyOf, readFrameOf}
+use Rattle.frame.specs.Read.{kindOf, isPiece, numberAt, channelAt, metaAt, headerSize, frameBy, frameAt, bodyLength, bodyOf, readFrameOf}
 use Rattle.frame_write.specs.Write.{flagsOf, startBytes, numberBytes, channelBytes, fieldBytes, metaBytes, headerBytes, frameBytes}
 use Rattle.frame_write.specs.Valid.{withinLimits, sizeOf, writeFrameOf, frameWrittenOf}
 use Rattle.frame.proofs.Reading.{read-whole, frame-is, len-is, starts-at, body-long}
@@ -66,8 +68,14 @@ meta-again s by p true =
     (rw add-assoc (be32-again s by (p + 6))))
 meta-again s by p false = none-stands s p
 
+-- ---- a length in whole bytes: there is no remainder to drop or to round up
+no-remainder : (p : Profile) (bits : ℕ) → bits % 8 ≡ 0 → bodyLength p bits * 8 ≡ bits
+unfolding bodyLength
+no-remainder Console bits e = omega arith
+no-remainder Cpp bits e = omega arith
+
 -- ---- the header
-module _ (s : List ℕ) (by : Bytes s) (at : ℕ) where
+module _ (p : Profile) (s : List ℕ) (by : Bytes s) (at : ℕ) where
   -- each number and the channel, at the place that the kind's row gives
   fields-again : (k : KindFields) → InOrder k → (flags : ℕ) → Stands s (at + 3) (fieldBytes k (frameBy k flags s at))
   unfolding fieldBytes
@@ -88,24 +96,25 @@ module _ (s : List ℕ) (by : Bytes s) (at : ℕ) where
       (channel-again s by at (at + 3 + length nr + length ns + length no) (k .channel) (λ n. omega (arith, o .channel n)))))
 
   module _ (bits : getD s at 0 % 16 ≡ 0) (eights : be16 s (at + 1) % 8 ≡ 0) where
-    start-again : Stands s at (startBytes (frameAt s at .kind) (frameAt s at .piece) (be16 s (at + 1) / 8))
+    start-again : Stands s at (startBytes (frameAt p s at .kind) (frameAt p s at .piece) (bodyLength p (be16 s (at + 1))))
     unfolding startBytes frameAt
     start-again =
-        let e : be16 s (at + 1) / 8 * 8 ≡ be16 s (at + 1) = omega arith in
-        stands-both s at (flagsOf (kindOf (getD s at 0)) (isPiece (getD s at 0)) ∷ []) (be16Bytes (be16 s (at + 1) / 8 * 8))
+        let e : bodyLength p (be16 s (at + 1)) * 8 ≡ be16 s (at + 1) = no-remainder p (be16 s (at + 1)) eights in
+        stands-both s at (flagsOf (kindOf (getD s at 0)) (isPiece (getD s at 0)) ∷ []) (be16Bytes (bodyLength p (be16 s (at + 1)) * 8))
         (stands-one s at _ (flags-again (getD s at 0) bits)) (rw e (be16-again s by (at + 1)))
 
-    header-again : Stands s at (headerBytes (frameAt s at) (be16 s (at + 1) / 8))
+    header-again : Stands s at (headerBytes p (frameAt p s at) (bodyLength p (be16 s (at + 1))))
     unfolding headerBytes frameAt
     header-again =
         let flags : ℕ = getD s at 0 in
-        let k : KindFields = fieldsOf (kindOf flags) in
+        let k : KindFields = fieldsOf p (kindOf flags) in
         let f : Frame = frameBy k flags s at in
-        let place : at + 3 + length (fieldBytes k f) ≡ at + k .header = omega (arith, fields-wide k f (row-in-order (kindOf flags))) in
-        stands-both s at (startBytes (f .kind) (f .piece) (be16 s (at + 1) / 8)) (andThen (fieldBytes k f) (metaBytes (f .piece) (f .meta)))
+        let place : at + 3 + length (fieldBytes k f) ≡ at + k .header = omega (arith, fields-wide k f (row-in-order p (kindOf flags))) in
+        stands-both s at (startBytes (f .kind) (f .piece) (bodyLength p (be16 s (at + 1))))
+        (andThen (fieldBytes k f) (metaBytes (f .piece) (f .meta)))
         start-again
         (rw start-wide
-        (stands-both s (at + 3) (fieldBytes k f) (metaBytes (f .piece) (f .meta)) (fields-again k (row-in-order (kindOf flags)) flags)
+        (stands-both s (at + 3) (fieldBytes k f) (metaBytes (f .piece) (f .meta)) (fields-again k (row-in-order p (kindOf flags)) flags)
         (rw place (meta-again s by (at + k .header) (isPiece flags)))))
 
 -- ---- the whole frame
@@ -119,53 +128,54 @@ part-stands s p n =
           sym (getD-take n (drop p s) i 0 (omega arith) ∙ getD-drop p s i 0);
     }
 
-module _ (s : List ℕ) (at : ℕ) (p : Placed) (next : ℕ) (e : readFrameOf s at ≡ gives (p, next)) where
-  start-read : p .start ≡ at + headerSize (p .frame .piece) (fieldsOf (p .frame .kind) .header)
-  start-read = rw (read-whole s at p next e .placed) (starts-at s at)
+module _ (p : Profile) (s : List ℕ) (at : ℕ) (x : Placed) (next : ℕ) (e : readFrameOf p s at ≡ gives (x, next)) where
+  start-read : x .start ≡ at + headerSize (x .frame .piece) (fieldsOf p (x .frame .kind) .header)
+  start-read = rw (read-whole p s at x next e .placed) (starts-at p s at)
 
-  size-read : sizeOf (p .frame) (p .len) ≡ next - at
+  size-read : sizeOf p (x .frame) (x .len) ≡ next - at
   unfolding sizeOf
-  size-read = let w = read-whole s at p next e in omega (arith, start-read)
+  size-read = let w = read-whole p s at x next e in omega (arith, start-read)
 
   module _ (by : Bytes s) (bits : getD s at 0 % 16 ≡ 0) (eights : be16 s (at + 1) % 8 ≡ 0) where
-    frame-stands : Stands s at (frameBytes (p .frame) (bodyOf s p))
+    frame-stands : Stands s at (frameBytes p (x .frame) (bodyOf s x))
     unfolding frameBytes
     frame-stands =
-        let w = read-whole s at p next e in
-        let l : length (bodyOf s p) ≡ p .len = body-long s at p next e in
-        let f : p .frame ≡ frameAt s at = rw (w .placed) (frame-is s at) in
-        let n : p .len ≡ be16 s (at + 1) / 8 = rw (w .placed) (len-is s at) in
-        let place : at + length (headerBytes (p .frame) (p .len)) ≡ p .start = omega (arith, header-wide (p .frame) (p .len), start-read) in
-        stands-both s at (headerBytes (p .frame) (length (bodyOf s p))) (bodyOf s p)
-        (rw (l, f, n) (header-again s by at bits eights))
-        (rw (l, place) (part-stands s (p .start) (p .len)))
+        let w = read-whole p s at x next e in
+        let l : length (bodyOf s x) ≡ x .len = body-long p s at x next e in
+        let f : x .frame ≡ frameAt p s at = rw (w .placed) (frame-is p s at) in
+        let n : x .len ≡ bodyLength p (be16 s (at + 1)) = rw (w .placed) (len-is p s at) in
+        let place : at + length (headerBytes p (x .frame) (x .len)) ≡ x .start =
+        omega (arith, header-wide p (x .frame) (x .len), start-read) in
+        stands-both s at (headerBytes p (x .frame) (length (bodyOf s x))) (bodyOf s x)
+        (rw (l, f, n) (header-again p s by at bits eights))
+        (rw (l, place) (part-stands s (x .start) (x .len)))
 
-    bytes-again : frameBytes (p .frame) (bodyOf s p) ≡ take (next - at) (drop at s)
+    bytes-again : frameBytes p (x .frame) (bodyOf s x) ≡ take (next - at) (drop at s)
     bytes-again =
-        let w = read-whole s at p next e in
-        let n : length (frameBytes (p .frame) (bodyOf s p)) ≡ next - at =
-        frame-wide (p .frame) (bodyOf s p) ∙ rw (body-long s at p next e) size-read in
-        sym (rw n at (stands-there s at (frameBytes (p .frame) (bodyOf s p)) frame-stands (omega arith)))
+        let w = read-whole p s at x next e in
+        let n : length (frameBytes p (x .frame) (bodyOf s x)) ≡ next - at =
+        frame-wide p (x .frame) (bodyOf s x) ∙ rw (body-long p s at x next e) size-read in
+        sym (rw n at (stands-there s at (frameBytes p (x .frame) (bodyOf s x)) frame-stands (omega arith)))
 
--- Reading then writing gives the bytes back, at any place of any list of bytes: where a frame was read with every field within its limit,
--- the other flag bits 0 and the length a multiple of 8, its bytes as written are those that were read, from its first byte to the next
--- frame's; and so `write_frame` accepts it wherever an output has room for them, and writes them there.
-pub read-then-write : (s : List ℕ) → Bytes s → (at : ℕ) (p : Placed) (next : ℕ) → readFrameOf s at ≡ gives (p, next)
-    → withinLimits (p .frame) (p .len) ≡ true → getD s at 0 % 16 ≡ 0 → be16 s (at + 1) % 8 ≡ 0
-    → (frameBytes (p .frame) (bodyOf s p) ≡ take (next - at) (drop at s))
+-- Reading then writing gives the bytes back, under either profile, at any place of any list of bytes: where a frame was read with every
+-- field within its limit, the other flag bits 0 and the length a multiple of 8, its bytes as written are those that were read, from its
+-- first byte to the next frame's; and so `write_frame` accepts it wherever an output has room for them, and writes them there.
+pub read-then-write : (p : Profile) (s : List ℕ) → Bytes s → (at : ℕ) (x : Placed) (next : ℕ) → readFrameOf p s at ≡ gives (x, next)
+    → withinLimits p (x .frame) (x .len) ≡ true → getD s at 0 % 16 ≡ 0 → be16 s (at + 1) % 8 ≡ 0
+    → (frameBytes p (x .frame) (bodyOf s x) ≡ take (next - at) (drop at s))
     × ((out : List ℕ) (to : ℕ) → to + (next - at) ≤ length out
-    → (writeFrameOf (length out) to (p .frame) (length (bodyOf s p)) ≡ gives (to + (next - at)))
-    × (frameWrittenOf out to (p .frame) (bodyOf s p) ≡ put out to (take (next - at) (drop at s))))
+    → (writeFrameOf p (length out) to (x .frame) (length (bodyOf s x)) ≡ gives (to + (next - at)))
+    × (frameWrittenOf p out to (x .frame) (bodyOf s x) ≡ put out to (take (next - at) (drop at s))))
 unfolding writeFrameOf frameWrittenOf
-read-then-write s by at p next e limits bits eights =
-    let b : frameBytes (p .frame) (bodyOf s p) ≡ take (next - at) (drop at s) = bytes-again s at p next e by bits eights in
-    let n : length (bodyOf s p) ≡ p .len = body-long s at p next e in
-    let size : sizeOf (p .frame) (length (bodyOf s p)) ≡ next - at = rw n (size-read s at p next e) in (
+read-then-write p s by at x next e limits bits eights =
+    let b : frameBytes p (x .frame) (bodyOf s x) ≡ take (next - at) (drop at s) = bytes-again p s at x next e by bits eights in
+    let n : length (bodyOf s x) ≡ x .len = body-long p s at x next e in
+    let size : sizeOf p (x .frame) (length (bodyOf s x)) ≡ next - at = rw n (size-read p s at x next e) in (
       b,
       λ out to room.
-          let l : withinLimits (p .frame) (length (bodyOf s p)) ≡ true = rw n limits in
-          let r : to + sizeOf (p .frame) (length (bodyOf s p)) ≤ length out = omega arith in (
-            sym (has-room (length out) to (p .frame) (length (bodyOf s p)) _ _ _ l r) ∙ rw size,
-            sym (has-room (length out) to (p .frame) (length (bodyOf s p)) _ _ _ l r) ∙ rw b,
+          let l : withinLimits p (x .frame) (length (bodyOf s x)) ≡ true = rw n limits in
+          let r : to + sizeOf p (x .frame) (length (bodyOf s x)) ≤ length out = omega arith in (
+            sym (has-room p (length out) to (x .frame) (length (bodyOf s x)) _ _ _ l r) ∙ rw size,
+            sym (has-room p (length out) to (x .frame) (length (bodyOf s x)) _ _ _ l r) ∙ rw b,
           ),
     )

@@ -13,6 +13,7 @@ use Rattle.base.specs.Put.{andThen}
 use Rattle.base.proofs.Ifs.{eq-yes, eq-no}
 use Rattle.reliability.specs.Kinds.{when, hasReliable, hasSequence, hasOrder, afterReliable, afterSequence, rowOf, fieldsOf}
 use Rattle.reliability.specs.declared.KindFields.{KindFields}
+use Rattle.reliability.specs.declared.Profile.{Profile}
 use Rattle.frame.specs.declared.FragmentMeta.{FragmentMeta}
 use Rattle.frame.specs.declared.Frame.{Frame}
 use Rattle.frame.specs.Read.{headerSize}
@@ -49,24 +50,24 @@ when-sum : (b : Bool) → when b 4 ≡ when b 3 + when b 1
 when-sum true = refl
 when-sum false = refl
 
-in-order : (k : ℕ) → InOrder (rowOf k)
-in-order k =
-    let r : wide (rowOf k .reliable) 3 ≡ when (hasReliable k) 3 = wide-when (hasReliable k) 3 3 (omega arith) in
-    let s : wide (rowOf k .sequence) 3 ≡ when (hasSequence k) 3 = wide-when (hasSequence k) (afterReliable k) 3 (omega arith) in
-    let o : wide (rowOf k .order) 3 ≡ when (hasOrder k) 3 = wide-when (hasOrder k) (afterSequence k) 3 (omega arith) in
-    let c : wide (rowOf k .channel) 1 ≡ when (hasOrder k) 1 = wide-when (hasOrder k) (afterSequence k + 3) 1 (omega arith) in
+in-order : (p : Profile) (k : ℕ) → InOrder (rowOf p k)
+in-order p k =
+    let r : wide (rowOf p k .reliable) 3 ≡ when (hasReliable k) 3 = wide-when (hasReliable k) 3 3 (omega arith) in
+    let s : wide (rowOf p k .sequence) 3 ≡ when (hasSequence k) 3 = wide-when (hasSequence k) (afterReliable k) 3 (omega arith) in
+    let o : wide (rowOf p k .order) 3 ≡ when (hasOrder p k) 3 = wide-when (hasOrder p k) (afterSequence k) 3 (omega arith) in
+    let c : wide (rowOf p k .channel) 1 ≡ when (hasOrder p k) 1 = wide-when (hasOrder p k) (afterSequence k + 3) 1 (omega arith) in
     record {
       reliable = there (hasReliable k) 3;
       sequence = λ n. there (hasSequence k) (afterReliable k) n ∙ rw r;
-      order = λ n. there (hasOrder k) (afterSequence k) n ∙ rw (r, s);
-      channel = λ n. behind (hasOrder k) (afterSequence k) n ∙ rw (r, s, o);
-      header = omega (arith, when-sum (hasOrder k));
+      order = λ n. there (hasOrder p k) (afterSequence k) n ∙ rw (r, s);
+      channel = λ n. behind (hasOrder p k) (afterSequence k) n ∙ rw (r, s, o);
+      header = omega (arith, when-sum (hasOrder p k));
     }
 
--- The fields of every kind stand in order.
-pub row-in-order : (k : ℕ) → InOrder (fieldsOf k)
+-- The fields of every kind stand in order, under either profile.
+pub row-in-order : (p : Profile) (k : ℕ) → InOrder (fieldsOf p k)
 unfolding fieldsOf
-row-in-order k = in-order (k % 8)
+row-in-order p k = in-order p (k % 8)
 
 -- ---- how many bytes each part of a frame takes
 field-wide : (off w : ℕ) (xs : List ℕ) → length xs ≡ w → length (ifEq off 0 [] xs) ≡ wide off w
@@ -99,15 +100,15 @@ pub fields-wide : (k : KindFields) (f : Frame) → InOrder k → 3 + length (fie
 unfolding fieldBytes andThen
 fields-wide k f o = simp (length-append, number-wide, channel-wide) (omega (arith, o .header))
 
-pub header-wide : (f : Frame) (n : ℕ) → length (headerBytes f n) ≡ headerSize (f .piece) (fieldsOf (f .kind) .header)
+pub header-wide : (p : Profile) (f : Frame) (n : ℕ) → length (headerBytes p f n) ≡ headerSize (f .piece) (fieldsOf p (f .kind) .header)
 unfolding headerBytes andThen
-header-wide f n =
+header-wide p f n =
     let a = start-wide (f .kind) (f .piece) n in
-    let b = fields-wide (fieldsOf (f .kind)) f (row-in-order (f .kind)) in
-    let c = meta-wide (f .piece) (f .meta) (fieldsOf (f .kind) .header) in
+    let b = fields-wide (fieldsOf p (f .kind)) f (row-in-order p (f .kind)) in
+    let c = meta-wide (f .piece) (f .meta) (fieldsOf p (f .kind) .header) in
     simp length-append (omega (arith, a, b, c))
 
 -- A frame's bytes are as many as its size says.
-pub frame-wide : (f : Frame) (body : List ℕ) → length (frameBytes f body) ≡ sizeOf f (length body)
+pub frame-wide : (p : Profile) (f : Frame) (body : List ℕ) → length (frameBytes p f body) ≡ sizeOf p f (length body)
 unfolding frameBytes sizeOf andThen
-frame-wide f body = simp (length-append, header-wide)
+frame-wide p f body = simp (length-append, header-wide)

@@ -18,10 +18,12 @@ use Rattle.base.proofs.Ifs.{lt-no, eq-yes, eq-no}
 use Rattle.base.proofs.Puts.{length-put}
 use Rattle.reliability.specs.Kinds.{fieldsOf}
 use Rattle.reliability.specs.declared.KindFields.{KindFields}
+use Rattle.reliability.specs.declared.Profile.{Profile}
+use Rattle.reliability.specs.declared.Profile.the-variants.{Console, Cpp}
 use Rattle.frame.specs.declared.FragmentMeta.{FragmentMeta}
 use Rattle.frame.specs.declared.Frame.{Frame}
 use Rattle.frame.specs.declared.Placed.{Placed}
-use Rattle.frame.specs.Read.{kindOf, isPiece, numberAt, channelAt, metaAt, headerSize, frameAt, placedAt, bodyOf, readFrameOf}
+use Rattle.frame.specs.Read.{kindOf, isPiece, numberAt, channelAt, metaAt, headerSize, frameAt, bodyLength, placedAt, bodyOf, readFrameOf}
 use Rattle.frame_write.specs.Write.{flagsOf, startBytes, numberBytes, channelBytes, fieldBytes, metaBytes, headerBytes, frameBytes}
 use Rattle.frame_write.specs.Valid.{withinLimits, sizeOf, writeFrameOf, frameWrittenOf}
 use Rattle.base.proofs.Answers.{refused-gives}
@@ -83,21 +85,27 @@ meta-back s p true m w d a =
     (be32-stands s (p + 6) (m .index) (omega arith) last)
 meta-back s p false m w d a = let z = w .lacks refl in meta-eq _ m (sym (z .0)) (sym (z .1)) (sym (z .2))
 
+-- ---- the body's length: whole bytes, whichever way a remainder goes
+whole-bytes : (p : Profile) (n bits : ℕ) → bits ≡ n * 8 → bodyLength p bits ≡ n
+unfolding bodyLength
+whole-bytes Console n bits e = omega arith
+whole-bytes Cpp n bits e = omega arith
+
 -- ---- the header
 -- the frame of a header and a body of n bytes, as it is read at a place
-abbrev pub placedOf : ℕ → Frame → ℕ → Placed
-placedOf at f n = record { frame = f; start = at + headerSize (f .piece) (fieldsOf (f .kind) .header); len = n }
+abbrev pub placedOf : Profile → ℕ → Frame → ℕ → Placed
+placedOf p at f n = record { frame = f; start = at + headerSize (f .piece) (fieldsOf p (f .kind) .header); len = n }
 
 frame-eq : (f g : Frame) → f .kind ≡ g .kind → f .reliable ≡ g .reliable → f .sequence ≡ g .sequence → f .order ≡ g .order
     → f .channel ≡ g .channel → f .piece ≡ g .piece → f .meta ≡ g .meta → f ≡ g
 frame-eq f g k r s o c p m = λ j. record { kind = k j; reliable = r j; sequence = s j; order = o j; channel = c j; piece = p j; meta = m j }
 
-module _ (s : List ℕ) (at : ℕ) (f : Frame) (n : ℕ) (w : Within f n) (a : Stands s at (headerBytes f n)) where
+module _ (p : Profile) (s : List ℕ) (at : ℕ) (f : Frame) (n : ℕ) (w : Within p f n) (a : Stands s at (headerBytes p f n)) where
   start : Stands s at (startBytes (f .kind) (f .piece) n)
   unfolding headerBytes
   start = stands-first s at (startBytes (f .kind) (f .piece) n) _ a
 
-  after-start : Stands s (at + 3) (andThen (fieldBytes (fieldsOf (f .kind)) f) (metaBytes (f .piece) (f .meta)))
+  after-start : Stands s (at + 3) (andThen (fieldBytes (fieldsOf p (f .kind)) f) (metaBytes (f .piece) (f .meta)))
   unfolding headerBytes
   after-start = rw start-wide at (stands-next s at (startBytes (f .kind) (f .piece) n) _ a)
 
@@ -105,12 +113,12 @@ module _ (s : List ℕ) (at : ℕ) (f : Frame) (n : ℕ) (w : Within f n) (a : S
   unfolding startBytes
   flags-back = one-stands s at _ (stands-first s at (flagsOf (f .kind) (f .piece) ∷ []) (be16Bytes (n * 8)) start)
 
-  len-back : be16 s (at + 1) / 8 ≡ n
+  len-back : bodyLength p (be16 s (at + 1)) ≡ n
   unfolding startBytes
   len-back =
       let b : be16 s (at + 1) ≡ n * 8 % 65536 =
       be16-stands s (at + 1) (n * 8) (stands-next s at (flagsOf (f .kind) (f .piece) ∷ []) (be16Bytes (n * 8)) start) in
-      omega (arith, w .body)
+      whole-bytes p n (be16 s (at + 1)) (omega (arith, w .body))
 
   -- each number and the channel, at the place that the kind's row gives
   numbers-back : (k : KindFields) → InOrder k → Carried numbers24 (k .reliable) (f .reliable) → Carried numbers24 (k .sequence)
@@ -137,75 +145,76 @@ module _ (s : List ℕ) (at : ℕ) (f : Frame) (n : ℕ) (w : Within f n) (a : S
         channel-back s at (at + 3 + length nr + length ns + length no) (k .channel) (f .channel) (λ n. omega (arith, o .channel n)) c b4,
       )
 
-  header-back : f .meta .id < 65536 → frameAt s at ≡ f
+  header-back : f .meta .id < 65536 → frameAt p s at ≡ f
   unfolding frameAt
   header-back d =
-      let k : KindFields = fieldsOf (f .kind) in
+      let k : KindFields = fieldsOf p (f .kind) in
       let fields = fieldBytes k f in
-      let b = numbers-back k (row-in-order (f .kind)) (w .reliable) (w .sequence) (w .order) (w .channel)
+      let b = numbers-back k (row-in-order p (f .kind)) (w .reliable) (w .sequence) (w .order) (w .channel)
       (stands-first s (at + 3) fields _ after-start) in
-      let place : at + 3 + length fields ≡ at + k .header = omega (arith, fields-wide k f (row-in-order (f .kind))) in
+      let place : at + 3 + length fields ≡ at + k .header = omega (arith, fields-wide k f (row-in-order p (f .kind))) in
       let m : Stands s (at + k .header) (metaBytes (f .piece) (f .meta)) = rw place at (stands-next s (at + 3) fields _ after-start) in
       rw (flags-back, kind-back, piece-back)
       (frame-eq _ f refl (b .0) (b .1) (b .2) (b .3) refl (meta-back s (at + k .header) (f .piece) (f .meta) (w .meta) d m))
 
-  placed-back : f .meta .id < 65536 → placedAt s at ≡ placedOf at f n
+  placed-back : f .meta .id < 65536 → placedAt p s at ≡ placedOf p at f n
   unfolding placedAt
   placed-back d = rw (flags-back, kind-back, piece-back, header-back d, len-back)
 
 -- ---- a frame that is written where there is room
-module _ (out : List ℕ) (at : ℕ) (f : Frame) (body : List ℕ) (e : withinLimits f (length body) ≡ true)
-    (room : at + sizeOf f (length body) ≤ length out) where
-  stored : Stands (put out at (frameBytes f body)) at (frameBytes f body)
-  stored = put-stands out at (frameBytes f body) (rw frame-wide room)
+module _ (p : Profile) (out : List ℕ) (at : ℕ) (f : Frame) (body : List ℕ) (e : withinLimits p f (length body) ≡ true)
+    (room : at + sizeOf p f (length body) ≤ length out) where
+  stored : Stands (put out at (frameBytes p f body)) at (frameBytes p f body)
+  stored = put-stands out at (frameBytes p f body) (rw frame-wide room)
 
   read-back : f .meta .id < 65536
-      → readFrameOf (put out at (frameBytes f body)) at ≡ gives (placedOf at f (length body), at + sizeOf f (length body))
+      → readFrameOf p (put out at (frameBytes p f body)) at ≡ gives (placedOf p at f (length body), at + sizeOf p f (length body))
   unfolding readFrameOf frameBytes sizeOf
   read-back d =
-      let s : List ℕ = put out at (frameBytes f body) in
-      let p : placedAt s at ≡ placedOf at f (length body) =
-      placed-back s at f (length body) (within f (length body) e) (stands-first s at (headerBytes f (length body)) body stored) d in
-      sym (lt-no _ _ _ _ _ (rw (p, length-put) (omega arith)) (rw p (rw add-assoc)))
+      let s : List ℕ = put out at (frameBytes p f body) in
+      let x : placedAt p s at ≡ placedOf p at f (length body) =
+      placed-back p s at f (length body) (within p f (length body) e) (stands-first s at (headerBytes p f (length body)) body stored) d in
+      sym (lt-no _ _ _ _ _ (rw (x, length-put) (omega arith)) (rw x (rw add-assoc)))
 
-  body-back : bodyOf (put out at (frameBytes f body)) (placedOf at f (length body)) ≡ body
+  body-back : bodyOf (put out at (frameBytes p f body)) (placedOf p at f (length body)) ≡ body
   unfolding frameBytes sizeOf
   body-back =
-      let s : List ℕ = put out at (frameBytes f body) in
-      let b = stands-next s at (headerBytes f (length body)) body stored in
+      let s : List ℕ = put out at (frameBytes p f body) in
+      let b = stands-next s at (headerBytes p f (length body)) body stored in
       stands-there s _ body (rw header-wide at b) (rw length-put (omega arith))
 
 -- ---- what it means that `write_frame` accepts a frame
-pub record Accepted (out : List ℕ) (at : ℕ) (f : Frame) (body : List ℕ) (next : ℕ) : Type 0 where
-  pub limits : withinLimits f (length body) ≡ true
-  pub room : at + sizeOf f (length body) ≤ length out
-  pub place : next ≡ at + sizeOf f (length body)
-  pub written : frameWrittenOf out at f body ≡ put out at (frameBytes f body)
+pub record Accepted (p : Profile) (out : List ℕ) (at : ℕ) (f : Frame) (body : List ℕ) (next : ℕ) : Type 0 where
+  pub limits : withinLimits p f (length body) ≡ true
+  pub room : at + sizeOf p f (length body) ≤ length out
+  pub place : next ≡ at + sizeOf p f (length body)
+  pub written : frameWrittenOf p out at f body ≡ put out at (frameBytes p f body)
 
 -- Where the answer is a place, the frame is within its limits and has room, and its bytes are in the output.
-pub accepted : (out : List ℕ) (at : ℕ) (f : Frame) (body : List ℕ) (next : ℕ) → writeFrameOf (length out) at f (length body) ≡ gives next
-    → Accepted out at f body next
+pub accepted : (p : Profile) (out : List ℕ) (at : ℕ) (f : Frame) (body : List ℕ) (next : ℕ)
+    → writeFrameOf p (length out) at f (length body) ≡ gives next → Accepted p out at f body next
 unfolding writeFrameOf frameWrittenOf
-accepted out at f body next e = go (withinLimits f (length body)) refl (decLt (length out) (at + sizeOf f (length body)))
+accepted p out at f body next e = go (withinLimits p f (length body)) refl (decLt (length out) (at + sizeOf p f (length body)))
   where
-    go : (t : Bool) → withinLimits f (length body) ≡ t → Dec (length out < at + sizeOf f (length body)) → Accepted out at f body next
-    go false i r = refused-gives 15 next (over-limit (length out) at f (length body) _ _ _ i ∙ e)
-    go true i (yes r) = refused-gives 12 next (no-room (length out) at f (length body) _ _ _ i r ∙ e)
+    go : (t : Bool) → withinLimits p f (length body) ≡ t → Dec (length out < at + sizeOf p f (length body)) → Accepted p out at f body next
+    go false i r = refused-gives 15 next (over-limit p (length out) at f (length body) _ _ _ i ∙ e)
+    go true i (yes r) = refused-gives 12 next (no-room p (length out) at f (length body) _ _ _ i r ∙ e)
     go true i (no r) =
-        let g : gives (at + sizeOf f (length body)) ≡ gives next = has-room (length out) at f (length body) _ _ _ i (omega arith) ∙ e in
+        let g : gives (at + sizeOf p f (length body)) ≡ gives next = has-room p (length out) at f (length body) _ _ _ i (omega arith) ∙ e in
         record {
           limits = i;
           room = omega arith;
           place = cc;
-          written = sym (has-room (length out) at f (length body) _ _ _ i (omega arith));
+          written = sym (has-room p (length out) at f (length body) _ _ _ i (omega arith));
         }
 
--- Writing then reading gives the frame back: at any place of any output, what `write_frame` wrote is read there as a frame with the same
--- header values, whose body is the body, and the place after it is the one that the writer returned. (An id is a u16 in the code.)
-pub write-then-read : (out : List ℕ) (at : ℕ) (f : Frame) (body : List ℕ) (next : ℕ) → f .meta .id < 65536
-    → writeFrameOf (length out) at f (length body) ≡ gives next
-    → (readFrameOf (frameWrittenOf out at f body) at ≡ gives (placedOf at f (length body), next))
-    × (bodyOf (frameWrittenOf out at f body) (placedOf at f (length body)) ≡ body)
-write-then-read out at f body next d e =
-    let a = accepted out at f body next e in
-    rw (a .written, a .place) (read-back out at f body (a .limits) (a .room) d, body-back out at f body (a .limits) (a .room))
+-- Writing then reading gives the frame back, under either profile: at any place of any output, what `write_frame` wrote is read there as
+-- a frame with the same header values, whose body is the body, and the place after it is the one that the writer returned. (An id is a u16
+-- in the code.)
+pub write-then-read : (p : Profile) (out : List ℕ) (at : ℕ) (f : Frame) (body : List ℕ) (next : ℕ) → f .meta .id < 65536
+    → writeFrameOf p (length out) at f (length body) ≡ gives next
+    → (readFrameOf p (frameWrittenOf p out at f body) at ≡ gives (placedOf p at f (length body), next))
+    × (bodyOf (frameWrittenOf p out at f body) (placedOf p at f (length body)) ≡ body)
+write-then-read p out at f body next d e =
+    let a = accepted p out at f body next e in
+    rw (a .written, a .place) (read-back p out at f body (a .limits) (a .room) d, body-back p out at f body (a .limits) (a .room))

@@ -1,4 +1,4 @@
--- A frame's bytes, written: document 01, "Bytes", paragraph "Frame".
+-- A frame's bytes, written: document 01, "Bytes", paragraph "Frame"; under a profile (document 02, request 2).
 use Prim.Native.Nat.{ℕ, _+_, _*_}
 use mathlib.Core.Bool.{Bool}
 use mathlib.Core.List.{List, [], _∷_}
@@ -8,6 +8,7 @@ use Rattle.base.specs.If.{ifTrue, ifEq}
 use Rattle.base.specs.Put.{andThen}
 use Rattle.reliability.specs.Kinds.{fieldsOf}
 use Rattle.reliability.specs.declared.KindFields.{KindFields}
+use Rattle.reliability.specs.declared.Profile.{Profile}
 use Rattle.frame.specs.declared.FragmentMeta.{FragmentMeta}
 use Rattle.frame.specs.declared.Frame.{Frame}
 
@@ -40,9 +41,10 @@ unfoldable pub metaBytes : Bool → FragmentMeta → List ℕ
 metaBytes piece m = ifTrue piece (andThen (be32Bytes (m .count)) (andThen (be16Bytes (m .id)) (be32Bytes (m .index)))) []
 
 -- the header of a frame with a body of n bytes
-unfoldable pub headerBytes : Frame → ℕ → List ℕ
-headerBytes f n = andThen (startBytes (f .kind) (f .piece) n) (andThen (fieldBytes (fieldsOf (f .kind)) f) (metaBytes (f .piece) (f .meta)))
+unfoldable pub headerBytes : Profile → Frame → ℕ → List ℕ
+headerBytes p f n =
+    andThen (startBytes (f .kind) (f .piece) n) (andThen (fieldBytes (fieldsOf p (f .kind)) f) (metaBytes (f .piece) (f .meta)))
 
 -- the whole frame; "the body's own length is written"
-unfoldable pub frameBytes : Frame → List ℕ → List ℕ
-frameBytes f body = andThen (headerBytes f (length body)) body
+unfoldable pub frameBytes : Profile → Frame → List ℕ → List ℕ
+frameBytes p f body = andThen (headerBytes p f (length body)) body

@@ -4,6 +4,7 @@ use frame::FragmentMeta;
 use frame::Frame;
 use frame::META_SIZE;
 use reliability::KindFields;
+use reliability::Profile;
 ghost use mathlib.Core.Path.{_≡_};
 ghost use Prim.Native.Nat.{_+_, _<_, _≤_};
 ghost use lib.ListN.{length};
@@ -19,15 +20,15 @@ ghost use Rattle.frame_write.specs.Valid.{frameWriteAnswer};
 const MAX_KIND: u8 = 7;
 
 // Writes a frame into the output from `at` on.
-pub fn write_frame(out: &mut [u8], at: usize, frame: Frame, body: &[u8]) -> WriteFrame
-    ensures answer { λ r. ⌜ frameWriteAnswer r ≡ writeFrameOf (length (now (out .entry))) at frame (length (now (body .entry))) ⌝ }
-    ensures output { λ r. ⌜ now (out .exit) ≡ frameWrittenOf (now (out .entry)) at frame (now (body .entry)) ⌝ }
+pub fn write_frame(p: Profile, out: &mut [u8], at: usize, frame: Frame, body: &[u8]) -> WriteFrame
+    ensures answer { λ r. ⌜ frameWriteAnswer r ≡ writeFrameOf p (length (now (out .entry))) at frame (length (now (body .entry))) ⌝ }
+    ensures output { λ r. ⌜ now (out .exit) ≡ frameWrittenOf p (now (out .entry)) at frame (now (body .entry)) ⌝ }
 {
     let n = body.len();
-    if within_limits(frame, n) {} else {
+    if within_limits(p, frame, n) {} else {
         return WriteFrame::OverLimit;
     }
-    let size = size_of(frame, n);
+    let size = size_of(p, frame, n);
     let room = out.len();
     if room < at {
         return WriteFrame::NoRoom;
@@ -36,17 +37,17 @@ pub fn write_frame(out: &mut [u8], at: usize, frame: Frame, body: &[u8]) -> Writ
         return WriteFrame::NoRoom;
     }
     let next = at + size;
-    put_frame(&mut out[at..], frame, body);
+    put_frame(p, &mut out[at..], frame, body);
     WriteFrame::Written { next: next }
 }
 
 // The header and a body of n bytes.
-fn size_of(frame: Frame, n: usize) -> usize
+fn size_of(p: Profile, frame: Frame, n: usize) -> usize
     requires { ⌜ n ≤ maxBody ⌝ }
-    ensures is { λ r. ⌜ r ≡ sizeOf frame n ⌝ }
+    ensures is { λ r. ⌜ r ≡ sizeOf p frame n ⌝ }
     ensures small { λ r. ⌜ r < maxBody + 110 ⌝ }
 {
-    let k = reliability::fields(frame.kind);
+    let k = reliability::fields(p, frame.kind);
     if frame.piece {
         return k.header + META_SIZE + n;
     }
@@ -112,8 +113,8 @@ fn meta_ok(piece: bool, meta: FragmentMeta) -> bool
     false
 }
 
-fn within_limits(frame: Frame, n: usize) -> bool
-    ensures { λ r. ⌜ r ≡ withinLimits frame n ⌝ }
+fn within_limits(p: Profile, frame: Frame, n: usize) -> bool
+    ensures { λ r. ⌜ r ≡ withinLimits p frame n ⌝ }
 {
     let kind = frame.kind;
     let piece = frame.piece;
@@ -124,7 +125,7 @@ fn within_limits(frame: Frame, n: usize) -> bool
     if base::MAX_BODY < n {
         return false;
     }
-    let k = reliability::fields(kind);
+    let k = reliability::fields(p, kind);
     if fields_ok(k, frame) {
         return meta_ok(piece, meta);
     }
@@ -132,22 +133,22 @@ fn within_limits(frame: Frame, n: usize) -> bool
 }
 
 // A number of the header, where the kind has it.
-fn put_number(out: &mut [u8], p: usize, off: usize, x: u32) -> usize
-    ensures { λ r. ⌜ Run p (numberBytes off x) (now (out .entry)) r (now (out .exit)) ⌝ }
+fn put_number(out: &mut [u8], to: usize, off: usize, x: u32) -> usize
+    ensures { λ r. ⌜ Run to (numberBytes off x) (now (out .entry)) r (now (out .exit)) ⌝ }
 {
     if off == 0 {
-        return p;
+        return to;
     }
-    base::put24(out, p, x)
+    base::put24(out, to, x)
 }
 
-fn put_channel(out: &mut [u8], p: usize, off: usize, channel: u8) -> usize
-    ensures { λ r. ⌜ Run p (channelBytes off channel) (now (out .entry)) r (now (out .exit)) ⌝ }
+fn put_channel(out: &mut [u8], to: usize, off: usize, channel: u8) -> usize
+    ensures { λ r. ⌜ Run to (channelBytes off channel) (now (out .entry)) r (now (out .exit)) ⌝ }
 {
     if off == 0 {
-        return p;
+        return to;
     }
-    base::put8(out, p, channel)
+    base::put8(out, to, channel)
 }
 
 fn flags_of(kind: u8, piece: bool) -> u8
@@ -161,55 +162,55 @@ fn flags_of(kind: u8, piece: bool) -> u8
 }
 
 // Flags, and the length of a body of n bytes.
-fn put_start(out: &mut [u8], p: usize, kind: u8, piece: bool, n: u32) -> usize
+fn put_start(out: &mut [u8], to: usize, kind: u8, piece: bool, n: u32) -> usize
     requires { ⌜ (kind ≤ maxKind) × (n ≤ maxBody) ⌝ }
-    ensures { λ r. ⌜ Run p (startBytes kind piece n) (now (out .entry)) r (now (out .exit)) ⌝ }
+    ensures { λ r. ⌜ Run to (startBytes kind piece n) (now (out .entry)) r (now (out .exit)) ⌝ }
 {
     let flags = flags_of(kind, piece);
-    let a = base::put8(out, p, flags);
+    let a = base::put8(out, to, flags);
     base::put16(out, a, n * 8)
 }
 
 // The numbers and the channel that the kind has.
-fn put_fields(out: &mut [u8], p: usize, k: KindFields, frame: Frame) -> usize
-    ensures { λ r. ⌜ Run p (fieldBytes k frame) (now (out .entry)) r (now (out .exit)) ⌝ }
+fn put_fields(out: &mut [u8], to: usize, k: KindFields, frame: Frame) -> usize
+    ensures { λ r. ⌜ Run to (fieldBytes k frame) (now (out .entry)) r (now (out .exit)) ⌝ }
 {
-    let a = put_number(out, p, k.reliable, frame.reliable);
+    let a = put_number(out, to, k.reliable, frame.reliable);
     let b = put_number(out, a, k.sequence, frame.sequence);
     let c = put_number(out, b, k.order, frame.order);
     put_channel(out, c, k.channel, frame.channel)
 }
 
 // Count, id and index of a piece.
-fn put_meta(out: &mut [u8], p: usize, piece: bool, meta: FragmentMeta) -> usize
-    ensures { λ r. ⌜ Run p (metaBytes piece meta) (now (out .entry)) r (now (out .exit)) ⌝ }
+fn put_meta(out: &mut [u8], to: usize, piece: bool, meta: FragmentMeta) -> usize
+    ensures { λ r. ⌜ Run to (metaBytes piece meta) (now (out .entry)) r (now (out .exit)) ⌝ }
 {
     if piece {
-        let a = base::put32(out, p, meta.count);
+        let a = base::put32(out, to, meta.count);
         let b = base::put16(out, a, meta.id as u32);
         return base::put32(out, b, meta.index);
     }
-    p
+    to
 }
 
 // The header of a frame with a body of n bytes.
-fn put_header(out: &mut [u8], p: usize, frame: Frame, n: u32) -> usize
+fn put_header(p: Profile, out: &mut [u8], to: usize, frame: Frame, n: u32) -> usize
     requires { ⌜ (frame .kind ≤ maxKind) × (n ≤ maxBody) ⌝ }
-    ensures { λ r. ⌜ Run p (headerBytes frame n) (now (out .entry)) r (now (out .exit)) ⌝ }
+    ensures { λ r. ⌜ Run to (headerBytes p frame n) (now (out .entry)) r (now (out .exit)) ⌝ }
 {
-    let k = reliability::fields(frame.kind);
+    let k = reliability::fields(p, frame.kind);
     let meta = frame.meta;
-    let a = put_start(out, p, frame.kind, frame.piece, n);
+    let a = put_start(out, to, frame.kind, frame.piece, n);
     let b = put_fields(out, a, k, frame);
     put_meta(out, b, frame.piece, meta)
 }
 
 // The whole frame, at the start of the output's rest.
-fn put_frame(out: &mut [u8], frame: Frame, body: &[u8]) -> usize
+fn put_frame(p: Profile, out: &mut [u8], frame: Frame, body: &[u8]) -> usize
     requires { ⌜ (frame .kind ≤ maxKind) × (length (now body) ≤ maxBody) ⌝ }
-    ensures { λ r. ⌜ Run 0 (frameBytes frame (now (body .entry))) (now (out .entry)) r (now (out .exit)) ⌝ }
+    ensures { λ r. ⌜ Run 0 (frameBytes p frame (now (body .entry))) (now (out .entry)) r (now (out .exit)) ⌝ }
 {
     let n = body.len() as u32;
-    let a = put_header(out, 0, frame, n);
+    let a = put_header(p, out, 0, frame, n);
     base::put_bytes(out, a, body)
 }

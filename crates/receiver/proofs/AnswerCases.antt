@@ -22,6 +22,7 @@ use Rattle.cells.specs.Datagram.{State, Work, datagram}
 use Rattle.cells.specs.Store.{slotsOf}
 use Rattle.cells.specs.Take.{earliest}
 use Rattle.receiver.specs.declared.RecvQueue.{RecvQueue}
+use Rattle.receiver.specs.Queue.{profileIn}
 use Rattle.receiver.specs.Receive.{Received, datagramNumber, isDatagram, framesIn, acceptAll, stateOf, acceptedResult, refusedResult}
 use Rattle.receiver.specs.Receive.{soundCall, receiveOf}
 use Rattle.receiver.specs.Take.{TakeResult, takeRefuses, handed, takeOf}
@@ -49,13 +50,13 @@ pub record Accepted (q : RecvQueue) (rs : List Cell) (st d : List ℕ) : Type 0 
   pub near : distance (q .datagrams .low) (datagramNumber d) ≤ windowPlaces
   pub room : q .pending < maxUnsent
   pub reliables : ReliableWindow
-  pub accepts : acceptAll (q .reliables) (framesIn d) ≡ some reliables
-  pub fits : datagram (stateOf q rs st) (framesIn d) .full ≡ false
+  pub accepts : acceptAll (q .reliables) (framesIn (profileIn q) d) ≡ some reliables
+  pub fits : datagram (stateOf q rs st) (framesIn (profileIn q) d) .full ≡ false
 
 -- A receive refuses and changes nothing, or is accepted.
 pub receive-ways : (q : RecvQueue) (rs : List Cell) (st d : List ℕ) (P : Received → Type 0)
     → ((number : ℕ) → P (refusedResult q rs st number))
-    → ((a : Accepted q rs st d) → P (acceptedResult q st d (a .reliables) (datagram (stateOf q rs st) (framesIn d))))
+    → ((a : Accepted q rs st d) → P (acceptedResult q st d (a .reliables) (datagram (stateOf q rs st) (framesIn (profileIn q) d))))
     → P (receiveOf q rs st d)
 unfolding receiveOf
 receive-ways q rs st d P bad good =
@@ -66,8 +67,8 @@ receive-ways q rs st d P bad good =
     (λ i. by-true P (accepted (q .datagrams) (datagramNumber d)) (λ o. bad 4)
     (λ o. by-lt P windowPlaces (distance (q .datagrams .low) (datagramNumber d)) (λ b. bad 5)
     (λ b. by-le P maxUnsent (q .pending) (λ u. bad 6)
-    (λ u. byOption P (acceptAll (q .reliables) (framesIn d)) (λ e. bad 7)
-    (λ v e. by-true P (datagram (stateOf q rs st) (framesIn d) .full) (λ f. bad 8)
+    (λ u. byOption P (acceptAll (q .reliables) (framesIn (profileIn q) d)) (λ e. bad 7)
+    (λ v e. by-true P (datagram (stateOf q rs st) (framesIn (profileIn q) d) .full) (λ f. bad 8)
     (λ f. good (record { sound = s; long = l; short = m; fresh = o; near = b; room = u; reliables = v; accepts = e; fits = f })))))))
     (λ i. bad 3))))
     (λ s. bad 9)

@@ -6,6 +6,7 @@ use mathlib.Core.List.{List, Memᴰ·of-map, List·Memᴰ}
 use native.Mathlib.Omega.{arith}
 use lib.ListN.{length, take, drop, length-take}
 use Rattle.base.specs.Limits.{numbers24, minDatagram, maxDatagram, cellBytes}
+use Rattle.reliability.specs.declared.Profile.{Profile}
 use Rattle.frame.specs.declared.Placed.{Placed}
 use Rattle.frame.specs.Read.{bodyOf}
 use Rattle.frame.specs.Frames.{framesOf}
@@ -20,12 +21,13 @@ pub record Read (f : Frame) : Type 0 where
   pub ok : Readable f
   pub reliable : f .reliable < numbers24
 
-placed-read : (d : List ℕ) → Bytes d → length d ≤ maxDatagram → (p : Placed) → List·Memᴰ p (framesOf d minDatagram) → Read (frameIn d p)
+placed-read : (who : Profile) (d : List ℕ) → Bytes d → length d ≤ maxDatagram → (p : Placed) → List·Memᴰ p (framesOf who d minDatagram)
+    → Read (frameIn d p)
 unfolding frameIn
-placed-read d by short p m =
-    let r = frames-read d minDatagram p m in
-    let s = read-small d by (r .place) p (r .next) (r .read) in
-    let w = frames-within d minDatagram p m in
+placed-read who d by short p m =
+    let r = frames-read who d minDatagram p m in
+    let s = read-small who d by (r .place) p (r .next) (r .read) in
+    let w = frames-within who d minDatagram p m in
     let n : length (take (p .len) (drop (p .start) d)) ≤ p .len = simp length-take (omega arith) in
     record {
       ok = record { kind = s .0 .kind; sequence = s .0 .sequence; order = s .0 .order; id = s .0 .meta .id; body = omega arith };
@@ -33,8 +35,8 @@ placed-read d by short p m =
     }
 
 -- Every frame of a datagram of at most 1,500 bytes fits: its kind, numbers and body are within the limits of their fields.
-pub frames-in-read : (d : List ℕ) → Bytes d → length d ≤ maxDatagram → (f : Frame) → List·Memᴰ f (framesIn d) → Read f
+pub frames-in-read : (who : Profile) (d : List ℕ) → Bytes d → length d ≤ maxDatagram → (f : Frame) → List·Memᴰ f (framesIn who d) → Read f
 unfolding framesIn
-frames-in-read d by short f m =
-    let a = Memᴰ·of-map (frameIn d) (framesOf d minDatagram) m in
-    subst Read (a .2) (placed-read d by short (a .0) (a .1))
+frames-in-read who d by short f m =
+    let a = Memᴰ·of-map (frameIn d) (framesOf who d minDatagram) m in
+    subst Read (a .2) (placed-read who d by short (a .0) (a .1))

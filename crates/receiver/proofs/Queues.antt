@@ -12,6 +12,8 @@ use Rattle.base.specs.Limits.{numbers24, maxOrdChans, windowPlaces, maxUnsent}
 use Rattle.base.specs.Lists.{any, every}
 use Rattle.base.proofs.Choices.{cases, byBool, and-left, and-right, and-both, neither}
 use Rattle.base.proofs.Lists.{any-true}
+use Rattle.reliability.specs.declared.Profile.{Profile}
+use Rattle.reliability.specs.declared.Profile.the-variants.{Console, Cpp}
 use Rattle.window.specs.declared.ReliableWindow.{ReliableWindow}
 use Rattle.window.specs.Places.{placeSet}
 use Rattle.window.specs.Window.{accepted, accept, newWindow}
@@ -26,7 +28,7 @@ use Rattle.receiver.specs.Write.{emptied}
 use Rattle.receiver.proofs.Accepting.{accept-proper}
 use Rattle.receiver.proofs.ChannelsAfter.{channels-length}
 use Rattle.receiver.specs.Queue.{nextOf, newestOf, unsentOf, newQueue, placesWithin, soundWindow, differ, soundUnsent, soundQueue}
-use Rattle.receiver.specs.Queue.{insertUnsent}
+use Rattle.receiver.specs.Queue.{soundProfile, insertUnsent}
 use Rattle.receiver.proofs.Unsent.{every-insert, differ-insert, taken-after, array-after, every-more, not-among}
 
 -- A proper window passes the test.
@@ -49,6 +51,7 @@ pub record Good (q : RecvQueue) : Type 0 where
   pub datagrams : Proper (q .datagrams)
   pub reliables : Proper (q .reliables)
   pub channels : length (q .channels) ≡ maxOrdChans
+  pub profile : soundProfile (q .profile) ≡ true
   pub unsent : length (q .unsent) ≡ maxUnsent
   pub pending : q .pending ≤ maxUnsent
   pub members : every (λ n. ltb n numbers24 && accepted (q .datagrams) n) (unsentOf q) ≡ true
@@ -61,14 +64,21 @@ good-sound q g n m =
     (and-both (soundWindow (q .reliables)) _ (window-proper (q .reliables) (g .reliables))
     (and-both (soundNexts (nextOf q)) _ n
     (and-both (soundMemories (newestOf q)) _ m
-    (and-both (leb (q .pending) maxUnsent) _ (le-leb _ _ (g .pending)) (and-both _ (differ (unsentOf q)) (g .members) (g .apart))))))
+    (and-both (soundProfile (q .profile)) _ (g .profile)
+    (and-both (leb (q .pending) maxUnsent) _ (le-leb _ _ (g .pending)) (and-both _ (differ (unsentOf q)) (g .members) (g .apart)))))))
 
-pub new-good : Good newQueue
+new-profile : (p : Profile) → soundProfile (newQueue p .profile) ≡ true
+unfolding soundProfile newQueue
+new-profile Console = refl
+new-profile Cpp = refl
+
+pub new-good : (p : Profile) → Good (newQueue p)
 unfolding newQueue unsentOf every differ
-new-good = record {
+new-good p = record {
   datagrams = new-proper;
   reliables = new-proper;
   channels = refl;
+  profile = new-profile p;
   unsent = refl;
   pending = omega arith;
   members = refl;
@@ -78,13 +88,15 @@ new-good = record {
 -- An accepted datagram's number joins the accepted and the unsent.
 pub after-good : (q : RecvQueue) (n : ℕ) (v : ReliableWindow) (next newest : ℕ → ℕ) → Good q → Proper v → n < numbers24
     → accepted (q .datagrams) n ≡ false
-    → n ≤ q .datagrams .low + windowPlaces → q .pending < maxUnsent → Good (queueAfter q n v next newest)
+    → n ≤ q .datagrams .low + windowPlaces → q .pending < maxUnsent → soundProfile (queueAfter q n v next newest .profile) ≡ true
+    → Good (queueAfter q n v next newest)
 unfolding queueAfter unsentOf
-after-good q n v next newest g pv small fresh near room =
+after-good q n v next newest g pv small fresh near room known =
     record {
       datagrams = accept-proper (q .datagrams) n (g .datagrams) small fresh near;
       reliables = pv;
       channels = channels-length next newest 0 (q .channels) ∙ g .channels;
+      profile = known;
       unsent = array-after n (q .pending) (q .unsent) (omega (arith, g .unsent)) ∙ g .unsent;
       pending = omega arith;
       members = rw (is) (every-insert test n (take (q .pending) (q .unsent)) own
@@ -120,6 +132,7 @@ emptied-good q g = record {
   datagrams = g .datagrams;
   reliables = g .reliables;
   channels = g .channels;
+  profile = g .profile;
   unsent = g .unsent;
   pending = omega arith;
   members = refl;

@@ -21,11 +21,12 @@ use Rattle.cells.specs.Sound.{Readable, soundCells, soundNexts, soundMemories, 
 use Rattle.cells.specs.Store.{cellSize, slotsOf, cellsOf, storeOf}
 use Rattle.cells.proofs.SoundKept.{datagram-sound}
 use Rattle.cells.proofs.Memories as cell-memories
+use Rattle.cells.proofs.Profile.{datagram-profile}
 use Rattle.cells.proofs.SoundTest.{sound-rest}
 use Rattle.cells.proofs.Store.{Shaped, slots-shaped, cells-slots, store-length, datagram-worked, datagram-shaped, datagram-read, take-read}
 use Rattle.receiver.specs.declared.RecvQueue.{RecvQueue}
 use Rattle.receiver.specs.declared.Channel.{Channel}
-use Rattle.receiver.specs.Queue.{newChannel, nextIn, nextOf, newestOf, soundWindow, soundUnsent, soundQueue}
+use Rattle.receiver.specs.Queue.{newChannel, nextIn, nextOf, newestOf, profileIn, soundWindow, soundProfile, soundUnsent, soundQueue}
 use Rattle.receiver.specs.Receive.{datagramNumber, framesIn, stateOf, queueAfter, acceptedResult, soundCall}
 use Rattle.receiver.specs.Calls.{Receiver}
 use Rattle.receiver.proofs.Accepting.{all-accepted, frames-accepted}
@@ -45,12 +46,13 @@ pub record Sane (x : Receiver) : Type 0 where
   pub sound : soundCall (x .queue) (x .records) (x .store) ≡ true
 
 module _ (q : RecvQueue) (e : soundQueue q ≡ true) where
-  numbers-sound : (soundNexts (nextOf q) && (soundMemories (newestOf q) && soundUnsent q)) ≡ true
+  numbers-sound : (soundNexts (nextOf q) && (soundMemories (newestOf q) && (soundProfile (q .profile) && soundUnsent q))) ≡ true
   unfolding soundQueue
   numbers-sound =
-      and-right (soundWindow (q .reliables)) (soundNexts (nextOf q) && (soundMemories (newestOf q) && soundUnsent q))
+      and-right (soundWindow (q .reliables)) (soundNexts (nextOf q) && (soundMemories (newestOf q) && (soundProfile (q .profile)
+      && soundUnsent q)))
       (and-right (soundWindow (q .datagrams)) (soundWindow (q .reliables) && (soundNexts (nextOf q) && (soundMemories (newestOf q)
-      && soundUnsent q))) e)
+      && (soundProfile (q .profile) && soundUnsent q)))) e)
 
   pub nexts-sound : soundNexts (nextOf q) ≡ true
   nexts-sound = and-left (soundNexts (nextOf q)) _ numbers-sound
@@ -58,8 +60,15 @@ module _ (q : RecvQueue) (e : soundQueue q ≡ true) where
   pub memories-sound : soundMemories (newestOf q) ≡ true
   memories-sound = and-left (soundMemories (newestOf q)) _ (and-right (soundNexts (nextOf q)) _ numbers-sound)
 
+  last-sound : (soundProfile (q .profile) && soundUnsent q) ≡ true
+  last-sound = and-right (soundMemories (newestOf q)) (soundProfile (q .profile) && soundUnsent q)
+      (and-right (soundNexts (nextOf q)) _ numbers-sound)
+
+  pub profile-sound : soundProfile (q .profile) ≡ true
+  profile-sound = and-left (soundProfile (q .profile)) (soundUnsent q) last-sound
+
   pub unsent-sound : soundUnsent q ≡ true
-  unsent-sound = and-right (soundMemories (newestOf q)) _ (and-right (soundNexts (nextOf q)) _ numbers-sound)
+  unsent-sound = and-right (soundProfile (q .profile)) (soundUnsent q) last-sound
 
 module _ (q : RecvQueue) (rs : List Cell) (st : List ℕ) (s : soundCall q rs st ≡ true) where
   pub lengths-sound : lengths (length rs) (length st) ≡ true
@@ -121,12 +130,13 @@ number-small d by = omega (arith, by 1, by 2, by 3)
 -- the receiver after an accepted datagram
 unfoldable pub acceptedBy : (x : Receiver) (d : List ℕ) → Accepted (x .queue) (x .records) (x .store) d → Receiver
 acceptedBy x d a =
-    let r = acceptedResult (x .queue) (x .store) d (a .reliables) (datagram (stateOf (x .queue) (x .records) (x .store)) (framesIn d)) in
+    let r = acceptedResult (x .queue) (x .store) d (a .reliables)
+    (datagram (stateOf (x .queue) (x .records) (x .store)) (framesIn (profileIn (x .queue)) d)) in
     record { queue = r .queue; records = r .records; store = r .store }
 
 module _ (x : Receiver) (d : List ℕ) (by : Bytes d) (v : Sane x) (a : Accepted (x .queue) (x .records) (x .store) d) where
   fs : List Frame
-  fs = framesIn d
+  fs = framesIn (profileIn (x .queue)) d
 
   s : State
   s = stateOf (x .queue) (x .records) (x .store)
@@ -136,7 +146,7 @@ module _ (x : Receiver) (d : List ℕ) (by : Bytes d) (v : Sane x) (a : Accepted
 
   read : (f : Frame) → List·Memᴰ f fs → Read f
   unfolding fs
-  read = frames-in-read d by (a .short)
+  read = frames-in-read (profileIn (x .queue)) d by (a .short)
 
   readable : (f : Frame) → List·Memᴰ f fs → Readable f
   readable f m = read f m .ok
@@ -176,10 +186,19 @@ module _ (x : Receiver) (d : List ℕ) (by : Bytes d) (v : Sane x) (a : Accepted
   worked = datagram-worked (length (x .records)) s fs readable slots-shape
 
   -- the slots that are read back from the records and bytes that it leaves are those of the four steps
-  pub accepted-state : stateIn (acceptedBy x d a) ≡ end (datagram (stateIn x) (framesIn d))
+  pub accepted-state : stateIn (acceptedBy x d a) ≡ end (datagram (stateIn x) (framesIn (profileIn (x .queue)) d))
   unfolding acceptedBy acceptedResult stateOf end w s fs queueAfter nextOf nextIn newestOf
-  accepted-state = λ i. record { accepted = reliables-are i; next = nexts-are i; newest = memories-are i; slots = slots-are i }
+  accepted-state = λ i. record {
+    profile = profile-is i;
+    accepted = reliables-are i;
+    next = nexts-are i;
+    newest = memories-are i;
+    slots = slots-are i;
+  }
     where
+      profile-is : profileIn (acceptedBy x d a .queue) ≡ w .state .profile
+      profile-is = unfold acceptedBy acceptedResult queueAfter stateOf s w profileIn in sym (datagram-profile s fs)
+
       slots-are : slotsOf (cellsOf (end w .slots)) (storeOf (x .store) (w .state .slots)) ≡ end w .slots
       slots-are = datagram-read s (x .store) fs readable (slots-shape .sized)
           (rw (slots-shape .many) (store-is (x .queue) (x .records) (x .store) (v .sound)))
@@ -193,13 +212,17 @@ module _ (x : Receiver) (d : List ℕ) (by : Bytes d) (v : Sane x) (a : Accepted
   store-long = store-length (w .state .slots) (x .store) (worked .sized)
       (rw (worked .many) (let e = store-is (x .queue) (x .records) (x .store) (v .sound) in omega arith))
 
+  profile-after : soundProfile (acceptedBy x d a .queue .profile) ≡ true
+  unfolding acceptedBy acceptedResult queueAfter
+  profile-after = v .good .profile
+
   good-after : Good (acceptedBy x d a .queue)
   unfolding acceptedBy acceptedResult
   good-after =
       let ge = low-le (x .queue .datagrams) (datagramNumber d) (a .fresh) in
       let near = a .near in
       after-good (x .queue) (datagramNumber d) (a .reliables) _ _ (v .good) reliables-proper (number-small d by) (a .fresh) (omega arith)
-      (a .room)
+      (a .room) profile-after
 
   sound-after : sound (acceptedBy x d a .records) (nextOf (acceptedBy x d a .queue)) ≡ true
   unfolding acceptedBy acceptedResult w s fs end

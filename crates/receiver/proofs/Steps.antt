@@ -22,7 +22,7 @@ use Rattle.cells.proofs.Matching.{Matches, receive-matches, ready-count, droppe
 use Rattle.cells.proofs.SoundKept.{take-sound}
 use Rattle.cells.proofs.Store.{take-shaped, cells-slots}
 use Rattle.receiver.specs.declared.RecvQueue.{RecvQueue}
-use Rattle.receiver.specs.Queue.{nextOf, newestOf, unsentOf, soundQueue}
+use Rattle.receiver.specs.Queue.{nextOf, newestOf, profileIn, unsentOf, soundQueue}
 use Rattle.receiver.specs.Receive.{Received, framesIn, stateOf, acceptedResult, refusedResult, soundCall, receiveOf}
 use Rattle.receiver.specs.Take.{TakeResult, takeRefuses, takeOf}
 use Rattle.receiver.specs.Write.{Wrote, whenGiven, emptied, writeOf, sorted, writeUnsentOf, writeMissingOf}
@@ -59,27 +59,28 @@ quiet x y v e = record {
 -- ---- receive
 accepts : (x : Receiver) (d : List ℕ) → Bytes d → Sane x → (a : ways.Accepted (x .queue) (x .records) (x .store) d)
     → Step x (receives.acceptedBy x d a) [] (record {
-      frames = framesIn d;
-      ready = datagram (stateIn x) (framesIn d) .counts .ready;
-      dropped = datagram (stateIn x) (framesIn d) .counts .dropped;
+      frames = framesIn (profileIn (x .queue)) d;
+      ready = datagram (stateIn x) (framesIn (profileIn (x .queue)) d) .counts .ready;
+      dropped = datagram (stateIn x) (framesIn (profileIn (x .queue)) d) .counts .dropped;
     } ∷ [])
 unfolding framesRead bareAnswers
 accepts x d by v a = record {
   sane = accepted-sane x d by v a;
-  matches = λ b h m. rw (append-nil (framesIn d), append-nil h)
-      (subst (λ (s : State). Matches (feed b (framesIn d) .after) s h) (sym (accepted-state x d by v a))
-      (receive-matches b (stateIn x) h m (framesIn d) (a .fits)));
+  matches = λ b h m. rw (append-nil (framesIn (profileIn (x .queue)) d), append-nil h)
+      (subst (λ (s : State). Matches (feed b (framesIn (profileIn (x .queue)) d) .after) s h) (sym (accepted-state x d by v a))
+      (receive-matches b (stateIn x) h m (framesIn (profileIn (x .queue)) d) (a .fits)));
   counts = λ b h m i. record {
-    frames = framesIn d;
-    ready = ready-count b (stateIn x) h m (framesIn d) (a .fits) i;
-    dropped = dropped-count b (stateIn x) h m (framesIn d) (a .fits) i;
+    frames = framesIn (profileIn (x .queue)) d;
+    ready = ready-count b (stateIn x) h m (framesIn (profileIn (x .queue)) d) (a .fits) i;
+    dropped = dropped-count b (stateIn x) h m (framesIn (profileIn (x .queue)) d) (a .fits) i;
   } ∷ [];
 }
 
-receives-one : (x : Receiver) (d : List ℕ) → Bytes d → Sane x → Leaves x (receiveOutcome d (receiveOf (x .queue) (x .records) (x .store) d))
+receives-one : (x : Receiver) (d : List ℕ) → Bytes d → Sane x → Leaves x
+    (receiveOutcome (profileIn (x .queue)) d (receiveOf (x .queue) (x .records) (x .store) d))
 unfolding receiveOutcome
 receives-one x d by v =
-    receive-ways (x .queue) (x .records) (x .store) d (λ (r : Received). Leaves x (receiveOutcome d r))
+    receive-ways (x .queue) (x .records) (x .store) d (λ (r : Received). Leaves x (receiveOutcome (profileIn (x .queue)) d r))
     (λ number. unfold refusedResult acceptedBy in quiet x x v refl)
     (λ a. unfold acceptedResult acceptedBy receives.acceptedBy in accepts x d by v a)
 
@@ -155,7 +156,7 @@ writes-one x v next nack l out k =
 
 empties : (x : Receiver) → Sane x → With x (emptied (x .queue))
 empties x v = quiet x _ (record { good = emptied-good (x .queue) (v .good); sound = kept-sound })
-    (unfold stateOf emptied nextOf newestOf in refl)
+    (unfold stateOf emptied nextOf newestOf profileIn in refl)
   where
     nexts : soundNexts (nextOf (emptied (x .queue))) ≡ true
     nexts = unfold emptied nextOf in nexts-sound (x .queue) (queue-sound (x .queue) (x .records) (x .store) (v .sound))

@@ -5,11 +5,12 @@ use mathlib.Core.List.{List, [], _∷_, _++_}
 use lib.ListN.{length, take, drop, replicate}
 use Rattle.base.specs.Answer.{Answer, refused, gives}
 use Rattle.base.specs.Limits.{maxFrags, cellBytes}
+use Rattle.reliability.specs.declared.Profile.{Profile}
 use Rattle.bare.specs.Frame.{Frame, Message}
 use Rattle.bare.specs.Bare.{Bare, feed}
 use Rattle.cells.specs.Cell.{Cell, emptyCell}
 use Rattle.receiver.specs.declared.RecvQueue.{RecvQueue}
-use Rattle.receiver.specs.Queue.{newQueue}
+use Rattle.receiver.specs.Queue.{newQueue, profileIn}
 use Rattle.receiver.specs.Receive.{Report, Received, framesIn, receiveOf}
 use Rattle.receiver.specs.Take.{Where, inStore, inJoined, Handed, TakeResult, takeOf}
 use Rattle.receiver.specs.Write.{Wrote, writeUnsentOf, writeMissingOf}
@@ -28,9 +29,9 @@ pub record Receiver : Type 0 where
   pub records : List Cell
   pub store : List ℕ
 
--- "It begins with a receiver just made, of any number of cells": over any store of n cells
-unfoldable pub made : ℕ → List ℕ → Receiver
-made n store = record { queue = newQueue; records = replicate n emptyCell; store = store }
+-- "It begins with a receiver just made, of any number of cells": over any store of n cells, and of either profile
+unfoldable pub made : Profile → ℕ → List ℕ → Receiver
+made p n store = record { queue = newQueue p; records = replicate n emptyCell; store = store }
 
 -- an accepted datagram: the frames read from it, and the counts that its answer reports
 pub record Accepted : Type 0 where
@@ -50,18 +51,18 @@ unfoldable pub refusalOf : {A : Type 0} → Answer A → Option ℕ
 refusalOf (refused number) = some number
 refusalOf (gives x) = none
 
--- "A datagram is accepted when receive gives it no refusal number"
-unfoldable pub acceptedBy : List ℕ → Answer Report → List Accepted
-acceptedBy d (refused number) = []
-acceptedBy d (gives r) = record { frames = framesIn d; ready = r .ready; dropped = r .dropped } ∷ []
+-- "A datagram is accepted when receive gives it no refusal number"; its frames are read under the receiver's profile
+unfoldable pub acceptedBy : Profile → List ℕ → Answer Report → List Accepted
+acceptedBy p d (refused number) = []
+acceptedBy p d (gives r) = record { frames = framesIn p d; ready = r .ready; dropped = r .dropped } ∷ []
 
 -- a receive leaves all three
-unfoldable pub receiveOutcome : List ℕ → Received → Outcome
-receiveOutcome d r = record {
+unfoldable pub receiveOutcome : Profile → List ℕ → Received → Outcome
+receiveOutcome p d r = record {
   left = record { queue = r .queue; records = r .records; store = r .store };
   refusal = refusalOf (r .answer);
   handed = [];
-  accepted = acceptedBy d (r .answer);
+  accepted = acceptedBy p d (r .answer);
 }
 
 -- the bytes that a take hands out, read where it says that they stand
@@ -99,7 +100,7 @@ writeOutcome x w = record {
 }
 
 unfoldable pub outcome : Receiver → Call → Outcome
-outcome x (receive d) = receiveOutcome d (receiveOf (x .queue) (x .records) (x .store) d)
+outcome x (receive d) = receiveOutcome (profileIn (x .queue)) d (receiveOf (x .queue) (x .records) (x .store) d)
 outcome x (take-with buffer) = takeOutcome x (takeOf (x .queue) (x .records) (x .store) buffer)
 outcome x (write-unsent out) = writeOutcome x (writeUnsentOf (x .queue) out)
 outcome x (write-missing out) = writeOutcome x (writeMissingOf (x .queue) out)

@@ -5,6 +5,8 @@ use mathlib.Core.List.{List, [], _∷_}
 use lib.Dec.{ltb, eqb}
 use lib.ListN.{length, getD, take, replicate}
 use Rattle.base.specs.Limits.{maxOrdChans, manyNexts, maxUnsent}
+use Rattle.reliability.specs.declared.Profile.{Profile}
+use Rattle.reliability.specs.Profiles.{profileOf}
 use Rattle.window.specs.Window.{windowOf}
 use Rattle.receiver.specs.declared.Channel.{Channel}
 use Rattle.receiver.specs.declared.Heads.{Heads}
@@ -16,14 +18,14 @@ use Rattle.receiver.specs.Receive.{channelsAfter}
 abbrev pub channelWith : ℕ → ℕ → Channel
 channelWith next newest = record { next = next; newest = newest }
 
--- What step 4 compares with, as `manyNexts` numbers: each channel's next and memory, as its record has them, then the receiver's own
--- memory. Each is the lowest number that is not late.
-unfoldable pub nextsIn : List Channel → ℕ → List ℕ
-nextsIn [] own = own ∷ []
-nextsIn (c ∷ cs) own = c .next ∷ c .newest ∷ nextsIn cs own
+-- What step 4 goes by, as `manyNexts` numbers: each channel's next and memory, as its record has them, then the receiver's own memory, each
+-- of which is the lowest number that is not late; and the profile, which says whose memory is whose.
+unfoldable pub nextsIn : List Channel → ℕ → ℕ → List ℕ
+nextsIn [] own profile = own ∷ profile ∷ []
+nextsIn (c ∷ cs) own profile = c .next ∷ c .newest ∷ nextsIn cs own profile
 
 unfoldable pub nextsOf : RecvQueue → List ℕ
-nextsOf q = nextsIn (q .channels) (q .newest)
+nextsOf q = nextsIn (q .channels) (q .newest) (q .profile)
 
 -- where channel c's next and memory m stand among them
 abbrev pub nextPlace : ℕ → ℕ
@@ -32,12 +34,22 @@ nextPlace c = 2 * c
 unfoldable pub memoryPlace : ℕ → ℕ
 memoryPlace m = cond (ltb m maxOrdChans) (2 * m + 1) (2 * m)
 
+-- the profile stands after the memories
+abbrev pub profilePlace : ℕ
+profilePlace = 65
+
 -- these numbers; 0 past the last
 unfoldable pub nextAt : List ℕ → ℕ → ℕ
 nextAt ns c = getD (take (2 * maxOrdChans) ns) (nextPlace c) 0
 
 unfoldable pub newestAt : List ℕ → ℕ → ℕ
 newestAt ns m = getD (take manyNexts ns) (memoryPlace m) 0
+
+unfoldable pub profileAt : List ℕ → ℕ
+profileAt ns = getD (take manyNexts ns) profilePlace 0
+
+unfoldable pub profileFor : List ℕ → Profile
+profileFor ns = profileOf (profileAt ns)
 
 -- the channels' records at these numbers
 unfoldable pub channelsOf : List ℕ → List Channel
@@ -47,8 +59,8 @@ channelsOf ns = channelsAfter (nextAt ns) (newestAt ns) 0 (replicate maxOrdChans
 abbrev pub headsOf : RecvQueue → Heads
 headsOf q = record { datagrams = q .datagrams .low; reliables = q .reliables .low; pending = q .pending }
 
--- the receiver of these numbers, of the bits of the datagrams' and of the reliable numbers' window, of the nexts and memories, and of the
--- unsent numbers
+-- the receiver of these numbers, of the bits of the datagrams' and of the reliable numbers' window, of the nexts, memories and profile, and
+-- of the unsent numbers
 unfoldable pub queueOf : Heads → List ℕ → List ℕ → List ℕ → List ℕ → RecvQueue
 queueOf h dbits rbits nexts unsent =
     record {
@@ -58,6 +70,7 @@ queueOf h dbits rbits nexts unsent =
       unsent = unsent;
       pending = h .pending;
       newest = newestAt nexts maxOrdChans;
+      profile = profileAt nexts;
     }
 
 -- are the arrays as long as a receiver's, of which q and its nexts and memories were made? (Those of a `RecvQueue` are, by its type.)

@@ -4,8 +4,10 @@ use mathlib.Core.Bool.{Bool, true, false, cond, not, _&&_, _||_}
 use mathlib.Core.List.{List, [], _∷_, _++_, map}
 use lib.Dec.{ltb, leb, eqb}
 use lib.ListN.{length, getD, take, drop, replicate}
-use Rattle.base.specs.Limits.{numbers24, maxOrdChans, windowPlaces, maxUnsent}
+use Rattle.base.specs.Limits.{numbers24, maxOrdChans, profiles, windowPlaces, maxUnsent}
 use Rattle.base.specs.Lists.{any, every}
+use Rattle.reliability.specs.declared.Profile.{Profile}
+use Rattle.reliability.specs.Profiles.{profileOf, profileNumber}
 use Rattle.window.specs.declared.ReliableWindow.{ReliableWindow}
 use Rattle.window.specs.Places.{placeSet}
 use Rattle.window.specs.Window.{accepted, newWindow}
@@ -35,15 +37,20 @@ newestOf q m = getD (memoriesIn (q .channels) (q .newest)) m 0
 unfoldable pub unsentOf : RecvQueue → List ℕ
 unsentOf q = take (q .pending) (q .unsent)
 
+-- "A receiver .. is made for the console profile of document 01 or for [C++], and keeps it" (request 2): as a number
+unfoldable pub profileIn : RecvQueue → Profile
+profileIn q = profileOf (q .profile)
+
 -- "At first each next is 0 and all else is empty."
-unfoldable pub newQueue : RecvQueue
-newQueue = record {
+unfoldable pub newQueue : Profile → RecvQueue
+newQueue p = record {
   datagrams = newWindow;
   reliables = newWindow;
   channels = replicate maxOrdChans newChannel;
   unsent = replicate maxUnsent 0;
   pending = 0;
   newest = 0;
+  profile = profileNumber p;
 }
 
 -- "values .. obey the limits", for a window: low at most 2^24, and none of the k places above low whose number would be 2^24 or more is set
@@ -64,10 +71,14 @@ unfoldable pub soundUnsent : RecvQueue → Bool
 soundUnsent q = leb (q .pending) maxUnsent && (every (λ n. ltb n numbers24 && accepted (q .datagrams) n) (unsentOf q)
     && differ (unsentOf q))
 
+-- request 2: 0 and 1 are profiles, and no other number is
+unfoldable pub soundProfile : ℕ → Bool
+soundProfile n = ltb n profiles
+
 -- "where no cells are lent, only the rules on values and unsent numbers"
 unfoldable pub soundQueue : RecvQueue → Bool
 soundQueue q = soundWindow (q .datagrams) && (soundWindow (q .reliables) && (soundNexts (nextOf q)
-    && (soundMemories (newestOf q) && soundUnsent q)))
+    && (soundMemories (newestOf q) && (soundProfile (q .profile) && soundUnsent q))))
 
 -- a new number goes before the first greater one; the numbers after it move on by one
 unfoldable pub insertUnsent : ℕ → List ℕ → List ℕ

@@ -13,6 +13,7 @@ use Rattle.base.specs.Lists.{option}
 use Rattle.window.specs.declared.ReliableWindow.{ReliableWindow}
 use Rattle.window.specs.Window.{accepted, accept}
 use Rattle.base.specs.Numbers.{distance}
+use Rattle.reliability.specs.declared.Profile.{Profile}
 use Rattle.frame.specs.declared.Placed.{Placed}
 use Rattle.frame.specs.Read.{bodyOf}
 use Rattle.frame.specs.Frames.{framesOf, endOf}
@@ -23,7 +24,7 @@ use Rattle.cells.specs.Sound.{soundCells, lengths}
 use Rattle.cells.specs.Store.{slotsOf, cellsOf, storeOf}
 use Rattle.receiver.specs.declared.Channel.{Channel}
 use Rattle.receiver.specs.declared.RecvQueue.{RecvQueue}
-use Rattle.receiver.specs.Queue.{nextOf, newestOf, unsentOf, soundQueue, insertUnsent}
+use Rattle.receiver.specs.Queue.{nextOf, newestOf, profileIn, unsentOf, soundQueue, insertUnsent}
 
 -- "Datagram: id 80 to 8D (written 84), number in 24 bits little-endian, frames."
 abbrev pub isDatagram : ℕ → Bool
@@ -48,12 +49,12 @@ frameIn d p =
       body = bodyOf d p;
     }
 
--- the frames read from a datagram, in order, and its bytes left
-unfoldable pub framesIn : List ℕ → List Frame
-framesIn d = map (frameIn d) (framesOf d minDatagram)
+-- the frames read from a datagram under a profile, in order, and its bytes left
+unfoldable pub framesIn : Profile → List ℕ → List Frame
+framesIn p d = map (frameIn d) (framesOf p d minDatagram)
 
-unfoldable pub bytesLeft : List ℕ → ℕ
-bytesLeft d = length d - endOf d minDatagram
+unfoldable pub bytesLeft : Profile → List ℕ → ℕ
+bytesLeft p d = length d - endOf p d minDatagram
 
 -- the reliable numbers of the frames accepted in order; none where one, "at its frame's turn, [is] above low + 2,048"
 unfoldable pub acceptAll : ReliableWindow → List Frame → Option ReliableWindow
@@ -68,7 +69,13 @@ acceptAll w (f ∷ fs) =
 
 -- what the four steps work on
 unfoldable pub stateOf : RecvQueue → List Cell → List ℕ → State
-stateOf q rs st = record { accepted = accepted (q .reliables); next = nextOf q; newest = newestOf q; slots = slotsOf rs st }
+stateOf q rs st = record {
+  profile = profileIn q;
+  accepted = accepted (q .reliables);
+  next = nextOf q;
+  newest = newestOf q;
+  slots = slotsOf rs st;
+}
 
 -- "The answer reports messages made ready, frames dropped .. and bytes left."
 pub record Report : Type 0 where
@@ -98,12 +105,13 @@ queueAfter q n reliables next newest =
       unsent = insertUnsent n (unsentOf q) ++ drop (q .pending + 1) (q .unsent);
       pending = q .pending + 1;
       newest = newest maxOrdChans;
+      profile = q .profile;
     }
 
 unfoldable pub acceptedResult : RecvQueue → List ℕ → List ℕ → ReliableWindow → Work → Received
 acceptedResult q st d reliables w =
     record {
-      answer = gives (record { ready = w .counts .ready; dropped = w .counts .dropped; left = bytesLeft d });
+      answer = gives (record { ready = w .counts .ready; dropped = w .counts .dropped; left = bytesLeft (profileIn q) d });
       queue = queueAfter q (datagramNumber d) reliables (w .state .next) (w .state .newest);
       records = cellsOf (end w .slots);
       store = storeOf st (w .state .slots);
@@ -121,7 +129,7 @@ soundCall q rs st = lengths (length rs) (length st) && (soundQueue q && soundCel
 unfoldable pub receiveOf : RecvQueue → List Cell → List ℕ → List ℕ → Received
 receiveOf q rs st d =
     let refuse = refusedResult q rs st in
-    let w = datagram (stateOf q rs st) (framesIn d) in
+    let w = datagram (stateOf q rs st) (framesIn (profileIn q) d) in
     ifTrue (soundCall q rs st)
     (ifLt (length d) minDatagram (refuse 1)
     (ifLt maxDatagram (length d) (refuse 2)
@@ -129,7 +137,7 @@ receiveOf q rs st d =
     (ifTrue (accepted (q .datagrams) (datagramNumber d)) (refuse 4)
     (ifLt windowPlaces (distance (q .datagrams .low) (datagramNumber d)) (refuse 5)
     (ifLe maxUnsent (q .pending) (refuse 6)
-    (option (acceptAll (q .reliables) (framesIn d)) (refuse 7)
+    (option (acceptAll (q .reliables) (framesIn (profileIn q) d)) (refuse 7)
     (λ reliables. ifTrue (w .full) (refuse 8) (acceptedResult q st d reliables w))))))
     (refuse 3))))
     (refuse 9)

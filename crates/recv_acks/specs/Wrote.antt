@@ -54,6 +54,7 @@ withPending q k =
       unsent = q .unsent;
       pending = k;
       newest = q .newest;
+      profile = q .profile;
     }
 
 -- "Sending the unsent empties them": how many are left of k

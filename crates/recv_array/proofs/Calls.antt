@@ -16,6 +16,10 @@ use Rattle.walks.proofs.Walk.{fsplit, fjoin, feqL, fltL, await, done, Opds, uin
 use Rattle.walks.proofs.Walk.{now}
 use Rattle.walks.proofs.Walk.{MutSlice, ShrSlice, finally, only, owned, heard, nothing, Contract, Triple, calls-at, tripleOf, Lasts}
 use Rattle.walks.proofs.Walk.{lasts}
+use denote.Enum.Laws as EL
+use Rattle.reliability.specs.declared.Profile.{Profile}
+use Rattle.reliability.proofs.Profile as P
+use Rattle.reliability.proofs.Profile.Laws as P′
 use Rattle.cells.specs.declared.CellRecord.{CellRecord}
 use Rattle.cells.proofs.CellRecord as C
 use Rattle.receiver.specs.declared.RecvQueue.{RecvQueue}
@@ -63,29 +67,39 @@ module _ {M : Type 1} (𝓤 : URA M) (H : Heap 𝓤) (A : Atoms 𝓤) (mem : Mem
   Missing = tripleOf 𝓤 H A missing.signature (missing.spec 𝓤 H A mem run)
 
 module _ {M : Type 1} (𝓤 : URA M) (H : Heap 𝓤) (A : Atoms 𝓤) (W : Given 𝓤 H A) (mem : Memory → SProp 𝓤) (run : Routine → Fun 𝓤) where
-  -- ---- make new over the receiver x, the records y and the store s
-  module _ (α β δ : Lft) (q r t : Share) (x : RefT RecvQueue) (y : RefT (List CellRecord)) (s : RefT (List ℕ)) (vx vy vs : Val) where
+  -- ---- make new over the receiver x, the records y and the store s, for the profile p
+  module _ (α β δ : Lft) (q r t : Share) (x : RefT RecvQueue) (y : RefT (List CellRecord)) (s : RefT (List ℕ)) (p : Profile)
+      (vx vy vs vp : Val) where
     abbrev to-make : Make 𝓤 H A mem run .Ghost
-    to-make = (((α, (β, (δ, tt))), (q, (r, (t, tt))), tt, (x, (y, (s, tt))), (vx ∷ [], (vy ∷ [], (vs ∷ [], tt)))), tt)
+    to-make = (
+      (
+        (α, (β, (δ, tt))),
+        (q, (r, (t, tt))),
+        tt,
+        (x, (y, (s, (p, tt)))),
+        (vx ∷ [], (vy ∷ [], (vs ∷ [], (vp ∷ [], tt)))),
+      ),
+      tt,
+    )
 
     abbrev MakeAsks : List (Item 𝓤)
     MakeAsks = ‵ (flft α q) ∷ ‵ (flft β r) ∷ ‵ (flft δ t) ∷ ‵ (MutRef (named 0) α Q.the-row .own x (vx ∷ []))
         ∷ ‵ (MutSlice (named 1) β C.the-row .own y (vy ∷ [])) ∷ ‵ (ShrSlice (named 2) δ u8 .own s (vs ∷ [])) ∷ []
 
-    goes-make : ent 𝓤 (⋆ 𝓤 H A MakeAsks) (Make 𝓤 H A mem run .pre to-make)
-    goes-make = qed W MakeAsks ∵ nothing ! $ move ! (3 ∷ 0 ∷ []) $ join ! $ move ! (2 ∷ 0 ∷ []) $ join ! $ move ! (1 ∷ 0 ∷ []) $
-        join ! $
-        nothing ! $ move ! (4 ∷ 0 ∷ []) $ fjoin ! $ move ! (3 ∷ 0 ∷ []) $ fjoin ! $ move ! (2 ∷ 0 ∷ []) $ fjoin ! $
+    goes-make : Is P.the-row p (vp ∷ []) → ent 𝓤 (⋆ 𝓤 H A MakeAsks) (Make 𝓤 H A mem run .pre to-make)
+    goes-make is = qed W MakeAsks ∵ nothing ! $ move ! (3 ∷ 0 ∷ []) $ join ! $ move ! (2 ∷ 0 ∷ []) $ join ! $ move ! (1 ∷ 0 ∷ []) $
+        join ! $ nothing ! $ owned ! P.the-row (Is P.the-row) (EL.makes P.the-type P′.the-plain 𝓤 H A) p (vp ∷ []) is $ fjoin ! $
+        move ! (4 ∷ 0 ∷ []) $ fjoin ! $ move ! (3 ∷ 0 ∷ []) $ fjoin ! $ move ! (2 ∷ 0 ∷ []) $ fjoin ! $
         move ! (1 ∷ 0 ∷ []) $
         join ! $ nothing ! $ move ! (1 ∷ 0 ∷ []) $ done !
 
     abbrev MakeSays : MakeNew → RecvQueue → List CellRecord → Type 0
-    MakeSays a h l = madeNew a h l ≡ makeNewOf (now x) (now y) (now s)
+    MakeSays a h l = madeNew a h l ≡ makeNewOf p (now x) (now y) (now s)
 
     pub calls-make : {K : Type 0} {Γ : List (Item 𝓤)} {E : Env 𝓤 H} {C′ : Calls 𝓤 H} {Λ : Loops 𝓤 H} {o′ : Post 𝓤 H} {f : Name}
         {xs : List Operand} {z : Place} {rest : Body}
-        → K → FmC 𝓤 H (W .laws) C′ → Triple 𝓤 (C′ f) (Make 𝓤 H A mem run) → Opds K W (raw (Make 𝓤 H A mem run .pre to-make) ∷ Γ) E xs
-        (vx ∷ vy ∷ vs ∷ [])
+        → K → FmC 𝓤 H (W .laws) C′ → Triple 𝓤 (C′ f) (Make 𝓤 H A mem run) → Is P.the-row p (vp ∷ [])
+        → Opds K W (raw (Make 𝓤 H A mem run .pre to-make) ∷ Γ) E xs (vx ∷ vy ∷ vs ∷ vp ∷ [])
         → ((v : Val) (a : MakeNew) (h : RecvQueue) (l : List CellRecord) → (length l ≡ length (now y)) × MakeSays a h l
         → Seq K W (‵ (N.the-row .own a (v ∷ [])) ∷ ‵ (flft α q) ∷ ‵ (flft β r) ∷ ‵ (flft δ t)
         ∷ ‵ (fres (name x) (Q.the-row .coded .code h))
@@ -93,12 +107,12 @@ module _ {M : Type 1} (𝓤 : URA M) (H : Heap 𝓤) (A : Atoms 𝓤) (W : Given
         → Seq K W (‵ (flft α q) ∷ ‵ (flft β r) ∷ ‵ (flft δ t) ∷ ‵ (MutRef (named 0) α Q.the-row .own x (vx ∷ []))
         ∷ ‵ (MutSlice (named 1) β C.the-row .own y (vy ∷ [])) ∷ ‵ (ShrSlice (named 2) δ u8 .own s (vs ∷ [])) ∷ Γ)
         (runs C′ Λ E (seq (call f xs z) rest) o′)
-    calls-make g fm known os k = group g 6 $ use1 W (raw (Make 𝓤 H A mem run .pre to-make)) goes-make $
+    calls-make g fm known is os k = group g 6 $ use1 W (raw (Make 𝓤 H A mem run .pre to-make)) (goes-make is) $
         calls-at g fm (Make 𝓤 H A mem run) known to-make os (λ v.
         use1 W (later
         (some (λ (a : MakeNew). ((‵ (flft α q) ⊛ (‵ (flft β r) ⊛ (‵ (flft δ t) ⊛ ‵ ftrue))) ⊛ ‵ (N.the-row .own a (v ∷ [])))
-        ⊛ some (λ (zs : Lasts make.ended (α, (β, (δ, tt))) (x, (y, (s, tt)))). ‵
-        (lasts make.ended (α, (β, (δ, tt))) (x, (y, (s, tt))) zs) ⊛
+        ⊛ some (λ (zs : Lasts make.ended (α, (β, (δ, tt))) (x, (y, (s, (p, tt))))). ‵
+        (lasts make.ended (α, (β, (δ, tt))) (x, (y, (s, (p, tt)))) zs) ⊛
         raw (fact 𝓤 (MakeSays a (zs .0) (zs .1 .0))))))) (id⊢ 𝓤 _) $
         await g tt $ pick g (λ a. split g $ move g (1 ∷ []) $
         pick g (λ zs. split g $ move g (1 ∷ []) $ heard g (MakeSays a (zs .0) (zs .1 .0)) (λ e.

@@ -4,6 +4,7 @@ use mathlib.Core.Path.{_≡_, sym, _∙_, ap}
 use Prim.Native.Nat.{ℕ, min}
 use mathlib.Core.List.{List, _++_}
 use lib.ListN.{length, take, drop, replicate}
+use Rattle.reliability.specs.declared.Profile.{Profile}
 use Rattle.cells.specs.Cell.{Cell, emptyCell}
 use Rattle.row_slots.specs.First.{blank}
 use Rattle.receiver.specs.declared.RecvQueue.{RecvQueue}
@@ -24,12 +25,13 @@ module _ (n : ℕ) (rs l : List Cell) (e : length rs ≡ heldCells) (f : length 
   abbrev new : List Cell
   new = l ++ drop (min n heldCells) rs
 
-  pub made-held : (q : RecvQueue) (st : List ℕ) (a : MakeNew) (h : RecvQueue) → madeNew a h l ≡ makeNewOf q (take (min n heldCells) rs) st
-      → (heldNew (madeWith a h new) n ≡ makeNewOf q (take n rs) st) × (drop n new ≡ drop n rs)
+  pub made-held : (p : Profile) (q : RecvQueue) (st : List ℕ) (a : MakeNew) (h : RecvQueue) → madeNew a h l
+      ≡ makeNewOf p q (take (min n heldCells) rs) st
+      → (heldNew (madeWith a h new) n ≡ makeNewOf p q (take n rs) st) × (drop n new ≡ drop n rs)
   unfolding heldNew
-  made-held q st a h said =
+  made-held p q st a h said =
       let g = first n heldCells rs l e f in
-      (ap (λ (k : List Cell). madeNew a h k) (g .1) ∙ said ∙ ap (λ (k : List Cell). makeNewOf q k st) (sym (g .0)), g .2)
+      (ap (λ (k : List Cell). madeNew a h k) (g .1) ∙ said ∙ ap (λ (k : List Cell). makeNewOf p q k st) (sym (g .0)), g .2)
 
   pub received-held : (q : RecvQueue) (st dg : List ℕ) (a : Receive) (h : RecvQueue) (u : List ℕ) → received a h l u
       ≡ receiveOf q (take (min n heldCells) rs) st dg
@@ -52,9 +54,9 @@ pub all-unused : (c : Cell) → c ≡ blank → replicate heldCells c ≡ unused
 unfolding unusedCells emptyCell
 all-unused c e = ap (replicate heldCells) e
 
-pub begun : (q : RecvQueue) (rs : List Cell) (n : ℕ) (st : List ℕ) (x : MadeNew) → q ≡ newQueue → rs ≡ unusedCells → x
-    ≡ makeNewOf q (take n rs) st → x ≡ makeNewOf newQueue (take n unusedCells) st
-begun q rs n st x e f p = p ∙ ap (λ h. makeNewOf h (take n rs) st) e ∙ ap (λ l. makeNewOf newQueue (take n l) st) f
+pub begun : (p : Profile) (q : RecvQueue) (rs : List Cell) (n : ℕ) (st : List ℕ) (x : MadeNew) → q ≡ newQueue p → rs ≡ unusedCells → x
+    ≡ makeNewOf p q (take n rs) st → x ≡ makeNewOf p (newQueue p) (take n unusedCells) st
+begun p q rs n st x e f is = is ∙ ap (λ h. makeNewOf p h (take n rs) st) e ∙ ap (λ l. makeNewOf p (newQueue p) (take n l) st) f
 
 pub begun-others : (rs : List Cell) (n : ℕ) (x : List Cell) → rs ≡ unusedCells → x ≡ drop n rs → x ≡ drop n unusedCells
 begun-others rs n x f p = p ∙ ap (drop n) f

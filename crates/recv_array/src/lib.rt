@@ -2,6 +2,7 @@
 // over the first n records (all, where n is more than there are). A `&mut` of such values stands in these functions alone.
 use recv_queue::CellRecord;
 use recv_queue::MakeNew;
+use recv_queue::Profile;
 use recv_queue::Receive;
 use recv_queue::RecvQueue;
 use recv_queue::Take;
@@ -99,24 +100,31 @@ fn unused_records() -> [CellRecord; HELD]
     [cell; HELD]
 }
 
-fn make_held(queue: RecvQueue, records: [CellRecord; HELD], n: usize, store: &[u8]) -> HeldNew
-    ensures { λ r. ⌜ (heldNew r n ≡ makeNewOf queue (take n records) (now (store .entry))) × (drop n (r .records) ≡ drop n records) ⌝ }
+fn make_held(
+    queue: RecvQueue,
+    records: [CellRecord; HELD],
+    n: usize,
+    store: &[u8],
+    profile: Profile,
+) -> HeldNew
+    ensures { λ r. ⌜ (heldNew r n ≡ makeNewOf profile queue (take n records) (now (store .entry)))
+        × (drop n (r .records) ≡ drop n records) ⌝ }
 {
     let mut lent = queue;
     let mut held = records;
     let m = in_use(n);
-    let a = recv_queue::make_new(&mut lent, &mut held[..m], store);
+    let a = recv_queue::make_new(&mut lent, &mut held[..m], store, profile);
     made_with(a, lent, held)
 }
 
-// Make new over the first n of so many unused records.
-pub fn new_held(n: usize, store: &[u8]) -> HeldNew
-    ensures { λ r. ⌜ (heldNew r n ≡ makeNewOf newQueue (take n unusedCells) (now (store .entry)))
+// Make new for a profile, over the first n of so many unused records.
+pub fn new_held(n: usize, store: &[u8], profile: Profile) -> HeldNew
+    ensures { λ r. ⌜ (heldNew r n ≡ makeNewOf profile (newQueue profile) (take n unusedCells) (now (store .entry)))
         × (drop n (r .records) ≡ drop n unusedCells) ⌝ }
 {
-    let queue = recv_queue::new_queue();
+    let queue = recv_queue::new_queue(profile);
     let records = unused_records();
-    make_held(queue, records, n, store)
+    make_held(queue, records, n, store, profile)
 }
 
 // Receive over the first n records: the others stay as they are.

@@ -48,29 +48,31 @@ module _ {M : Type 1} (𝓤 : URA M) (H : Heap 𝓤) (A : Atoms 𝓤) (mem : Mem
   NumberAt = tripleOf 𝓤 H A number-at.signature (number-at.spec 𝓤 H A mem run)
 
 module _ {M : Type 1} (𝓤 : URA M) (H : Heap 𝓤) (A : Atoms 𝓤) (W : Given 𝓤 H A) (mem : Memory → SProp 𝓤) (run : Routine → Fun 𝓤) where
-  -- ---- `nexts_in`, of the channels cs by value and the memory n
-  module _ (cs : List Channel) (n : ℕ) (vc : Val) where
+  -- ---- `nexts_in`, of the channels cs by value, the memory n and the profile p
+  module _ (cs : List Channel) (n p : ℕ) (vc : Val) where
     abbrev to-nexts-in : NextsIn 𝓤 H A mem run .Ghost
-    to-nexts-in = ((tt, tt, tt, (cs, (n, tt)), (vc ∷ [], (vint w32 n ∷ [], tt))), tt)
+    to-nexts-in = ((tt, tt, tt, (cs, (n, (p, tt))), (vc ∷ [], (vint w32 n ∷ [], (vint w32 p ∷ [], tt)))), tt)
 
-    goes-nexts-in : n < 2 ^ 32 → ent 𝓤 (sem 𝓤 H A (Array C.the-row 32 .own cs (vc ∷ []))) (NextsIn 𝓤 H A mem run .pre to-nexts-in)
-    goes-nexts-in g = qed W (‵ (Array C.the-row 32 .own cs (vc ∷ [])) ∷ []) ∵ nothing ! $
+    goes-nexts-in : n < 2 ^ 32 → p < 2 ^ 32 → ent 𝓤 (sem 𝓤 H A (Array C.the-row 32 .own cs (vc ∷ [])))
+        (NextsIn 𝓤 H A mem run .pre to-nexts-in)
+    goes-nexts-in g i = qed W (‵ (Array C.the-row 32 .own cs (vc ∷ [])) ∷ []) ∵ nothing ! $
+        owned ! u32 (Is u32) (uint-makes 𝓤 H A W w32) p _ (refl, i) $ fjoin ! $
         owned ! u32 (Is u32) (uint-makes 𝓤 H A W w32) n _ (refl, g) $ fjoin ! $ move ! (1 ∷ 0 ∷ []) $ fjoin ! $ nothing ! $ join ! $
         nothing ! $ move ! (1 ∷ 0 ∷ []) $ done !
 
     pub calls-nexts-in : {K : Type 0} {Γ : List (Item 𝓤)} {E : Env 𝓤 H} {C′ : Calls 𝓤 H} {Λ : Loops 𝓤 H} {o : Post 𝓤 H} {f : Name}
         {xs : List Operand} {z : Place} {rest : Body}
-        → K → FmC 𝓤 H (W .laws) C′ → Triple 𝓤 (C′ f) (NextsIn 𝓤 H A mem run) → n < 2 ^ 32
-        → Opds K W (raw (NextsIn 𝓤 H A mem run .pre to-nexts-in) ∷ Γ) E xs (vc ∷ vint w32 n ∷ [])
-        → ((v : Val) → Seq K W (‵ (Array u32 65 .own (nextsIn cs n) (v ∷ [])) ∷ Γ) (lands C′ Λ E z v rest o))
+        → K → FmC 𝓤 H (W .laws) C′ → Triple 𝓤 (C′ f) (NextsIn 𝓤 H A mem run) → n < 2 ^ 32 → p < 2 ^ 32
+        → Opds K W (raw (NextsIn 𝓤 H A mem run .pre to-nexts-in) ∷ Γ) E xs (vc ∷ vint w32 n ∷ vint w32 p ∷ [])
+        → ((v : Val) → Seq K W (‵ (Array u32 66 .own (nextsIn cs n p) (v ∷ [])) ∷ Γ) (lands C′ Λ E z v rest o))
         → Seq K W (‵ (Array C.the-row 32 .own cs (vc ∷ [])) ∷ Γ) (runs C′ Λ E (seq (call f xs z) rest) o)
-    calls-nexts-in t fm known g os k = use1 W (raw (NextsIn 𝓤 H A mem run .pre to-nexts-in)) (goes-nexts-in g) $
+    calls-nexts-in t fm known g i os k = use1 W (raw (NextsIn 𝓤 H A mem run .pre to-nexts-in)) (goes-nexts-in g i) $
         calls-at t fm (NextsIn 𝓤 H A mem run) known to-nexts-in os (λ v.
-        use1 W (later (some (λ (r : List ℕ). (‵ ftrue ⊛ ‵ (Array u32 65 .own r (v ∷ []))) ⊛ some
-        (λ (zs : Lasts nexts-in.ended tt (cs, (n, tt))). ‵ (lasts nexts-in.ended tt (cs, (n, tt)) zs) ⊛ raw (fact 𝓤 (r ≡ nextsIn cs n))))))
-        (id⊢ 𝓤 _) $
-        await t tt $ pick t (λ r. split t $ move t (1 ∷ []) $ pick t (λ zs. split t $ move t (1 ∷ []) $ heard t (r ≡ nextsIn cs n) (λ e.
-        drop t $ split t $ drop t $ rewrite t 0 (λ (l : List ℕ). ‵ (Array u32 65 .own l (v ∷ []))) e refl $ k v))))
+        use1 W (later (some (λ (r : List ℕ). (‵ ftrue ⊛ ‵ (Array u32 66 .own r (v ∷ []))) ⊛ some
+        (λ (zs : Lasts nexts-in.ended tt (cs, (n, (p, tt)))). ‵ (lasts nexts-in.ended tt (cs, (n, (p, tt))) zs) ⊛ raw
+        (fact 𝓤 (r ≡ nextsIn cs n p)))))) (id⊢ 𝓤 _) $
+        await t tt $ pick t (λ r. split t $ move t (1 ∷ []) $ pick t (λ zs. split t $ move t (1 ∷ []) $ heard t (r ≡ nextsIn cs n p) (λ e.
+        drop t $ split t $ drop t $ rewrite t 0 (λ (l : List ℕ). ‵ (Array u32 66 .own l (v ∷ []))) e refl $ k v))))
 
   -- ---- `nexts_of`, of the receiver x
   module _ (α : Lft) (q : Share) (x : RefT RecvQueue) (vx : Val) where
@@ -86,16 +88,16 @@ module _ {M : Type 1} (𝓤 : URA M) (H : Heap 𝓤) (A : Atoms 𝓤) (W : Given
         {xs : List Operand} {z : Place} {rest : Body}
         → K → FmC 𝓤 H (W .laws) C′ → Triple 𝓤 (C′ f) (NextsOf 𝓤 H A mem run) → Opds K W (raw (NextsOf 𝓤 H A mem run .pre to-nexts-of) ∷ Γ) E
         xs (vx ∷ [])
-        → ((v : Val) → Seq K W (‵ (Array u32 65 .own (nextsOf (now x)) (v ∷ [])) ∷ ‵ (flft α q) ∷ Γ) (lands C′ Λ E z v rest o))
+        → ((v : Val) → Seq K W (‵ (Array u32 66 .own (nextsOf (now x)) (v ∷ [])) ∷ ‵ (flft α q) ∷ Γ) (lands C′ Λ E z v rest o))
         → Seq K W (‵ (flft α q) ∷ ‵ (ShrRef (named 0) α Q.the-row .own x (vx ∷ [])) ∷ Γ) (runs C′ Λ E (seq (call f xs z) rest) o)
     calls-nexts-of t fm known os k = use2 W (raw (NextsOf 𝓤 H A mem run .pre to-nexts-of)) goes-nexts-of $
         calls-at t fm (NextsOf 𝓤 H A mem run) known to-nexts-of os (λ v.
-        use1 W (later (some (λ (r : List ℕ). ((‵ (flft α q) ⊛ ‵ ftrue) ⊛ ‵ (Array u32 65 .own r (v ∷ []))) ⊛ some
+        use1 W (later (some (λ (r : List ℕ). ((‵ (flft α q) ⊛ ‵ ftrue) ⊛ ‵ (Array u32 66 .own r (v ∷ []))) ⊛ some
         (λ (zs : Lasts nexts-of.ended (α, tt) (x, tt)). ‵ (lasts nexts-of.ended (α, tt) (x, tt) zs) ⊛ raw
         (fact 𝓤 (r ≡ nextsOf (now x))))))) (id⊢ 𝓤 _) $
         await t tt $ pick t (λ r. split t $ move t (1 ∷ []) $
         pick t (λ zs. split t $ move t (1 ∷ []) $ heard t (r ≡ nextsOf (now x)) (λ e.
-        drop t $ split t $ move t (1 ∷ []) $ rewrite t 0 (λ (l : List ℕ). ‵ (Array u32 65 .own l (v ∷ []))) e refl $ move t (1 ∷ []) $
+        drop t $ split t $ move t (1 ∷ []) $ rewrite t 0 (λ (l : List ℕ). ‵ (Array u32 66 .own l (v ∷ []))) e refl $ move t (1 ∷ []) $
         split t $ move t (1 ∷ []) $ drop t $ move t (1 ∷ []) $ k v))))
 
   -- ---- `advance_all`, of the receiver x to the numbers y

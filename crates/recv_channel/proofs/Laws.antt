@@ -15,7 +15,7 @@ use Rattle.receiver.specs.declared.RecvQueue.{RecvQueue}
 use Rattle.receiver.specs.Queue.{newChannel}
 use Rattle.receiver.specs.Parts.{channelWith, nextsIn, memoryPlace, nextAt, newestAt, channelsOf}
 use Rattle.receiver.proofs.ByParts.{SomePlace, place-channel, place-past, place-some, nexts-in-next, nexts-in-newest, nexts-in-own}
-use Rattle.receiver.proofs.ByParts.{nexts-in-long, next-at, newest-at}
+use Rattle.receiver.proofs.ByParts.{nexts-in-profile, nexts-in-long, next-at, newest-at}
 use Rattle.receiver.proofs.ByParts.{channels-of-length, channels-of-at}
 use Rattle.recv_channel.specs.Advance.{withChannels, firstAt, advancedTo, advancedAll}
 
@@ -26,7 +26,7 @@ number-past ns i h = sym (List·getD-eq-default ns 0 h)
 -- ---- `nexts_in`: the first i nexts and memories are the first i channels'
 pub record Filled (cs : List Channel) (i : ℕ) (ns : List ℕ) : Type 0 where
   pub few : i ≤ 32
-  pub long : length ns ≡ 65
+  pub long : length ns ≡ 66
   pub nexts : (j : ℕ) → j < i → getD ns (2 * j) 0 ≡ getD cs j newChannel .next
   pub memories : (j : ℕ) → j < i → getD ns (2 * j + 1) 0 ≡ getD cs j newChannel .newest
 
@@ -48,24 +48,39 @@ fill-more cs i ns n m f l e g = record {
     memory j (inr k) = getD-set-other (set ns (2 * i) n) (2 * i + 1) (2 * j + 1) m 0 (λ s. omega arith)
         ∙ getD-set-other ns (2 * i) (2 * j + 1) n 0 (λ s. omega arith) ∙ f .memories j k
 
-pub filled-all : (cs : List Channel) (own : ℕ) (ns : List ℕ) (i : ℕ) → length cs ≡ 32 → 32 ≤ i → Filled cs i ns
-    → set ns 64 own ≡ nextsIn cs own
-filled-all cs own ns i c le f = ext-getD 0 (set ns 64 own) (nextsIn cs own) (long ∙ sym (nexts-in-long cs own c))
+pub filled-all : (cs : List Channel) (own p : ℕ) (ns : List ℕ) (i : ℕ) → length cs ≡ 32 → 32 ≤ i → Filled cs i ns
+    → set (set ns 64 own) 65 p ≡ nextsIn cs own p
+filled-all cs own p ns i c le f = ext-getD 0 all (nextsIn cs own p) (long ∙ sym (nexts-in-long cs own p c))
     (λ j l. at j (place-some j (omega (arith, long))))
   where
-    long : length (set ns 64 own) ≡ 65
-    long = length-set ns 64 own ∙ f .long
+    all : List ℕ
+    all = set (set ns 64 own) 65 p
 
-    memory : (m : ℕ) → (m ≡ 32) ⊎ (m < 32) → getD (set ns 64 own) (memoryPlace m) 0 ≡ getD (nextsIn cs own) (memoryPlace m) 0
-    memory m (inl e) = rw (e, place-past 32 (omega arith)) (getD-set-same ns 64 own 0 (omega (arith, f .long))
-        ∙ sym (subst (λ (k : ℕ). getD (nextsIn cs own) (2 * k) 0 ≡ own) c (nexts-in-own cs own)))
-    memory m (inr l) = rw (place-channel m l) (getD-set-other ns 64 (2 * m + 1) own 0 (λ s. omega arith) ∙ f .memories m (omega arith)
-        ∙ sym (nexts-in-newest cs own m (omega (arith, c))))
+    long : length all ≡ 66
+    long = length-set (set ns 64 own) 65 p ∙ length-set ns 64 own ∙ f .long
 
-    at : (j : ℕ) → SomePlace j → getD (set ns 64 own) j 0 ≡ getD (nextsIn cs own) j 0
-    at j (inl p) = let h = p .1 in rw (p .2) (getD-set-other ns 64 (2 * p .0) own 0 (λ s. omega arith) ∙ f .nexts (p .0) (omega arith)
-        ∙ sym (nexts-in-next cs own (p .0) (omega (arith, c))))
-    at j (inr p) = let h = p .1 in rw (p .2) (memory (p .0) (eq-or-lt-of-le (omega arith)))
+    -- places other than the last two
+    kept : (j : ℕ) → j < 64 → getD all j 0 ≡ getD ns j 0
+    kept j l = getD-set-other (set ns 64 own) 65 j p 0 (λ s. omega arith) ∙ getD-set-other ns 64 j own 0 (λ s. omega arith)
+
+    own-at : getD all 64 0 ≡ own
+    own-at = getD-set-other (set ns 64 own) 65 64 p 0 (λ s. omega arith) ∙ getD-set-same ns 64 own 0 (omega (arith, f .long))
+
+    profile-at : getD all 65 0 ≡ p
+    profile-at = getD-set-same (set ns 64 own) 65 p 0 (omega (arith, f .long, length-set ns 64 own))
+
+    memory : (m : ℕ) → (m ≡ 32) ⊎ (m < 32) → getD all (memoryPlace m) 0 ≡ getD (nextsIn cs own p) (memoryPlace m) 0
+    memory m (inl e) = rw (e, place-past 32 (omega arith)) (own-at
+        ∙ sym (subst (λ (k : ℕ). getD (nextsIn cs own p) (2 * k) 0 ≡ own) c (nexts-in-own cs own p)))
+    memory m (inr l) = rw (place-channel m l) (kept (2 * m + 1) (omega arith) ∙ f .memories m (omega arith)
+        ∙ sym (nexts-in-newest cs own p m (omega (arith, c))))
+
+    at : (j : ℕ) → SomePlace j → getD all j 0 ≡ getD (nextsIn cs own p) j 0
+    at j (inl q) = let h = q .1 in rw (q .2) (kept (2 * q .0) (omega arith) ∙ f .nexts (q .0) (omega arith)
+        ∙ sym (nexts-in-next cs own p (q .0) (omega (arith, c))))
+    at j (inr (inl q)) = let h = q .1 in rw (q .2) (memory (q .0) (eq-or-lt-of-le (omega arith)))
+    at j (inr (inr e)) = rw e (profile-at
+        ∙ sym (subst (λ (k : ℕ). getD (nextsIn cs own p) (2 * k + 1) 0 ≡ p) c (nexts-in-profile cs own p)))
 
 -- ---- `advance_all`: the receiver once its first k channels are advanced
 abbrev pub upTo : ℕ → RecvQueue → List ℕ → RecvQueue

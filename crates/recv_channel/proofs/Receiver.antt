@@ -46,6 +46,9 @@ module _ (h : RecvQueue) (was : Is T.the-row h (valsOf h)) where
   pub newest-fits : h .newest < 2 ^ 32
   newest-fits = LL.owed T.the-type T′.the-laws h (valsOf h) was .1 .1 .1 .1 .1 .0 .1
 
+  pub profile-fits : h .profile < 2 ^ 32
+  profile-fits = LL.owed T.the-type T′.the-laws h (valsOf h) was .1 .1 .1 .1 .1 .1 .0 .1
+
   pub heads-are : Is D.the-row (headsOf h) (LL.vals D.the-type D′.the-laws (headsOf h))
   heads-are = LL.owes D.the-type D′.the-laws (headsOf h) ((refl, datagrams-fit), ((refl, reliables-fit), ((refl, pending-fits), tt)))
 
@@ -57,7 +60,7 @@ module _ (h : RecvQueue) (was : Is T.the-row h (valsOf h)) where
   newest-changed n fits =
       let w = LL.owed T.the-type T′.the-laws h (valsOf h) was in
       LL.owes T.the-type T′.the-laws (withChannels h (h .channels) n)
-      (w .0, (w .1 .0, (w .1 .1 .0, (w .1 .1 .1 .0, (w .1 .1 .1 .1 .0, ((refl, fits), tt))))))
+      (w .0, (w .1 .0, (w .1 .1 .0, (w .1 .1 .1 .0, (w .1 .1 .1 .1 .0, ((refl, fits), w .1 .1 .1 .1 .1 .1))))))
 
 -- ---- its arrays
 

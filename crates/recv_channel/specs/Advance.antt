@@ -19,6 +19,7 @@ withChannels q cs newest =
       unsent = q .unsent;
       pending = q .pending;
       newest = newest;
+      profile = q .profile;
     }
 
 -- one channel's record is moved to n and to the memory m

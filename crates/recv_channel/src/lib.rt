@@ -9,19 +9,20 @@ ghost use lib.ListN.{getD};
 ghost use Rattle.receiver.specs.Parts.{channelWith, nextsIn, nextsOf};
 ghost use Rattle.recv_channel.specs.Advance.{advancedTo, advancedAll};
 
-// Each channel's next and memory, as its record has them, then the receiver's own memory.
-pub fn nexts_of(queue: &RecvQueue) -> [u32; 65]
+// Each channel's next and memory, as its record has them, then the receiver's own memory and its profile.
+pub fn nexts_of(queue: &RecvQueue) -> [u32; 66]
     ensures { λ r. ⌜ r ≡ nextsOf (now (queue .entry)) ⌝ }
 {
     let channels = queue.channels;
     let newest = queue.newest;
-    nexts_in(channels, newest)
+    let profile = queue.profile;
+    nexts_in(channels, newest, profile)
 }
 
-fn nexts_in(channels: [Channel; 32], newest: u32) -> [u32; 65]
-    ensures { λ r. ⌜ r ≡ nextsIn channels newest ⌝ }
+fn nexts_in(channels: [Channel; 32], newest: u32, profile: u32) -> [u32; 66]
+    ensures { λ r. ⌜ r ≡ nextsIn channels newest profile ⌝ }
 {
-    let mut nexts = [0u32; 65];
+    let mut nexts = [0u32; 66];
     let mut i = 0;
     while i < 32 {
         let channel = channels[i];
@@ -30,6 +31,7 @@ fn nexts_in(channels: [Channel; 32], newest: u32) -> [u32; 65]
         i += 1;
     }
     nexts[64] = newest;
+    nexts[65] = profile;
     nexts
 }
 
@@ -60,7 +62,7 @@ fn advance_at(queue: &mut RecvQueue, c: usize, next: u32, newest: u32)
     advance(&mut queue.channels[c], next, newest);
 }
 
-// Every record of the receiver, and its own memory; what has no number goes to 0.
+// Every record of the receiver, and its own memory; what has no number goes to 0. It keeps its profile.
 pub fn advance_all(queue: &mut RecvQueue, nexts: &[u32])
     ensures { λ _. ⌜ now (queue .exit) ≡ advancedAll (now (queue .entry)) (now (nexts .entry)) ⌝ }
 {

@@ -67,6 +67,7 @@ module _ (h : RecvQueue) where
     unsent = h .unsent;
     pending = p;
     newest = h .newest;
+    profile = h .profile;
   }
 
   pub numbers-changed : (d r p : ℕ) → d < 2 ^ 32 → r < 2 ^ 32 → p < 2 ^ 32 → Is T.the-row h (valsOf h) → Is T.the-row (withNumbers d r p)
@@ -75,7 +76,7 @@ module _ (h : RecvQueue) where
       let w = LL.owed T.the-type T′.the-laws h (valsOf h) was in
       LL.owes T.the-type T′.the-laws (withNumbers d r p) (
         low-changed (h .datagrams) d fd (w .0),
-        (low-changed (h .reliables) r fr (w .1 .0), (w .1 .1 .0, (w .1 .1 .1 .0, ((refl, fp), (w .1 .1 .1 .1 .1 .0, tt))))),
+        (low-changed (h .reliables) r fr (w .1 .0), (w .1 .1 .0, (w .1 .1 .1 .0, ((refl, fp), (w .1 .1 .1 .1 .1 .0, (w .1 .1 .1 .1 .1 .1 .0, tt)))))),
       )
 
   -- its arrays are as long as its type says

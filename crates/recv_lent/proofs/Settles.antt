@@ -29,7 +29,7 @@ use Rattle.row_slots.specs.First.{firstRows, afterRows, firstCells}
 use Rattle.receiver.specs.declared.Channel.{Channel}
 use Rattle.receiver.specs.declared.RecvQueue.{RecvQueue}
 use Rattle.receiver.specs.Parts.{nextsIn, nextsOf, newestAt, channelsOf, headsOf, queueOf, arraysFit}
-use Rattle.receiver.specs.Queue.{unsentOf, insertUnsent}
+use Rattle.receiver.specs.Queue.{profileIn, unsentOf, insertUnsent}
 use Rattle.receiver.specs.Receive.{Report, Received, datagramNumber, framesIn, stateOf, channelsAfter, queueAfter, refusedResult}
 use Rattle.receiver.specs.Receive.{acceptedResult}
 use Rattle.receiver.proofs.ChannelsAfter.{channels-length}
@@ -80,11 +80,11 @@ reliables-after : (w v : ReliableWindow) (low : ℕ) (bits : List ℕ) → low �
     → windowOf low (put (w .bits) 0 bits) ≡ v
 reliables-after w v low bits e f long = λ i. record { low = e i; bits = (put-whole (w .bits) bits long ∙ f) i }
 
-channels-after : (q : RecvQueue) (cs : List Channel) (own : ℕ) (nexts : List ℕ) → length (q .channels) ≡ 32 → length cs ≡ 32
-    → nexts ≡ nextsIn cs own → advancedAll q nexts ≡ withChannels q cs own
-channels-after q cs own nexts long same e = all-numbers q nexts long
+channels-after : (q : RecvQueue) (cs : List Channel) (own profile : ℕ) (nexts : List ℕ) → length (q .channels) ≡ 32 → length cs ≡ 32
+    → nexts ≡ nextsIn cs own profile → advancedAll q nexts ≡ withChannels q cs own
+channels-after q cs own profile nexts long same e = all-numbers q nexts long
     ∙ ap (λ (l : List ℕ). withChannels q (channelsOf l) (newestAt l maxOrdChans)) e
-    ∙ (λ i. withChannels q (channels-back cs own same i) (newest-back cs own same i))
+    ∙ (λ i. withChannels q (channels-back cs own profile same i) (newest-back cs own profile same i))
 
 unsent-after : (q : RecvQueue) (n : ℕ) (rising : Bool) → length (q .unsent) ≡ 1024 → q .pending < maxUnsent → rising
     ≡ ascending (unsentOf q) → joinedBy (q .unsent) (q .pending) n rising ≡ insertUnsent n (unsentOf q) ++ drop (q .pending + 1) (q .unsent)
@@ -99,7 +99,7 @@ module _ (q : RecvQueue) (long : Long q) (d : List ℕ) (small : datagramNumber 
     (fresh : accepted (q .datagrams) (datagramNumber d) ≡ false) (near : distance (q .datagrams .low) (datagramNumber d) ≤ windowPlaces)
     (room : q .pending < maxUnsent) (v : ReliableWindow) (next newest : ℕ → ℕ)
     (low : ℕ) (rising : Bool) (bits nexts : List ℕ) (e-low : low ≡ v .low) (e-rising : rising ≡ ascending (unsentOf q))
-    (e-bits : bits ≡ v .bits) (e-nexts : nexts ≡ nextsIn (channelsAfter next newest 0 (q .channels)) (newest maxOrdChans))
+    (e-bits : bits ≡ v .bits) (e-nexts : nexts ≡ nextsIn (channelsAfter next newest 0 (q .channels)) (newest maxOrdChans) (q .profile))
     (many-bits : length bits ≡ length (q .reliables .bits)) where
   abbrev n : ℕ
   n = datagramNumber d
@@ -116,11 +116,12 @@ module _ (q : RecvQueue) (long : Long q) (d : List ℕ) (small : datagramNumber 
     unsent = unsent-after q n rising (long .unsent) room e-rising i;
     pending = pending-after (q .pending) room i;
     newest = newest maxOrdChans;
+    profile = q .profile;
   }
 
   accepted-settled : withNumber (advancedAll q nexts) low bits n rising ≡ queueAfter q n v next newest
   accepted-settled = ap (λ (z : RecvQueue). withNumber z low bits n rising) (channels-after q (channelsAfter next newest 0 (q .channels))
-      (newest maxOrdChans) nexts (long .channels) (channels-length next newest 0 (q .channels) ∙ long .channels) e-nexts) ∙ with-number
+      (newest maxOrdChans) (q .profile) nexts (long .channels) (channels-length next newest 0 (q .channels) ∙ long .channels) e-nexts) ∙ with-number
 
 -- ---- by the ways of receive
 module _ (q : RecvQueue) (a : PassedRows) (bits nexts : List ℕ) (n : ℕ) where
@@ -156,13 +157,13 @@ module _ (q : RecvQueue) (rows₀ : List Row) (after₀ d : List ℕ) (a : Passe
   module _ (long : Long q) (small : datagramNumber d < numbers24)
       (many-bits : length bits ≡ length (q .reliables .bits)) where
     given-settles : (cs : List Cell) (st rest : List ℕ) (x : Accepted q cs st d)
-        → Settles (withRest rest (acceptedResult q st d (x .reliables) (datagram (stateOf q cs st) (framesIn d))))
+        → Settles (withRest rest (acceptedResult q st d (x .reliables) (datagram (stateOf q cs st) (framesIn (profileIn q) d))))
     unfolding rowsPassed rowsOutcome rowsByAnswer rowsAccepted withRest acceptedResult queueAfter receivedWith nextsOf
     given-settles cs st rest x said = λ i. record {
       answer = said i .answer;
       queue = (given-settled q a bits nexts (datagramNumber d) _ (ap (λ (y : RowsReceived). y .answer) said)
           ∙ accepted-settled q long d small (x .fresh) (x .near) (x .room) (x .reliables)
-          (datagram (stateOf q cs st) (framesIn d) .state .next) (datagram (stateOf q cs st) (framesIn d) .state .newest)
+          (datagram (stateOf q cs st) (framesIn (profileIn q) d) .state .next) (datagram (stateOf q cs st) (framesIn (profileIn q) d) .state .newest)
           (a .low) (a .ascending) bits nexts
           (ap (λ (y : RowsReceived). y .low) said) (ap (λ (y : RowsReceived). y .ascending) said)
           (ap (λ (y : RowsReceived). y .bits) said)

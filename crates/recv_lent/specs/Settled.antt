@@ -32,6 +32,7 @@ withNumber q low bits n ascending =
       unsent = joinedBy (q .unsent) (q .pending) n ascending;
       pending = nextPending (q .pending);
       newest = q .newest;
+      profile = q .profile;
     }
 
 -- a refusal leaves the receiver as it was; else what the core left of bits and nexts is the receiver's

@@ -1,5 +1,5 @@
 -- Memories among the nexts: the ways of the code, and what a number that is remembered changes.
---     next-remembered, newest-remembered, remembered-long
+--     next-remembered, newest-remembered, profile-remembered, remembered-long
 -- Assumes nothing.
 use Prim.Native.Nat.{ℕ, _+_, _*_, _≤_, _<_}
 use mathlib.Core.Path.{_≡_, refl, sym, _∙_, ap}
@@ -14,33 +14,52 @@ use borrow.Author.Tests.{ltb-true, ltb-false, lt-ltb, le-ltb, eqb-true, eqb-fals
 use Rattle.base.specs.Limits.{numbers24, maxOrdChans, memories, manyNexts}
 use Rattle.base.proofs.Choices.{cases}
 use Rattle.base.proofs.Ifs.{lt-yes, lt-no}
+use Rattle.reliability.specs.declared.Profile.{Profile}
+use Rattle.reliability.specs.declared.Profile.the-variants.{Console, Cpp}
+use Rattle.reliability.specs.Profiles.{profileOf}
 use Rattle.bare.specs.Bare.{memoryOf, older, noted}
-use Rattle.receiver.specs.Parts.{nextPlace, memoryPlace, nextAt, newestAt}
-use Rattle.receiver.proofs.ByParts.{place-channel, place-past, place-apart, place-same, next-past, next-set, newest-past, newest-set}
+use Rattle.receiver.specs.Parts.{nextPlace, memoryPlace, nextAt, newestAt, profilePlace, profileAt, profileFor}
+use Rattle.receiver.proofs.ByParts.{place-channel, place-past, place-apart, place-before, place-same, next-past, next-set}
+use Rattle.receiver.proofs.ByParts.{newest-past, newest-set, profile-set}
 use Rattle.recv_memory.specs.Remembered.{remembered}
 
--- ---- `memory_of`
+-- ---- `memory_of`: kind 1, another of the console profile, another of the C++ profile
 module _ (kind channel : ℕ) where
-  pub memory-channel : kind ≡ 1 → channel ≡ memoryOf kind channel
+  pub memory-1 : (p : Profile) → kind ≡ 1 → channel ≡ memoryOf p kind channel
   unfolding memoryOf
-  memory-channel e = rw (eq-eqb kind 1 e)
+  memory-1 Console e = rw (eq-eqb kind 1 e)
+  memory-1 Cpp e = refl
 
-  pub memory-own : (kind ≡ 1 → ⊥) → maxOrdChans ≡ memoryOf kind channel
-  unfolding memoryOf
-  memory-own ne = rw (ne-eqb kind 1 ne)
+  module _ (p : Profile) where
+    pub memory-own : (kind ≡ 1 → ⊥) → p ≡ Console → maxOrdChans ≡ memoryOf p kind channel
+    unfolding memoryOf
+    memory-own ne e = (rw (ne-eqb kind 1 ne)) ∙ sym (ap (λ (x : Profile). memoryOf x kind channel) e)
+
+    pub memory-cpp : p ≡ Cpp → channel ≡ memoryOf p kind channel
+    unfolding memoryOf
+    memory-cpp e = sym (ap (λ (x : Profile). memoryOf x kind channel) e)
 
 -- the memory of a channel that there is
-pub memory-within : (kind channel : ℕ) → channel < maxOrdChans → memoryOf kind channel < memories
+pub memory-within : (p : Profile) (kind channel : ℕ) → channel < maxOrdChans → memoryOf p kind channel < memories
 unfolding memoryOf
-memory-within kind channel lt = cases (eqb kind 1) (λ t. rw t (omega arith)) (λ t. rw t (omega arith))
+memory-within Console kind channel lt = cases (eqb kind 1) (λ t. rw t (omega arith)) (λ t. rw t (omega arith))
+memory-within Cpp kind channel lt = omega arith
+
+-- ---- `profile_for`
+pub profile-told : (ns : List ℕ) (n : ℕ) (p : Profile) → n ≡ getD (take manyNexts ns) profilePlace 0 → p ≡ profileOf n → p ≡ profileFor ns
+unfolding profileFor profileAt
+profile-told ns n p e f = f ∙ ap profileOf e
 
 -- ---- `place_of`
-module _ (kind channel m : ℕ) (em : m ≡ memoryOf kind channel) where
-  pub place-below : m < maxOrdChans → 2 * m + 1 ≡ memoryPlace (memoryOf kind channel)
-  place-below h = rw (← em) (sym (place-channel m h))
+module _ (ns : List ℕ) (kind channel m : ℕ) (p : Profile) (ep : p ≡ profileFor ns) (em : m ≡ memoryOf p kind channel) where
+  is-memory : m ≡ memoryOf (profileFor ns) kind channel
+  is-memory = em ∙ ap (λ (x : Profile). memoryOf x kind channel) ep
 
-  pub place-above : maxOrdChans ≤ m → 2 * m ≡ memoryPlace (memoryOf kind channel)
-  place-above h = rw (← em) (sym (place-past m h))
+  pub place-below : m < maxOrdChans → 2 * m + 1 ≡ memoryPlace (memoryOf (profileFor ns) kind channel)
+  place-below h = rw (← is-memory) (sym (place-channel m h))
+
+  pub place-above : maxOrdChans ≤ m → 2 * m ≡ memoryPlace (memoryOf (profileFor ns) kind channel)
+  place-above h = rw (← is-memory) (sym (place-past m h))
 
 -- ---- `number_at`: one that is there, one past the last, one past the end
 module _ (ns : List ℕ) (place : ℕ) where
@@ -77,7 +96,7 @@ pub too-large : (ns : List ℕ) (m n : ℕ) → numbers24 ≤ n → ns ≡ remem
 unfolding remembered
 too-large ns m n h = lt-no _ _ _ _ _ h refl
 
--- ---- what is remembered: memory m is `noted`, and no next is touched
+-- ---- what is remembered: memory m is `noted`, and neither a next nor the profile is touched
 module _ (ns : List ℕ) (long : length ns ≡ manyNexts) (m n : ℕ) (lt : m < memories) (small : n < numbers24) where
   is-set : remembered m n ns ≡ set ns (memoryPlace m) (n + 1)
   unfolding remembered
@@ -95,6 +114,14 @@ module _ (ns : List ℕ) (long : length ns ≡ manyNexts) (m n : ℕ) (lt : m < 
           next-set ns long (n + 1) (memoryPlace m) c l
           ∙ rw (ne-eqb (nextPlace c) (memoryPlace m) (λ e. place-apart c m l lt (sym e))))
           (λ t. let ge = ltb-false c maxOrdChans t in rw (next-past (set ns (memoryPlace m) (n + 1)) c ge, next-past ns c ge))
+
+  pub profile-remembered : profileAt (remembered m n ns) ≡ profileAt ns
+  profile-remembered = ap profileAt is-set
+      ∙ profile-set ns (memoryPlace m) (n + 1) (λ e. let l = place-before m lt in omega arith)
+
+  pub profile-for-remembered : profileFor (remembered m n ns) ≡ profileFor ns
+  unfolding profileFor
+  profile-for-remembered = ap profileOf profile-remembered
 
   pub newest-remembered : newestAt (remembered m n ns) ≡ noted m n (newestAt ns)
   unfolding noted

@@ -26,7 +26,7 @@ right-lengths s = rw (
       (cellBytes * s .cells) (s .store-length),
 )
 
-pub made-new : (s : Start) (q : RecvQueue) (rs : List Cell) → length rs ≡ s .cells → makeNewOf q rs (s .store)
+pub made-new : (s : Start) (q : RecvQueue) (rs : List Cell) → length rs ≡ s .cells → makeNewOf (s .profile) q rs (s .store)
     ≡ record { answer = gives tt; queue = begun s .queue; records = begun s .records }
 unfolding makeNewOf made ifTrue
 made-new s q rs e = rw (e, right-lengths s)

@@ -7,6 +7,10 @@ use Rattle.walks.proofs.Walk.{qed, move, drop, use0, use1, use2, split, join, p
 use Rattle.walks.proofs.Walk.{Opds}
 use Rattle.walks.proofs.Walk.{Nothing, uint-makes, Is, usize, RefT, name, now, MutSlice, finally, only, owned, heard, nothing, Contract}
 use Rattle.walks.proofs.Walk.{Triple, calls-at, tripleOf, Lasts, lasts, says}
+use denote.Enum.Laws as EL
+use Rattle.reliability.specs.declared.Profile.{Profile}
+use Rattle.reliability.proofs.Profile as P
+use Rattle.reliability.proofs.Profile.Laws as P′
 use Rattle.cells.specs.declared.CellRecord.{CellRecord}
 use Rattle.cells.proofs.CellRecord as C
 use Rattle.receiver.specs.declared.RecvQueue.{RecvQueue}
@@ -91,25 +95,27 @@ module _ {M : Type 1} (𝓤 : URA M) (H : Heap 𝓤) (A : Atoms 𝓤) (W : Given
         move t (1 ∷ []) $ drop t $ move t (1 ∷ []) $ split t $ move t (1 ∷ []) $ feqL t (λ is. split t $ move t (1 ∷ []) $ drop t $
         k v (ap only is, subst (λ (l : List CellRecord). length l ≡ length (now x)) e l)))))))
 
-  -- ---- `new_queue`
-  abbrev to-new : NewQueue 𝓤 H A mem run .Ghost
-  to-new = ((tt, tt, tt, tt, tt), tt)
+  -- ---- `new_queue`, for the profile p
+  module _ (p : Profile) (vp : Val) where
+    abbrev to-new : NewQueue 𝓤 H A mem run .Ghost
+    to-new = ((tt, tt, tt, (p, tt), (vp ∷ [], tt)), tt)
 
-  goes-new : ent 𝓤 (⋆ 𝓤 H A []) (NewQueue 𝓤 H A mem run .pre to-new)
-  goes-new = qed W [] ∵ nothing ! $ nothing ! $ nothing ! $ move ! (0 ∷ 1 ∷ []) $ join ! $ move ! (0 ∷ 1 ∷ []) $ done !
+    goes-new : Is P.the-row p (vp ∷ []) → ent 𝓤 (⋆ 𝓤 H A []) (NewQueue 𝓤 H A mem run .pre to-new)
+    goes-new is = qed W [] ∵ nothing ! $ nothing ! $ owned ! P.the-row (Is P.the-row) ((EL.makes P.the-type P′.the-plain) 𝓤 H A) p _ is $
+        fjoin ! $ nothing ! $ move ! (0 ∷ 1 ∷ []) $ join ! $ move ! (0 ∷ 1 ∷ []) $ done !
 
-  pub calls-new : {K : Type 0} {Γ : List (Item 𝓤)} {E : Env 𝓤 H} {C′ : Calls 𝓤 H} {Λ : Loops 𝓤 H} {o : Post 𝓤 H} {f : Name}
-      {xs : List Operand} {z : Place} {rest : Body}
-      → K → FmC 𝓤 H (W .laws) C′ → Triple 𝓤 (C′ f) (NewQueue 𝓤 H A mem run) → Opds K W (raw (NewQueue 𝓤 H A mem run .pre to-new) ∷ Γ) E xs
-      []
-      → ((v : Val) → Seq K W (‵ (Q.the-row .own newQueue (v ∷ [])) ∷ Γ) (lands C′ Λ E z v rest o))
-      → Seq K W Γ (runs C′ Λ E (seq (call f xs z) rest) o)
-  calls-new t fm known os k = use0 W (raw (NewQueue 𝓤 H A mem run .pre to-new)) goes-new $ calls-at t fm (NewQueue 𝓤 H A mem run) known
-      to-new os (λ v.
-      use1 W (later (some (λ (r : RecvQueue). (‵ ftrue ⊛ ‵ (Q.the-row .own r (v ∷ []))) ⊛ some
-      (λ (zs : Lasts new-queue.ended tt tt). ‵ (lasts new-queue.ended tt tt zs) ⊛ raw (fact 𝓤 (r ≡ newQueue)))))) (id⊢ 𝓤 _) $
-      await t tt $ pick t (λ r. split t $ move t (1 ∷ []) $ pick t (λ zs. split t $ move t (1 ∷ []) $ heard t (r ≡ newQueue) (λ e.
-      drop t $ split t $ drop t $ rewrite t 0 (λ (h : RecvQueue). ‵ (Q.the-row .own h (v ∷ []))) e refl $ k v))))
+    pub calls-new : {K : Type 0} {Γ : List (Item 𝓤)} {E : Env 𝓤 H} {C′ : Calls 𝓤 H} {Λ : Loops 𝓤 H} {o : Post 𝓤 H} {f : Name}
+        {xs : List Operand} {z : Place} {rest : Body}
+        → K → FmC 𝓤 H (W .laws) C′ → Triple 𝓤 (C′ f) (NewQueue 𝓤 H A mem run) → Is P.the-row p (vp ∷ [])
+        → Opds K W (raw (NewQueue 𝓤 H A mem run .pre to-new) ∷ Γ) E xs (vp ∷ [])
+        → ((v : Val) → Seq K W (‵ (Q.the-row .own (newQueue p) (v ∷ [])) ∷ Γ) (lands C′ Λ E z v rest o))
+        → Seq K W Γ (runs C′ Λ E (seq (call f xs z) rest) o)
+    calls-new t fm known is os k = use0 W (raw (NewQueue 𝓤 H A mem run .pre to-new)) (goes-new is) $
+        calls-at t fm (NewQueue 𝓤 H A mem run) known to-new os (λ v.
+        use1 W (later (some (λ (r : RecvQueue). (‵ ftrue ⊛ ‵ (Q.the-row .own r (v ∷ []))) ⊛ some
+        (λ (zs : Lasts new-queue.ended tt (p, tt)). ‵ (lasts new-queue.ended tt (p, tt) zs) ⊛ raw (fact 𝓤 (r ≡ newQueue p)))))) (id⊢ 𝓤 _) $
+        await t tt $ pick t (λ r. split t $ move t (1 ∷ []) $ pick t (λ zs. split t $ move t (1 ∷ []) $ heard t (r ≡ newQueue p) (λ e.
+        drop t $ split t $ drop t $ rewrite t 0 (λ (h : RecvQueue). ‵ (Q.the-row .own h (v ∷ []))) e refl $ k v))))
 
   -- ---- `answer_of`, of n cells
   module _ (n : ℕ) where

@@ -6,6 +6,8 @@ use borrow.Author.Tests.{leb-true}
 use Rattle.base.specs.Limits.{maxOrdChans, maxUnsent}
 use Rattle.base.specs.If.{ifTrue}
 use Rattle.base.proofs.Choices.{cases, and-left}
+use Rattle.reliability.specs.declared.Profile.{Profile}
+use Rattle.reliability.specs.Profiles.{profileNumber}
 use Rattle.window.specs.declared.ReliableWindow.{ReliableWindow}
 use Rattle.window.specs.Window.{newWindow}
 use Rattle.cells.specs.Cell.{Cell, emptyCell}
@@ -18,7 +20,7 @@ use Rattle.recv_new.proofs.Cleared.{cleared-all}
 
 -- ---- `new_queue`
 
-pub queue-made : (d r : ReliableWindow) → d ≡ newWindow → r ≡ newWindow
+pub queue-made : (p : Profile) (n : ℕ) (d r : ReliableWindow) → n ≡ profileNumber p → d ≡ newWindow → r ≡ newWindow
     → record {
       datagrams = d;
       reliables = r;
@@ -26,9 +28,10 @@ pub queue-made : (d r : ReliableWindow) → d ≡ newWindow → r ≡ newWindow
       unsent = replicate maxUnsent 0;
       pending = 0;
       newest = 0;
-    } ≡ newQueue
+      profile = n;
+    } ≡ newQueue p
 unfolding newQueue
-queue-made d r e f = rw (e, f)
+queue-made p n d r g e f = rw (g, e, f)
 
 -- ---- `answer_of`
 
@@ -52,7 +55,7 @@ some-cells a b e = leb-true 1 a (and-left (leb 1 a) _ e)
 pub test-fails : (n : ℕ) → T (not (ltb n 1)) → 1 ≤ n
 test-fails n h = cases (ltb n 1) (λ t. absurd (subst (λ (b : Bool). T (not b)) t h)) (λ t. ltb-false n 1 t)
 
-module _ (q : RecvQueue) (rs : List Cell) (st : List ℕ) where
+module _ (p : Profile) (q : RecvQueue) (rs : List Cell) (st : List ℕ) where
   -- how many cells the new receiver has
   abbrev n : ℕ
   n = cellsMade (length rs) (length st)
@@ -66,14 +69,14 @@ module _ (q : RecvQueue) (rs : List Cell) (st : List ℕ) where
   unfitting e = rw e
 
   -- The call's promise, of what its body does: where there are no cells,
-  pub makes-none : n < 1 → madeNew (answerOf n) q rs ≡ makeNewOf q rs st
+  pub makes-none : n < 1 → madeNew (answerOf n) q rs ≡ makeNewOf p q rs st
   unfolding madeNew makeNewOf newAnswer ifTrue
   makes-none l = cases (lengths (length rs) (length st))
       (λ e. absurd (let f : (n ≡ length rs) × (1 ≤ length rs) = fitting e in omega (arith, f .0, f .1)))
       (λ e. rw (e, ← answer-none n l))
 
   -- and where there are some
-  pub makes-some : 1 ≤ n → madeNew (answerOf n) newQueue (cleared rs n) ≡ makeNewOf q rs st
+  pub makes-some : 1 ≤ n → madeNew (answerOf n) (newQueue p) (cleared rs n) ≡ makeNewOf p q rs st
   unfolding madeNew makeNewOf newAnswer ifTrue emptyCell
   makes-some l = cases (lengths (length rs) (length st))
       (λ e. rw (e, ← answer-some n l, fitting e .0, cleared-all rs))

@@ -4,6 +4,7 @@ use mathlib.Core.List.{List, _++_}
 use lib.ListN.{length, drop, replicate}
 use Rattle.base.specs.Answer.{Answer, refused, gives}
 use Rattle.base.specs.If.{ifTrue}
+use Rattle.reliability.specs.declared.Profile.{Profile}
 use Rattle.cells.specs.Cell.{Cell, emptyCell}
 use Rattle.cells.specs.Sound.{lengths}
 use Rattle.row_slots.specs.First.{blank}
@@ -18,10 +19,11 @@ pub record MadeNew : Type 0 where
   pub queue : RecvQueue
   pub records : List Cell
 
-unfoldable pub makeNewOf : RecvQueue → List Cell → List ℕ → MadeNew
-makeNewOf q rs st =
+-- request 2: "A receiver .. is made for the console profile of document 01 or for this one"
+unfoldable pub makeNewOf : Profile → RecvQueue → List Cell → List ℕ → MadeNew
+makeNewOf p q rs st =
     ifTrue (lengths (length rs) (length st))
-    (record { answer = gives tt; queue = newQueue; records = replicate (length rs) emptyCell })
+    (record { answer = gives tt; queue = newQueue p; records = replicate (length rs) emptyCell })
     (record { answer = refused 9; queue = q; records = rs })
 
 -- the code's answer in document 01's numbers

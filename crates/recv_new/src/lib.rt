@@ -2,6 +2,7 @@
 use cells::CellRecord;
 use receiver::Channel;
 use receiver::RecvQueue;
+use reliability::Profile;
 use window::ReliableWindow;
 ghost use mathlib.Core.Path.{_≡_};
 ghost use Prim.Native.Nat.{_<_, _≤_};
@@ -17,16 +18,21 @@ pub enum MakeNew {
 }
 
 // "old records aren't looked at, all become unused"
-pub fn make_new(queue: &mut RecvQueue, records: &mut [CellRecord], store: &[u8]) -> MakeNew
+pub fn make_new(
+    queue: &mut RecvQueue,
+    records: &mut [CellRecord],
+    store: &[u8],
+    profile: Profile,
+) -> MakeNew
     ensures { λ r. ⌜ madeNew r (now (queue .exit)) (now (records .exit))
-        ≡ makeNewOf (now (queue .entry)) (now (records .entry)) (now (store .entry)) ⌝ }
+        ≡ makeNewOf profile (now (queue .entry)) (now (records .entry)) (now (store .entry)) ⌝ }
 {
     let n = cells_made(records.len(), store.len());
     if n < 1 {
         return answer_of(n);
     }
     clear(records, n);
-    *queue = new_queue();
+    *queue = new_queue(profile);
     answer_of(n)
 }
 
@@ -51,9 +57,10 @@ fn answer_of(cells: usize) -> MakeNew
 }
 
 // "At first each next is 0 and all else is empty." A caller has such a receiver to lend.
-pub fn new_queue() -> RecvQueue
-    ensures { λ r. ⌜ r ≡ newQueue ⌝ }
+pub fn new_queue(profile: Profile) -> RecvQueue
+    ensures { λ r. ⌜ r ≡ newQueue profile ⌝ }
 {
+    let number = reliability::profile_number(profile);
     RecvQueue {
         datagrams: ReliableWindow::new(),
         reliables: ReliableWindow::new(),
@@ -61,6 +68,7 @@ pub fn new_queue() -> RecvQueue
         unsent: [0u32; 1024],
         pending: 0,
         newest: 0,
+        profile: number,
     }
 }
 

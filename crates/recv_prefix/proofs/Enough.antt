@@ -17,6 +17,7 @@ use Rattle.frame.specs.Frames.{framesOf}
 use Rattle.cells.specs.Cell.{Cell}
 use Rattle.cells.specs.Sound.{lengths}
 use Rattle.receiver.specs.declared.RecvQueue.{RecvQueue}
+use Rattle.receiver.specs.Queue.{profileIn}
 use Rattle.receiver.specs.Receive.{refusedResult, receiveOf}
 use Rattle.receiver.specs.Take.{takeRefuses, takeOf}
 use Rattle.recv_prefix.specs.First.{isUnused}
@@ -38,18 +39,19 @@ split f g rs k few law =
 
 -- ---- receive
 
-module _ (q : RecvQueue) (rs : List Cell) (st d : List ℕ) (k : ℕ) (is : k ≡ receiveNeeds (lastUsed rs) (length rs) (length st) d) where
+module _ (q : RecvQueue) (rs : List Cell) (st d : List ℕ) (k : ℕ)
+    (is : k ≡ receiveNeeds (profileIn q) (lastUsed rs) (length rs) (length st) d) where
   few : k ≤ length rs
-  few = receive-few (lastUsed rs) (length rs) (length st) d k is (last-within rs) .0
+  few = receive-few (profileIn q) (lastUsed rs) (length rs) (length st) d k is (last-within rs) .0
 
   receive-fit : lengths (length rs) (length st) ≡ true → receiveOf q rs st d
       ≡ beside (drop k rs) (receiveFirst q (length rs) (take k rs) st d)
   receive-fit t =
       let long = length-take-le k rs few in
-      let some : (1 ≤ k) × (lastUsed rs ≤ k) × (k ≤ length rs) × (k < length rs → lastUsed rs + length (framesOf d minDatagram) < k) =
-      receive-some (lastUsed rs) (length rs) (length st) d k is t (last-within rs) in
-      let room : (drop k rs ≡ [] → ⊥) → length (framesOf d minDatagram) ≤ countOf isUnused (take k rs) = λ more. cases (ltb k (length rs))
-      (λ s. let l : lastUsed rs + length (framesOf d minDatagram) < k = some .3 (ltb-true k (length rs) s) in
+      let some : (1 ≤ k) × (lastUsed rs ≤ k) × (k ≤ length rs) × (k < length rs → lastUsed rs + length (framesOf (profileIn q) d minDatagram) < k) =
+      receive-some (profileIn q) (lastUsed rs) (length rs) (length st) d k is t (last-within rs) in
+      let room : (drop k rs ≡ [] → ⊥) → length (framesOf (profileIn q) d minDatagram) ≤ countOf isUnused (take k rs) = λ more. cases (ltb k (length rs))
+      (λ s. let l : lastUsed rs + length (framesOf (profileIn q) d minDatagram) < k = some .3 (ltb-true k (length rs) s) in
       omega (arith, unused-count rs k few))
       (λ s. absurd (more (let e : k ≡ length rs = omega (arith, ltb-false k (length rs) s, few) in ap (λ (n : ℕ). drop n rs) e
       ∙ drop-length rs)))

@@ -12,6 +12,7 @@ use Rattle.base.specs.If.{ifTrue, ifLt}
 use Rattle.base.specs.Limits.{maxCells, minDatagram}
 use Rattle.base.proofs.Choices.{cases, and-left, and-right}
 use Rattle.base.proofs.Ifs.{lt-yes, lt-no}
+use Rattle.reliability.specs.declared.Profile.{Profile}
 use Rattle.frame.specs.declared.FramesRead.{FramesRead}
 use Rattle.frame.specs.Frames.{framesOf, readFramesOf}
 use Rattle.cells.specs.Sound.{lengths}
@@ -27,16 +28,16 @@ unfolding lengths
 most-cells cells bytes t = leb-true cells maxCells (and-left _ _ (and-right (leb 1 cells) _ t))
 
 -- `needed`, of the count of the frames read
-pub room-read : (used cells k : ℕ) (d : List ℕ) (r : FramesRead) → r ≡ readFramesOf d minDatagram → k ≡ min cells (used + r .count + 1) → k
-    ≡ min cells (used + length (framesOf d minDatagram) + 1)
+pub room-read : (p : Profile) (used cells k : ℕ) (d : List ℕ) (r : FramesRead) → r ≡ readFramesOf p d minDatagram
+    → k ≡ min cells (used + r .count + 1) → k ≡ min cells (used + length (framesOf p d minDatagram) + 1)
 unfolding readFramesOf
-room-read used cells k d r e h = h ∙ rw e
+room-read p used cells k d r e h = h ∙ rw e
 
 -- ---- receive
 
-module _ (used cells bytes : ℕ) (d : List ℕ) (k : ℕ) (is : k ≡ receiveNeeds used cells bytes d) where
+module _ (p : Profile) (used cells bytes : ℕ) (d : List ℕ) (k : ℕ) (is : k ≡ receiveNeeds p used cells bytes d) where
   abbrev frames : ℕ
-  frames = length (framesOf d minDatagram)
+  frames = length (framesOf p d minDatagram)
 
   receive-fit : lengths cells bytes ≡ true → k ≡ min cells (used + frames + 1)
   unfolding receiveNeeds ifTrue

@@ -22,6 +22,7 @@ use Rattle.cells.specs.Sound.{lengths}
 use Rattle.cells.specs.Store.{cellSize, slotsOf, cellsOf, storeOf}
 use Rattle.cells.proofs.Store.{cells-slots}
 use Rattle.receiver.specs.declared.RecvQueue.{RecvQueue}
+use Rattle.receiver.specs.Queue.{profileIn}
 use Rattle.receiver.specs.Receive.{Received, datagramNumber, frameIn, framesIn, acceptAll, stateOf, acceptedResult, refusedResult}
 use Rattle.receiver.specs.Receive.{soundCall, receiveOf}
 use Rattle.receiver.proofs.Receives.{bodies-short}
@@ -70,20 +71,20 @@ module _ (q : RecvQueue) (first rest : List Cell) (a b d : List ℕ) (unused : e
   others-free = slots-free rest b ∙ unused
 
   work : Work
-  work = datagram (stateOf q first a) (framesIn d)
+  work = datagram (stateOf q first a) (framesIn (profileIn q) d)
 
   work-many : length (work .state .slots) ≡ length first
   unfolding stateOf work
-  work-many = datagram-many (stateOf q first a) (framesIn d) ∙ slots-many first a
+  work-many = datagram-many (stateOf q first a) (framesIn (profileIn q) d) ∙ slots-many first a
 
   module _ (short : (c : Cell) → List·Memᴰ c first → eqb (c .used) 0 ≡ false → c .length ≤ cellSize)
-      (room : length (framesOf d minDatagram) ≤ countOf isUnused first) where
-    work-more : datagram (stateOf q (first ++ rest) (a ++ b)) (framesIn d) ≡ place (work .state .slots ++ others) work
+      (room : length (framesOf (profileIn q) d minDatagram) ≤ countOf isUnused first) where
+    work-more : datagram (stateOf q (first ++ rest) (a ++ b)) (framesIn (profileIn q) d) ≡ place (work .state .slots ++ others) work
     unfolding stateOf framesIn work
     work-more =
-        ap (λ (l : List Slot). datagram (withSlots l (stateOf q first a)) (framesIn d)) (slots-append first rest a b short exact)
-        ∙ datagram-beside others others-free (stateOf q first a) (framesIn d)
-        (rw (slots-count first a, length-map (framesOf d minDatagram) (frameIn d)) room)
+        ap (λ (l : List Slot). datagram (withSlots l (stateOf q first a)) (framesIn (profileIn q) d)) (slots-append first rest a b short exact)
+        ∙ datagram-beside others others-free (stateOf q first a) (framesIn (profileIn q) d)
+        (rw (slots-count first a, length-map (framesOf (profileIn q) d minDatagram) (frameIn d)) room)
 
     records-more : cellsOf (sweep (work .state .slots ++ others)) ≡ cellsOf (sweep (work .state .slots)) ++ rest
     records-more = ap cellsOf (sweep-beside others others-free (work .state .slots)) ∙ cells-append (sweep (work .state .slots)) others
@@ -102,7 +103,7 @@ module _ (q : RecvQueue) (first rest : List Cell) (a b d : List ℕ) (unused : e
     unfolding place
     full-more w e = ap (λ (z : Work). z .full) e
 
-  receive-more : soundCall q (first ++ rest) (a ++ b) ≡ soundCall q first a → length (framesOf d minDatagram) ≤ countOf isUnused first
+  receive-more : soundCall q (first ++ rest) (a ++ b) ≡ soundCall q first a → length (framesOf (profileIn q) d minDatagram) ≤ countOf isUnused first
       → More (receiveOf q (first ++ rest) (a ++ b) d) (receiveOf q first a d)
   unfolding receiveOf work
   receive-more same room =
@@ -113,7 +114,7 @@ module _ (q : RecvQueue) (first rest : List Cell) (a b d : List ℕ) (unused : e
       (λ i. same-true More _ _ refl (λ o. refused-more 4)
       (λ o. same-lt More windowPlaces (distance (q .datagrams .low) (datagramNumber d)) (refused-more 5)
       (same-le More maxUnsent (q .pending) (refused-more 6)
-      (same-option More (acceptAll (q .reliables) (framesIn d)) (acceptAll (q .reliables) (framesIn d)) refl (λ e. refused-more 7)
+      (same-option More (acceptAll (q .reliables) (framesIn (profileIn q) d)) (acceptAll (q .reliables) (framesIn (profileIn q) d)) refl (λ e. refused-more 7)
       (λ v e. let short = bodies-short q first a (sym same ∙ s) in
       same-true More _ _ (full-more short room _ (work-more short room)) (λ f. refused-more 8)
       (λ f. ap (acceptedResult q (a ++ b) d v) (work-more short room) ∙ accepted-more short room v))))))
@@ -152,7 +153,7 @@ module _ (q : RecvQueue) (first rest : List Cell) (st d : List ℕ) (unused : ev
   unfolding cellSize
   exact = part-long first rest st fit ∙ (omega arith)
 
-  receive-split : length (framesOf d minDatagram) ≤ countOf isUnused first → receiveOf q (first ++ rest) st d
+  receive-split : length (framesOf (profileIn q) d minDatagram) ≤ countOf isUnused first → receiveOf q (first ++ rest) st d
       ≡ beside rest (withRest others-bytes (receiveOf q first part d))
   receive-split room =
       let whole : part ++ others-bytes ≡ st = take-append-drop (cellBytes * length first) st in
@@ -160,7 +161,7 @@ module _ (q : RecvQueue) (first rest : List Cell) (st d : List ℕ) (unused : ev
       ∙ receive-more q first rest part others-bytes d unused exact (ap (soundCall q (first ++ rest)) whole ∙ sound-first q first rest st
       unused some fit) room
 
-  receive-fitting : ((rest ≡ [] → ⊥) → length (framesOf d minDatagram) ≤ countOf isUnused first) → receiveOf q (first ++ rest) st d
+  receive-fitting : ((rest ≡ [] → ⊥) → length (framesOf (profileIn q) d minDatagram) ≤ countOf isUnused first) → receiveOf q (first ++ rest) st d
       ≡ beside rest (withRest others-bytes (receiveOf q first part d))
   receive-fitting room = by-rest rest refl
     where
@@ -179,7 +180,7 @@ receive-unfit q rs st d e = sym (true-no _ _ _ _ (rw e) refl)
 -- Records after the first ones do not matter to a receive where they are unused and the first have an unused one for each frame of the
 -- datagram.
 pub receive-first : (q : RecvQueue) (first rest : List Cell) (st d : List ℕ) → every isUnused rest ≡ true → 1 ≤ length first
-    → ((rest ≡ [] → ⊥) → length (framesOf d minDatagram) ≤ countOf isUnused first)
+    → ((rest ≡ [] → ⊥) → length (framesOf (profileIn q) d minDatagram) ≤ countOf isUnused first)
     → receiveOf q (first ++ rest) st d ≡ beside rest (receiveFirst q (length first + length rest) first st d)
 unfolding receiveFirst
 receive-first q first rest st d unused some room = cases (lengths (length first + length rest) (length st))

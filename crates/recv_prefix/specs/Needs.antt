@@ -5,6 +5,7 @@ use mathlib.Core.List.{List}
 use lib.ListN.{length, getD}
 use Rattle.base.specs.If.{ifTrue, ifLt}
 use Rattle.base.specs.Limits.{minDatagram}
+use Rattle.reliability.specs.declared.Profile.{Profile}
 use Rattle.frame.specs.Frames.{framesOf}
 use Rattle.cells.specs.Cell.{Cell}
 use Rattle.cells.specs.Sound.{lengths}
@@ -20,8 +21,8 @@ unfoldable pub lastUsed : List Cell → ℕ
 lastUsed rs = usedIn rs (length rs)
 
 -- a receive: those up to the last used one, and one for each frame, and one, as far as there are so many; none where the lengths do not fit
-unfoldable pub receiveNeeds : ℕ → ℕ → ℕ → List ℕ → ℕ
-receiveNeeds used cells store d = ifTrue (lengths cells store) (min cells (used + length (framesOf d minDatagram) + 1)) 0
+unfoldable pub receiveNeeds : Profile → ℕ → ℕ → ℕ → List ℕ → ℕ
+receiveNeeds p used cells store d = ifTrue (lengths cells store) (min cells (used + length (framesOf p d minDatagram) + 1)) 0
 
 -- a take: those up to the last used one, and at least one
 unfoldable pub takeNeeds : ℕ → ℕ → ℕ → ℕ

@@ -1,11 +1,15 @@
 -- `receive` as a call that loads, works and saves.
 use mathlib.Core.Path.{_≡_, refl, sym, _∙_, ap, subst}
-use Prim.Native.Nat.{ℕ, _*_, _≤_}
+use Prim.Native.Nat.{ℕ, _+_, _*_, _≤_, min}
 use native.Mathlib.Omega.{arith}
 use mathlib.Core.List.{List, _++_, map}
 use lib.ListN.{length, take, drop, take-append-drop}
 use Rattle.base.specs.Answer.{Answer, refused, gives}
-use Rattle.base.specs.Limits.{cellBytes, maxCells}
+use Rattle.base.specs.Limits.{cellBytes, maxCells, minDatagram}
+use Rattle.reliability.specs.declared.Profile.{Profile}
+use Rattle.reliability.specs.Profiles.{profileOf}
+use Rattle.frame.specs.declared.FramesRead.{FramesRead}
+use Rattle.frame.specs.Frames.{framesOf, readFramesOf}
 use Rattle.cells.specs.Cell.{Cell}
 use Rattle.cells.specs.Sound.{lengths}
 use Rattle.rows.specs.declared.Row.{Row}
@@ -13,6 +17,7 @@ use Rattle.rows.specs.Rows.{rowWords, cellOf}
 use Rattle.row_slots.specs.First.{firstRows, afterRows, firstCells}
 use Rattle.row_slots.proofs.First.{first-cells-of, stored-cells}
 use Rattle.receiver.specs.declared.RecvQueue.{RecvQueue}
+use Rattle.receiver.specs.Queue.{profileIn}
 use Rattle.receiver.specs.Parts.{nextsOf}
 use Rattle.receiver.specs.Receive.{Report, Received, refusedResult, acceptedResult, receiveOf}
 use Rattle.receiver.proofs.AnswerCases.{by-true, by-le, receive-ways}
@@ -20,7 +25,7 @@ use Rattle.recv_prefix.specs.Needs.{lastUsed, receiveNeeds}
 use Rattle.recv_prefix.specs.Receiving.{withRest, beside, receiveFirst}
 use Rattle.recv_prefix.proofs.Enough.{receive-enough}
 use Rattle.recv_prefix.proofs.Used.{last-within}
-use Rattle.recv_prefix.proofs.Needs.{receive-few}
+use Rattle.recv_prefix.proofs.Needs.{room-read, receive-few}
 use Rattle.recv_steps.specs.declared.Receive.{Receive}
 use Rattle.recv_steps.specs.Outcome.{receiveAnswer, rowsAccepted, rowsByAnswer, rowsOutcome}
 use Rattle.recv_lent.specs.Calls.{ReceivedWith, receivedWith, receiveWithOf}
@@ -29,12 +34,18 @@ use Rattle.recv_queue.specs.Answers.{received, rowsWritten}
 use Rattle.recv_queue.proofs.Loaded.{loaded-cells}
 use Rattle.recv_queue.proofs.Saved.{saved-cells, saved-none}
 
--- how many records a call works on
-abbrev pub Enough : List Cell → List ℕ → List ℕ → ℕ → Type 0
-Enough rs st d k = k ≡ receiveNeeds (lastUsed rs) (length rs) (length st) d
+-- `needed`, of the count of the frames read under the profile that a number stands for
+pub room-read-as : (n used cells k : ℕ) (d : List ℕ) (p : Profile) (r : FramesRead) → p ≡ profileOf n → r ≡ readFramesOf p d minDatagram
+    → k ≡ min cells (used + r .count + 1) → k ≡ min cells (used + length (framesOf (profileOf n) d minDatagram) + 1)
+room-read-as n used cells k d p r e f h =
+    room-read (profileOf n) used cells k d r (f ∙ ap (λ (q : Profile). readFramesOf q d minDatagram) e) h
 
-pub enough-few : (rs : List Cell) (st d : List ℕ) (k : ℕ) → Enough rs st d k → (k ≤ length rs) × (k ≤ maxCells)
-enough-few rs st d k is = receive-few (lastUsed rs) (length rs) (length st) d k is (last-within rs)
+-- how many records a call works on
+abbrev pub Enough : RecvQueue → List Cell → List ℕ → List ℕ → ℕ → Type 0
+Enough q rs st d k = k ≡ receiveNeeds (profileIn q) (lastUsed rs) (length rs) (length st) d
+
+pub enough-few : (q : RecvQueue) (rs : List Cell) (st d : List ℕ) (k : ℕ) → Enough q rs st d k → (k ≤ length rs) × (k ≤ maxCells)
+enough-few q rs st d k is = receive-few (profileIn q) (lastUsed rs) (length rs) (length st) d k is (last-within rs)
 
 -- what the core promises of the receiver q, where it gets k rows of c in the words ws, the store st and the datagram d, answers r and
 -- leaves the receiver h, the words w and the store s
@@ -78,9 +89,9 @@ module _ (q : RecvQueue) (rs : List Cell) (k : ℕ) (w : List ℕ) (room : rowWo
       let cells : firstCells k w ≡ x .records = first-cells-of k w ∙ (ap (map cellOf) is ∙ stored-cells (x .records)) in
       saved-cells rs w k room ∙ ap (λ (cs : List Cell). cs ++ drop k rs) cells
 
-module _ (q : RecvQueue) (rs : List Cell) (st d : List ℕ) (k : ℕ) (is : Enough rs st d k) where
+module _ (q : RecvQueue) (rs : List Cell) (st d : List ℕ) (k : ℕ) (is : Enough q rs st d k) where
   few : k ≤ length rs
-  few = enough-few rs st d k is .0
+  few = enough-few q rs st d k is .0
 
   -- the first k records decide
   abbrev first : Received

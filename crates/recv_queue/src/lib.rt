@@ -26,6 +26,7 @@ pub use recv_new::new_queue;
 pub use recv_new::unused;
 pub use recv_steps::Receive;
 pub use recv_take::Take;
+pub use reliability::Profile;
 pub use taking::take;
 
 // A call works on the records that it may need, and zeroes words for them: of five sizes, the last for as many records as a receiver

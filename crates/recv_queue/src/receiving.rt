@@ -6,18 +6,22 @@ ghost use mathlib.Core.Path.{_≡_};
 ghost use Prim.Native.Nat.{_≤_, _+_, _*_, min};
 ghost use lib.ListN.{length};
 ghost use Rattle.rows.specs.Rows.{rowWords};
+ghost use Rattle.reliability.specs.Profiles.{profileOf};
+ghost use Rattle.receiver.specs.Queue.{profileIn};
 ghost use Rattle.receiver.specs.Receive.{receiveOf};
 ghost use Rattle.recv_prefix.specs.Needs.{lastUsed, receiveNeeds};
 ghost use Rattle.recv_steps.specs.Outcome.{receiveAnswer};
 ghost use Rattle.recv_queue.specs.Call.{fewCells, smallCells, middleCells, manyCells, mostCells};
 ghost use Rattle.recv_queue.specs.Answers.{received, rowsWritten};
 
-// How many records a call works on, where so many of all cells go up to the last used one, and the store has so many bytes.
-fn needed(used: usize, cells: usize, store: usize, datagram: &[u8]) -> usize
-    ensures { λ r. ⌜ r ≡ receiveNeeds used cells store (now (datagram .entry)) ⌝ }
+// How many records a call works on, where so many of all cells go up to the last used one, the store has so many bytes, and the receiver's
+// profile has this number.
+fn needed(used: usize, cells: usize, store: usize, profile: u32, datagram: &[u8]) -> usize
+    ensures { λ r. ⌜ r ≡ receiveNeeds (profileOf profile) used cells store (now (datagram .entry)) ⌝ }
 {
     if sound_call::lengths_fit(cells, store) {
-        let read = frame::read_frames(datagram, base::MIN_DATAGRAM);
+        let p = reliability::profile_of(profile);
+        let read = frame::read_frames(p, datagram, base::MIN_DATAGRAM);
         return with_room(used, read.count, cells);
     }
     0
@@ -59,8 +63,8 @@ fn receive_in(
     store: &mut [u8],
     datagram: &[u8],
 ) -> Receive
-    requires { ⌜ (k ≡ receiveNeeds (lastUsed (now records)) (length (now records)) (length (now store)) (now datagram))
-        × (rowWords * k ≤ length (now words)) ⌝ }
+    requires { ⌜ (k ≡ receiveNeeds (profileIn (now queue)) (lastUsed (now records)) (length (now records)) (length (now store))
+        (now datagram)) × (rowWords * k ≤ length (now words)) ⌝ }
     ensures { λ r. ⌜ received r (now (queue .exit)) (now (records .exit)) (now (store .exit))
         ≡ receiveOf (now (queue .entry)) (now (records .entry)) (now (store .entry)) (now (datagram .entry)) ⌝ }
 {
@@ -78,7 +82,8 @@ fn receive_few(
     store: &mut [u8],
     datagram: &[u8],
 ) -> Receive
-    requires { ⌜ (k ≡ receiveNeeds (lastUsed (now records)) (length (now records)) (length (now store)) (now datagram)) × (k ≤ fewCells) ⌝ }
+    requires { ⌜ (k ≡ receiveNeeds (profileIn (now queue)) (lastUsed (now records)) (length (now records)) (length (now store))
+        (now datagram)) × (k ≤ fewCells) ⌝ }
     ensures { λ r. ⌜ received r (now (queue .exit)) (now (records .exit)) (now (store .exit))
         ≡ receiveOf (now (queue .entry)) (now (records .entry)) (now (store .entry)) (now (datagram .entry)) ⌝ }
 {
@@ -93,8 +98,8 @@ fn receive_small(
     store: &mut [u8],
     datagram: &[u8],
 ) -> Receive
-    requires { ⌜ (k ≡ receiveNeeds (lastUsed (now records)) (length (now records)) (length (now store)) (now datagram))
-        × (k ≤ smallCells) ⌝ }
+    requires { ⌜ (k ≡ receiveNeeds (profileIn (now queue)) (lastUsed (now records)) (length (now records)) (length (now store))
+        (now datagram)) × (k ≤ smallCells) ⌝ }
     ensures { λ r. ⌜ received r (now (queue .exit)) (now (records .exit)) (now (store .exit))
         ≡ receiveOf (now (queue .entry)) (now (records .entry)) (now (store .entry)) (now (datagram .entry)) ⌝ }
 {
@@ -109,8 +114,8 @@ fn receive_middle(
     store: &mut [u8],
     datagram: &[u8],
 ) -> Receive
-    requires { ⌜ (k ≡ receiveNeeds (lastUsed (now records)) (length (now records)) (length (now store)) (now datagram))
-        × (k ≤ middleCells) ⌝ }
+    requires { ⌜ (k ≡ receiveNeeds (profileIn (now queue)) (lastUsed (now records)) (length (now records)) (length (now store))
+        (now datagram)) × (k ≤ middleCells) ⌝ }
     ensures { λ r. ⌜ received r (now (queue .exit)) (now (records .exit)) (now (store .exit))
         ≡ receiveOf (now (queue .entry)) (now (records .entry)) (now (store .entry)) (now (datagram .entry)) ⌝ }
 {
@@ -125,8 +130,8 @@ fn receive_many(
     store: &mut [u8],
     datagram: &[u8],
 ) -> Receive
-    requires { ⌜ (k ≡ receiveNeeds (lastUsed (now records)) (length (now records)) (length (now store)) (now datagram))
-        × (k ≤ manyCells) ⌝ }
+    requires { ⌜ (k ≡ receiveNeeds (profileIn (now queue)) (lastUsed (now records)) (length (now records)) (length (now store))
+        (now datagram)) × (k ≤ manyCells) ⌝ }
     ensures { λ r. ⌜ received r (now (queue .exit)) (now (records .exit)) (now (store .exit))
         ≡ receiveOf (now (queue .entry)) (now (records .entry)) (now (store .entry)) (now (datagram .entry)) ⌝ }
 {
@@ -141,8 +146,8 @@ fn receive_large(
     store: &mut [u8],
     datagram: &[u8],
 ) -> Receive
-    requires { ⌜ (k ≡ receiveNeeds (lastUsed (now records)) (length (now records)) (length (now store)) (now datagram))
-        × (k ≤ mostCells) ⌝ }
+    requires { ⌜ (k ≡ receiveNeeds (profileIn (now queue)) (lastUsed (now records)) (length (now records)) (length (now store))
+        (now datagram)) × (k ≤ mostCells) ⌝ }
     ensures { λ r. ⌜ received r (now (queue .exit)) (now (records .exit)) (now (store .exit))
         ≡ receiveOf (now (queue .entry)) (now (records .entry)) (now (store .entry)) (now (datagram .entry)) ⌝ }
 {
@@ -159,7 +164,8 @@ fn receive_more(
     datagram: &[u8],
     size: usize,
 ) -> Receive
-    requires { ⌜ (k ≡ receiveNeeds (lastUsed (now records)) (length (now records)) (length (now store)) (now datagram)) × (k ≤ size) ⌝ }
+    requires { ⌜ (k ≡ receiveNeeds (profileIn (now queue)) (lastUsed (now records)) (length (now records)) (length (now store))
+        (now datagram)) × (k ≤ size) ⌝ }
     ensures { λ r. ⌜ received r (now (queue .exit)) (now (records .exit)) (now (store .exit))
         ≡ receiveOf (now (queue .entry)) (now (records .entry)) (now (store .entry)) (now (datagram .entry)) ⌝ }
 {
@@ -183,7 +189,8 @@ pub fn receive(
 {
     let used = super::last_used(records);
     let cells = records.len();
-    let k = needed(used, cells, store.len(), datagram);
+    let profile = queue.profile;
+    let k = needed(used, cells, store.len(), profile, datagram);
     if k <= super::FEW_CELLS {
         return receive_few(queue, records, k, store, datagram);
     }

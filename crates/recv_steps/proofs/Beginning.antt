@@ -34,8 +34,8 @@ use Rattle.row_slots.proofs.Meaning.{slots-stored}
 use Rattle.row_slots.proofs.Changes.{slots-renumbered}
 use Rattle.row_slots.proofs.Fitting.{fit-stored, fit-renumbered, changed-length}
 use Rattle.receiver.specs.declared.Heads.{Heads}
-use Rattle.receiver.specs.Parts.{nextAt, queueOf, arraysFit}
-use Rattle.receiver.specs.Queue.{nextOf}
+use Rattle.receiver.specs.Parts.{nextAt, profileFor, queueOf, arraysFit}
+use Rattle.receiver.specs.Queue.{nextOf, profileIn}
 use Rattle.receiver.specs.Receive.{stateOf, soundCall}
 use Rattle.receiver.proofs.ByParts.{next-of-parts, newest-of-parts}
 use Rattle.receiver.proofs.Receives.{lengths-sound, cells-sound, bodies-short}
@@ -122,7 +122,7 @@ module _ (h : Heads) (db rb ns un : List ℕ) (ws st d : List ℕ) where
   -- The working state is the definition's at its begin.
   pub begun-work : workOf (accepted (windowOf (h .reliables) rb)) (begunTally (countOf firstCell (cellsIn ws))) ns (begunRows (rowsOf ws))
       st d ≡ begin (stateOf (queueOf h db rb ns un) (cellsIn ws) st)
-  unfolding workOf begin stateOf cellsIn
+  unfolding workOf begin stateOf cellsIn profileFor profileIn
   begun-work = rw (
     begun-slots (rowsOf ws) st d,
     first-slots (map cellOf (rowsOf ws)) st,

@@ -14,11 +14,11 @@ use Rattle.frame.specs.declared.Placed.{Placed}
 use Rattle.bare.specs.Bare.{bump, memoryOf}
 use Rattle.cells.specs.Datagram.{dropOne, fillUp, made, rise, rememberIn}
 use Rattle.rows.specs.declared.Row.{Row}
-use Rattle.receiver.specs.Parts.{nextPlace, memoryPlace, nextAt, newestAt}
+use Rattle.receiver.specs.Parts.{nextPlace, memoryPlace, nextAt, newestAt, profileAt, profileFor}
 use Rattle.receiver.specs.Receive.{frameIn}
-use Rattle.receiver.proofs.ByParts.{place-apart, next-past, next-set, newest-past, newest-set}
+use Rattle.receiver.proofs.ByParts.{place-apart, next-past, next-set, newest-past, newest-set, profile-set}
 use Rattle.recv_memory.specs.Remembered.{remembered}
-use Rattle.recv_memory.proofs.Laws.{memory-within, next-remembered, newest-remembered}
+use Rattle.recv_memory.proofs.Laws.{memory-within, next-remembered, newest-remembered, profile-remembered}
 use Rattle.recv_steps.specs.declared.Tally.{Tally}
 use Rattle.recv_steps.specs.Work.{workOf}
 use Rattle.recv_steps.specs.CountChanges.{droppedOne, filledUp, madeOne, risen, CanCount, Rises}
@@ -67,19 +67,27 @@ module _ (ns : List ℕ) (long : length ns ≡ manyNexts) (c : ℕ) (lt : c < ma
           newest-set ns long (nextAt ns c + 1) (nextPlace c) m l ∙ rw (ne-eqb (memoryPlace m) (nextPlace c) (place-apart c m lt l)))
           (λ t. let ge = ltb-false m memories t in rw (newest-past (set ns (nextPlace c) (nextAt ns c + 1)) m ge, newest-past ns m ge))
 
+  pub profile-risen : profileAt (risen c ns) ≡ profileAt ns
+  unfolding risen
+  profile-risen = profile-set ns (nextPlace c) (nextAt ns c + 1) (λ e. omega arith)
+
   pub work-risen : (a : ℕ → Bool) (x : Tally) (rs : List Row) (st d : List ℕ) → workOf a x (risen c ns) rs st d
       ≡ rise c (workOf a x ns rs st d)
-  unfolding workOf rise
-  work-risen a x rs st d = rw (next-risen, newest-risen)
+  unfolding workOf rise profileFor
+  work-risen a x rs st d = rw (next-risen, newest-risen, profile-risen)
 
 pub work-remembered : (ns : List ℕ) → length ns ≡ manyNexts → (p : Placed) → p .frame .channel < maxOrdChans
     → p .frame .sequence < numbers24 → (a : ℕ → Bool) (x : Tally) (rs : List Row) (st d : List ℕ)
-    → workOf a x (remembered (memoryOf (p .frame .kind) (p .frame .channel)) (p .frame .sequence) ns) rs st d
+    → workOf a x (remembered (memoryOf (profileFor ns) (p .frame .kind) (p .frame .channel)) (p .frame .sequence) ns) rs st d
     ≡ rememberIn (frameIn d p) (workOf a x ns rs st d)
-unfolding workOf rememberIn frameIn
+unfolding workOf rememberIn frameIn profileFor
 work-remembered ns long p lt small a x rs st d =
-    let m = memory-within (p .frame .kind) (p .frame .channel) lt in
-    rw (next-remembered ns long _ _ m small, newest-remembered ns long _ _ m small)
+    let m = memory-within (profileFor ns) (p .frame .kind) (p .frame .channel) lt in
+    rw (
+      next-remembered ns long _ _ m small,
+      newest-remembered ns long _ _ m small,
+      profile-remembered ns long _ _ m small,
+    )
 
 -- ---- counters
 

@@ -16,7 +16,7 @@ use Rattle.rows.specs.Rows.{rowsOf, cellsIn}
 use Rattle.row_slots.specs.Slots.{slotsIn}
 use Rattle.row_slots.proofs.Tests.{held-rows}
 use Rattle.receiver.specs.Receive.{frameIn}
-use Rattle.receiver.specs.Parts.{nextAt, newestAt}
+use Rattle.receiver.specs.Parts.{nextAt, newestAt, profileFor}
 use Rattle.recv_steps.specs.declared.Tally.{Tally}
 use Rattle.recv_steps.specs.declared.Course.the-variants.{Late, Early, Due, Newer, Free}
 use Rattle.recv_steps.specs.Work.{workOf, fateIs}
@@ -28,7 +28,7 @@ module _ (ws ns : List ℕ) (p : Placed) (b : Bool) (eb : b ≡ ordered (p .fram
     unfolding fateIs fateOf frameIn fate
     fate-free u x a store d = rw (sym eb ∙ t, sym es ∙ u)
 
-    module _ (u : s ≡ true) (o : Bool) (eo : o ≡ older (newestAt ns) (memoryOf (p .frame .kind) (p .frame .channel)) (p .frame .sequence))
+    module _ (u : s ≡ true) (o : Bool) (eo : o ≡ older (newestAt ns) (memoryOf (profileFor ns) (p .frame .kind) (p .frame .channel)) (p .frame .sequence))
       where
         pub fate-older : o ≡ true → (x : Tally) (a : ℕ → Bool) (store d : List ℕ) → fateIs Late
             ≡ fateOf (frameIn d p) (workOf a x ns (rowsOf ws) store d)

@@ -17,12 +17,12 @@ use Rattle.rows.proofs.Rows.{rows-length}
 use Rattle.row_slots.specs.Slots.{slotsIn, AllFit}
 use Rattle.row_slots.proofs.Meaning.{slots-in-length}
 use Rattle.row_slots.proofs.Tests.{held-rows}
-use Rattle.receiver.specs.Parts.{nextAt}
+use Rattle.receiver.specs.Parts.{nextAt, profileAt}
 use Rattle.recv_steps.specs.declared.Tally.{Tally}
 use Rattle.recv_steps.specs.Work.{workOf}
 use Rattle.recv_steps.specs.CountChanges.{madeOne, risen, CanCount, Rises}
 use Rattle.recv_steps.specs.Moves.{Changes, Moves}
-use Rattle.recv_steps.proofs.CountChanges.{counts-fewer, counts-made, rises-fewer, rises-risen, rises-one}
+use Rattle.recv_steps.proofs.CountChanges.{counts-fewer, counts-made, rises-fewer, rises-risen, rises-one, profile-risen}
 use Rattle.recv_steps.proofs.Changing.{turn-changes}
 use Rattle.recv_steps.proofs.Moving.{moves-then, moves-made, moves-rise}
 
@@ -65,6 +65,7 @@ pub record Following (c : ℕ) (left₀ : ℕ) (x₀ : Tally) (ns₀ ws₀ : Lis
   pub is : (a : ℕ → Bool) (store d : List ℕ) → cascade left c (workOf a x ns (rowsOf ws) store d)
       ≡ cascade left₀ c (workOf a x₀ ns₀ (rowsOf ws₀) store d)
   pub fits : (d : List ℕ) → AllFit d (rowsOf ws₀) → AllFit d (rowsOf ws)
+  pub profile : profileAt ns ≡ profileAt ns₀
 
 -- The loop begins after next was raised, with as many turns as there are rows.
 pub following-begins : (c : ℕ) (x : Tally) (ns ns₀ ws : List ℕ) → c < maxOrdChans → rowCount ws ≤ maxCells → CanCount (maxCells + 1) x
@@ -76,6 +77,7 @@ following-begins c x ns ns₀ ws lt le v r e = record {
   long = refl;
   is = λ a store d. refl;
   fits = λ d v. v;
+  profile = refl;
 }
 
 module _ (c left₀ : ℕ) (x₀ : Tally) (ns₀ ws₀ : List ℕ) (left : ℕ) (x : Tally) (ns ws : List ℕ)
@@ -96,6 +98,7 @@ module _ (c left₀ : ℕ) (x₀ : Tally) (ns₀ ws₀ : List ℕ) (left : ℕ) 
     long = long ∙ f .long;
     is = λ a store d. step a store d left pos (f .is a store d);
     fits = λ d v. m d .fits (f .fits d v);
+    profile = m [] .profile ∙ f .profile;
   }
     where
       m : (d : List ℕ) → Moves d (goOn c) x ns (rowsOf ws) y ns′ (rowsOf ws′)
@@ -143,6 +146,9 @@ module _ (c : ℕ) (x y : Tally) (ns ns₀ ns′ ws ws′ : List ℕ) (lt : c < 
       ∙ ap (λ (n : ℕ). cascade n c (rise c (workOf a x ns (rowsOf ws) store d)))
       (unfold workOf in sym (slots-in-length (rowsOf ws) store d ∙ rows-length ws))
 
+  same : profileAt ns′ ≡ profileAt ns
+  same = f .profile ∙ (ap profileAt e ∙ profile-risen ns (v .long) c lt)
+
   pub follows-stops : (n : ℕ) → n ≡ nextAt ns′ c → (b : Bool) → b ≡ any (bears (heldAs c n)) (cellsIn ws′) → b ≡ false → (ws″ : List ℕ)
       → rowsOf ws″ ≡ changeRows (bears (heldAs c n)) (markRow 3 (y .turn)) (rowsOf ws′)
       → (d : List ℕ) → Moves d (follows c) x ns (rowsOf ws) y ns′ (rowsOf ws″)
@@ -152,10 +158,12 @@ module _ (c : ℕ) (x y : Tally) (ns ns₀ ns′ ws ws′ : List ℕ) (lt : c < 
       (record {
         is = λ a store. following-ends c (rowCount ws) x ns₀ ws left y ns′ ws′ f n en b eb t a store d ∙ begun a store d;
         fits = f .fits d;
+        profile = same;
       })
 
   pub follows-done : left ≤ 0 → (d : List ℕ) → Moves d (follows c) x ns (rowsOf ws) y ns′ (rowsOf ws′)
   follows-done le d = record {
     is = λ a store. following-done c (rowCount ws) x ns₀ ws left y ns′ ws′ f le a store d ∙ begun a store d;
     fits = f .fits d;
+    profile = same;
   }

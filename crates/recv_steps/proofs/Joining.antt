@@ -1,7 +1,7 @@
 -- Pieces in steps 3 and 4: each way of the code, with the facts as it finds them.
 -- Assumes nothing.
 use Prim.Native.Nat.{ℕ, _<_}
-use mathlib.Core.Path.{_≡_, sym, _∙_, ap}
+use mathlib.Core.Path.{_≡_, refl, sym, _∙_, ap}
 use mathlib.Core.Bool.{Bool, true, false}
 use mathlib.Core.List.{List, map}
 use native.Mathlib.Omega.{arith}
@@ -20,6 +20,7 @@ use Rattle.row_slots.specs.Slots.{slotsIn}
 use Rattle.row_slots.proofs.Tests.{piece-clash-rows}
 use Rattle.row_slots.proofs.Complete.{piece-complete}
 use Rattle.receiver.specs.Receive.{frameIn}
+use Rattle.receiver.specs.Parts.{profileFor}
 use Rattle.recv_memory.specs.Remembered.{remembered}
 use Rattle.recv_steps.specs.declared.Tally.{Tally}
 use Rattle.recv_steps.specs.declared.Course.{Course}
@@ -61,7 +62,7 @@ module _ (x : Tally) (ns : List ℕ) (rs rs′ : List Row) (p : Placed) (r : Cou
     joins-free e d = found-by x ns rs p r h joins Free e y ns rs′ d (m₀ ns d)
 
     pub joins-newer : r ≡ Newer → {n : ℕ} → Rises n ns → ReadablePlaced p → p .frame .channel < maxOrdChans
-        → (ns′ : List ℕ) → ns′ ≡ remembered (memoryOf (p .frame .kind) (p .frame .channel)) (p .frame .sequence) ns → (d : List ℕ)
+        → (ns′ : List ℕ) → ns′ ≡ remembered (memoryOf (profileFor ns) (p .frame .kind) (p .frame .channel)) (p .frame .sequence) ns → (d : List ℕ)
         → Moves d (byFate joins (frameIn d p)) x ns rs y ns′ rs′
     unfolding joins fateIs turnReady frameIn rememberIn
     joins-newer e rises fit lt ns′ en d = found-by x ns rs p r h joins Newer e y ns′ rs′ d
@@ -98,11 +99,12 @@ module _ (x : Tally) (ns ws : List ℕ) (p : Placed) (n : ℕ) (en : n ≡ count
   kept-joins e y ns′ rs′ m = record {
     is = λ a store. m d .is a store ∙ rw (there a store true (eq-eqb n (p .frame .meta .count) e));
     fits = m d .fits;
+    profile = m d .profile;
   }
 
   pub kept-waits : (n ≡ p .frame .meta .count → ⊥) → Moves d (kept (frameIn d p)) x ns (rowsOf ws) x ns (rowsOf ws)
   unfolding kept
-  kept-waits ne = record { is = λ a store. rw (there a store false (ne-eqb n (p .frame .meta .count) ne)); fits = λ v. v }
+  kept-waits ne = record { is = λ a store. rw (there a store false (ne-eqb n (p .frame .meta .count) ne)); fits = λ v. v; profile = refl }
 
 -- ---- step 3
 
@@ -148,6 +150,7 @@ module _ (x : Tally) (ns ws : List ℕ) (p : Placed) (e : p .frame .piece ≡ tr
   piece-drops t y ey d s v = rw ey (record {
     is = λ a store. moves-drop d x ns (rowsOf ws) .is a store ∙ rw (clashing d s store ∙ t);
     fits = λ z. z;
+    profile = refl;
   })
 
   pub piece-puts : b ≡ false → (y : Tally) (ns′ : List ℕ) (rs′ : List Row)
@@ -157,4 +160,4 @@ module _ (x : Tally) (ns ws : List ℕ) (p : Placed) (e : p .frame .piece ≡ tr
   unfolding piece putPiece workOf
   piece-puts t y ns′ rs′ m d s v =
       let n = m d s v (λ store. clashing d s store ∙ t) in
-      record { is = λ a store. n .is a store ∙ rw (clashing d s store ∙ t); fits = n .fits }
+      record { is = λ a store. n .is a store ∙ rw (clashing d s store ∙ t); fits = n .fits; profile = n .profile }

@@ -25,7 +25,7 @@ use Rattle.rows.proofs.Rows.{rows-length, cells-length}
 use Rattle.receiver.specs.declared.Heads.{Heads}
 use Rattle.receiver.specs.declared.RecvQueue.{RecvQueue}
 use Rattle.receiver.specs.Parts.{nextAt, queueOf, arraysFit}
-use Rattle.receiver.specs.Queue.{unsentOf, soundQueue}
+use Rattle.receiver.specs.Queue.{profileIn, unsentOf, soundQueue}
 use Rattle.receiver.specs.Receive.{isDatagram, datagramNumber, framesIn, acceptAll, stateOf, acceptedResult, refusedResult, soundCall}
 use Rattle.receiver.specs.Receive.{receiveOf}
 use Rattle.receiver.proofs.ByParts.{next-of-parts}
@@ -82,15 +82,15 @@ module _ (q : RecvQueue) (ws st d : List ℕ) where
           (true-no _ _ _ _ o (lt-no _ _ _ _ _ n (le-yes _ _ _ _ _ u refl)))))))
 
   module _ {ns : List ℕ} {ascends : Bool} (h : Numbered q ns ws st d ascends) where
-    pub refused-7 : acceptAll (q .reliables) (framesIn d) ≡ none → receiveOf q (cellsIn ws) st d ≡ refusedResult q (cellsIn ws) st 7
+    pub refused-7 : acceptAll (q .reliables) (framesIn (profileIn q) d) ≡ none → receiveOf q (cellsIn ws) st d ≡ refusedResult q (cellsIn ws) st 7
     unfolding receiveOf
     refused-7 e =
         rw e (sym (true-yes _ _ _ _ (h .head .judged .sound)
         (lt-no _ _ _ _ _ (h .head .long) (lt-no _ _ _ _ _ (h .head .short) (true-yes _ _ _ _ (h .head .first)
         (true-no _ _ _ _ (h .fresh) (lt-no _ _ _ _ _ (h .near) (le-no _ _ _ _ _ (h .room) refl))))))))
 
-    module _ (reliables : ReliableWindow) (e : acceptAll (q .reliables) (framesIn d) ≡ some reliables) where
-      pub refused-8 : datagram (stateOf q (cellsIn ws) st) (framesIn d) .full ≡ true → receiveOf q (cellsIn ws) st d
+    module _ (reliables : ReliableWindow) (e : acceptAll (q .reliables) (framesIn (profileIn q) d) ≡ some reliables) where
+      pub refused-8 : datagram (stateOf q (cellsIn ws) st) (framesIn (profileIn q) d) .full ≡ true → receiveOf q (cellsIn ws) st d
           ≡ refusedResult q (cellsIn ws) st 8
       unfolding receiveOf
       refused-8 f =
@@ -98,8 +98,8 @@ module _ (q : RecvQueue) (ws st d : List ℕ) where
           (lt-no _ _ _ _ _ (h .head .long) (lt-no _ _ _ _ _ (h .head .short) (true-yes _ _ _ _ (h .head .first)
           (true-no _ _ _ _ (h .fresh) (lt-no _ _ _ _ _ (h .near) (le-no _ _ _ _ _ (h .room) (true-yes _ _ _ _ f refl)))))))))
 
-      pub accepted-is : datagram (stateOf q (cellsIn ws) st) (framesIn d) .full ≡ false → receiveOf q (cellsIn ws) st d
-          ≡ acceptedResult q st d reliables (datagram (stateOf q (cellsIn ws) st) (framesIn d))
+      pub accepted-is : datagram (stateOf q (cellsIn ws) st) (framesIn (profileIn q) d) .full ≡ false → receiveOf q (cellsIn ws) st d
+          ≡ acceptedResult q st d reliables (datagram (stateOf q (cellsIn ws) st) (framesIn (profileIn q) d))
       unfolding receiveOf
       accepted-is f =
           rw e (sym (true-yes _ _ _ _ (h .head .judged .sound)

@@ -26,8 +26,9 @@ use Rattle.row_slots.specs.Slots.{flushed, AllFit}
 use Rattle.row_slots.proofs.Stored.{accepted-store, accepted-records}
 use Rattle.receiver.specs.declared.Heads.{Heads}
 use Rattle.receiver.specs.declared.Channel.{Channel}
-use Rattle.receiver.specs.Parts.{nextsIn, nextsOf, nextAt, newestAt, channelsOf, queueOf}
+use Rattle.receiver.specs.Parts.{nextsIn, nextsOf, nextAt, newestAt, profileAt, profileFor, channelsOf, queueOf}
 use Rattle.receiver.proofs.ByParts.{numbers-back, channels-of-length, channels-anew}
+use Rattle.receiver.specs.Queue.{profileIn}
 use Rattle.receiver.specs.Receive.{framesIn, stateOf, channelsAfter, queueAfter, acceptedResult, receiveOf}
 use Rattle.receiver.proofs.Receives.{store-is}
 use Rattle.recv_steps.specs.declared.Tally.{Tally}
@@ -58,7 +59,7 @@ module _ (h : Heads) (db rb ns un ws st d : List ℕ) {ascends : Bool} (n : Numb
       → Receives (queueOf h db rb ns un) ns ws st d x rb₂ ns₂ ws₂ st
   beyond-reach turn rs rs₁ r rb₁ ns₁ f e x ws₁ rb₂ ns₂ ws₂ lr ln lw =
       refuses-worked h db rb ns un ws st d Receive.ReliableBeyond 7 (unfold receiveAnswer in refl) (unfold foundInFrames in refl)
-      (refused-7 (queueOf h db rb ns un) ws st d n (unfold queueOf Ran in rw e at f)) x rb₁ ns₁ ws₁ rb₂ ns₂ ws₂ lr ln lw
+      (refused-7 (queueOf h db rb ns un) ws st d n (unfold queueOf profileIn profileFor Ran in rw e at f)) x rb₁ ns₁ ws₁ rb₂ ns₂ ws₂ lr ln lw
 
   store-long : rowCount ws * cellSize ≤ length st
   store-long = let e : rowCount ws * cellSize ≡ length st = rw (cells-length ws) at
@@ -71,14 +72,14 @@ module _ (h : Heads) (db rb ns un ws st d : List ℕ) {ascends : Bool} (n : Numb
     ran = unfold Ran in rw e at f
 
     work : Work
-    work = datagram (stateOf (queueOf h db rb ns un) (cellsIn ws) st) (framesIn d)
+    work = datagram (stateOf (queueOf h db rb ns un) (cellsIn ws) st) (framesIn (profileFor ns) d)
 
     abbrev after : Work
     after = workOf (Window.accepted (windowOf low rb₁)) y ns₁ (rowsOf ws₁) st d
 
     done : after ≡ work
     unfolding work datagram
-    done = ran .is st ∙ ap (λ (z : Work). frames z (framesIn d)) (rw (et, er) (begun-work h db rb ns un ws st d))
+    done = ran .is st ∙ ap (λ (z : Work). frames z (framesIn (profileFor ns) d)) (rw (et, er) (begun-work h db rb ns un ws st d))
 
     full-is : eqb (y .full) 1 ≡ work .full
     unfolding workOf
@@ -89,10 +90,10 @@ module _ (h : Heads) (db rb ns un ws st d : List ℕ) {ascends : Bool} (n : Numb
         ≡ length ws
         → (x ≡ refusal h Receive.NoRoom) × ((rb₂ ≡ zerosOf rb₁) × ((ns₂ ≡ zerosOf ns₁) × (ws₂ ≡ zerosOf ws₁)))
         → Receives (queueOf h db rb ns un) ns ws st d x rb₂ ns₂ ws₂ st
-    unfolding work
+    unfolding work profileIn profileFor queueOf profileAt
     ran-out t x rb₂ ns₂ ws₂ lr ln lw =
         refuses-worked h db rb ns un ws st d Receive.NoRoom 8 (unfold receiveAnswer in refl) (unfold foundInFrames in refl)
-        (refused-8 (queueOf h db rb ns un) ws st d n (windowOf low rb₁) (unfold queueOf in ran .reaches)
+        (refused-8 (queueOf h db rb ns un) ws st d n (windowOf low rb₁) (unfold queueOf profileIn profileFor in ran .reaches)
         (sym full-is ∙ eq-eqb (y .full) 1 t)) x rb₁ ns₁ ws₁ rb₂ ns₂ ws₂ lr ln lw
 
     pub may-settle : length ws₁ ≡ length ws → AllFit d (rowsOf ws₁) × ((rowCount ws₁ ≤ maxCells) × (rowCount ws₁ * cellSize ≤ length st))
@@ -110,14 +111,13 @@ module _ (h : Heads) (db rb ns un ws st d : List ℕ) {ascends : Bool} (n : Numb
 
       -- the channels that the definition leaves are those of the nexts and memories
       nexts-are : ns₁ ≡ nextsIn (channelsAfter (after .state .next) (after .state .newest) 0 (channelsOf ns))
-          (after .state .newest maxOrdChans)
+          (after .state .newest maxOrdChans) (profileAt ns)
       nexts-are = sym (numbers-back ns₁ (many ∙ fits-nexts h db rb ns un (n .head .judged .arrays))) ∙ (unfold workOf in
-          ap (λ (cs : List Channel). nextsIn cs (newestAt ns₁ maxOrdChans))
-          (sym (channels-anew ns₁ (channelsOf ns) (channels-of-length ns))))
+          λ i. nextsIn (sym (channels-anew ns₁ (channelsOf ns) (channels-of-length ns)) i) (newestAt ns₁ maxOrdChans) (ran .profile i))
 
       left-is : rowsPassed (acceptance low ascends y left) rb₁ ns₁ (rowsOf ws₂) [] st₂ ≡ rowsAccepted (queueOf h db rb ns un) []
           (acceptedResult (queueOf h db rb ns un) st d (windowOf low rb₁) after)
-      left-is = unfold rowsPassed rowsAccepted receiveAnswer acceptedResult queueAfter queueOf nextsOf workOf in
+      left-is = unfold rowsPassed rowsAccepted receiveAnswer acceptedResult queueAfter queueOf nextsOf workOf profileIn profileFor in
           λ i. record {
             answer = gives (record { ready = y .ready; dropped = y .dropped; left = ran .end i });
             low = low;
@@ -131,9 +131,10 @@ module _ (h : Heads) (db rb ns un ws st d : List ℕ) {ascends : Bool} (n : Numb
 
       pub is-accepted : (y .full ≡ 1 → ⊥) → (x : PassedRows) → x ≡ acceptance low ascends y left
           → Receives (queueOf h db rb ns un) ns ws st d x rb₁ ns₁ ws₂ st₂
+      unfolding profileIn profileFor queueOf profileAt
       is-accepted ne x ex = record { is = rw (ex, defined) (left-is ∙ (unfold rowsOutcome rowsByAnswer acceptedResult in refl)) }
         where
           defined : receiveOf (queueOf h db rb ns un) (cellsIn ws) st d ≡ acceptedResult (queueOf h db rb ns un) st d (windowOf low rb₁)
               after
-          defined = accepted-is (queueOf h db rb ns un) ws st d n (windowOf low rb₁) (unfold queueOf in ran .reaches)
+          defined = accepted-is (queueOf h db rb ns un) ws st d n (windowOf low rb₁) (unfold queueOf profileIn profileFor in ran .reaches)
               (unfold work in sym full-is ∙ ne-eqb (y .full) 1 ne) ∙ (unfold work in rw done)

@@ -37,13 +37,13 @@ module _ (p : Placed) (b : Bool) (e : (d : List ℕ) → b ≡ inLimits (frameIn
         ns′ rs′)
         → (d : List ℕ) → Stands d p → Sane d rs → Moves d (limited (frameIn d p)) x ns rs y ns′ rs′
     unfolding limited keepIn frameIn
-    limited-piece t q m d s v = record { is = λ a store. m d s v .is a store ∙ rw (limits-kept t d, q); fits = m d s v .fits }
+    limited-piece t q m d s v = record { is = λ a store. m d s v .is a store ∙ rw (limits-kept t d, q); fits = m d s v .fits; profile = m d s v .profile }
 
     pub limited-whole : b ≡ true → p .frame .piece ≡ false → ((d : List ℕ) → Stands d p → Moves d (byFate whole (frameIn d p)) x ns rs y ns′
         rs′)
         → (d : List ℕ) → Stands d p → Sane d rs → Moves d (limited (frameIn d p)) x ns rs y ns′ rs′
     unfolding limited keepIn frameIn byFate
-    limited-whole t q m d s v = record { is = λ a store. m d s .is a store ∙ rw (limits-kept t d, q); fits = m d s .fits }
+    limited-whole t q m d s v = record { is = λ a store. m d s .is a store ∙ rw (limits-kept t d, q); fits = m d s .fits; profile = m d s .profile }
 
   pub limited-drops : b ≡ false → (x y : Tally) (ns : List ℕ) (rs : List Row) → y ≡ droppedOne x → (d : List ℕ) → Stands d p → Sane d rs
       → Moves d (limited (frameIn d p)) x ns rs y ns rs
@@ -51,6 +51,7 @@ module _ (p : Placed) (b : Bool) (e : (d : List ℕ) → b ≡ inLimits (frameIn
   limited-drops t x y ns rs ey d s v = rw ey (record {
     is = λ a store. moves-drop d x ns rs .is a store ∙ rw (sym (e d) ∙ t);
     fits = λ z. z;
+    profile = refl;
   })
 
 -- The same of a frame that is known to be within the limits.

@@ -14,6 +14,7 @@ use Rattle.cells.specs.Datagram.{Work, place, made, rememberIn, roomy, Fate, ea
 use Rattle.rows.specs.declared.Row.{Row}
 use Rattle.row_slots.specs.Slots.{slotsIn}
 use Rattle.receiver.specs.Receive.{frameIn}
+use Rattle.receiver.specs.Parts.{profileFor}
 use Rattle.recv_memory.specs.Remembered.{remembered}
 use Rattle.recv_steps.specs.declared.Tally.{Tally}
 use Rattle.recv_steps.specs.declared.Course.{Course}
@@ -114,7 +115,7 @@ module _ (x : Tally) (ns : List ℕ) (rs : List Row) (p : Placed) (r : Course) (
     whole-due e ns′ m d s = found-by whole Due e y ns′ rs′ d (m d s)
 
     pub whole-newer : r ≡ Newer → {n : ℕ} → Rises n ns → ReadablePlaced p → p .frame .channel < maxOrdChans
-        → (ns′ : List ℕ) → ns′ ≡ remembered (memoryOf (p .frame .kind) (p .frame .channel)) (p .frame .sequence) ns
+        → (ns′ : List ℕ) → ns′ ≡ remembered (memoryOf (profileFor ns) (p .frame .kind) (p .frame .channel)) (p .frame .sequence) ns
         → ((ns d : List ℕ) → Stands d p → Moves d (whole free (frameIn d p)) x ns rs y ns rs′) → (d : List ℕ)
         → Stands d p → Moves d (byFate whole (frameIn d p)) x ns rs y ns′ rs′
     unfolding fateIs whole

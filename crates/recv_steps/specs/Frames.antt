@@ -17,7 +17,7 @@ use Rattle.cells.specs.Datagram.{frames}
 use Rattle.cells.proofs.SoundCascade.{Sound}
 use Rattle.rows.specs.declared.Row.{Row}
 use Rattle.row_slots.specs.Slots.{slotsIn, AllFit}
-use Rattle.receiver.specs.Parts.{nextAt}
+use Rattle.receiver.specs.Parts.{nextAt, profileAt, profileFor}
 use Rattle.receiver.specs.Receive.{framesIn, acceptAll, bytesLeft}
 use Rattle.recv_steps.specs.declared.Tally.{Tally}
 use Rattle.recv_steps.specs.declared.Framed.{Framed}
@@ -49,16 +49,17 @@ pub record Begun (low : ℕ) (bits ns : List ℕ) (rs : List Row) (turn : ℕ) (
 abbrev pub begunTally : ℕ → Tally
 begunTally turn = record { turn = turn; ready = 0; dropped = 0; full = 0 }
 
--- What holds when they are done: the working state is that of the definition, and so is the window of reliable numbers.
+-- What holds when they are done: the working state is that of the definition, so is the window of reliable numbers, and the profile stays.
 pub record Passes (low : ℕ) (bits ns : List ℕ) (rs : List Row) (turn : ℕ) (d : List ℕ) (low′ : ℕ) (y : Tally) (left : ℕ)
     (bits′ ns′ : List ℕ) (rs′ : List Row) : Type 0 where
   pub is : (store : List ℕ) → workOf (accepted (windowOf low′ bits′)) y ns′ rs′ store d
-      ≡ frames (workOf (accepted (windowOf low bits)) (begunTally turn) ns rs store d) (framesIn d)
+      ≡ frames (workOf (accepted (windowOf low bits)) (begunTally turn) ns rs store d) (framesIn (profileFor ns) d)
   pub fits : AllFit d rs′
-  pub reaches : acceptAll (windowOf low bits) (framesIn d) ≡ some (windowOf low′ bits′)
-  pub end : left ≡ bytesLeft d
+  pub reaches : acceptAll (windowOf low bits) (framesIn (profileFor ns) d) ≡ some (windowOf low′ bits′)
+  pub end : left ≡ bytesLeft (profileFor ns) d
+  pub profile : profileAt ns′ ≡ profileAt ns
 
 -- what the frames come to, with the bits, the nexts and the rows afterwards
 unfoldable pub Ran : ℕ → List ℕ → List ℕ → List Row → ℕ → List ℕ → Framed → List ℕ → List ℕ → List Row → Type 0
-Ran low bits ns rs turn d Beyond bits′ ns′ rs′ = acceptAll (windowOf low bits) (framesIn d) ≡ none
+Ran low bits ns rs turn d Beyond bits′ ns′ rs′ = acceptAll (windowOf low bits) (framesIn (profileFor ns) d) ≡ none
 Ran low bits ns rs turn d (Done low′ y left) bits′ ns′ rs′ = Passes low bits ns rs turn d low′ y left bits′ ns′ rs′

@@ -12,6 +12,7 @@ use Rattle.cells.specs.Datagram.{Work, Fate, fateOf, dropOne, place, made, room
 use Rattle.cells.proofs.SoundCore.{Core}
 use Rattle.window.specs.declared.Insert.{Insert}
 use Rattle.window.specs.declared.Insert.the-variants.{Accepted, TooLarge, Old, Beyond}
+use Rattle.receiver.specs.Parts.{profileAt}
 use Rattle.receiver.specs.Receive.{frameIn}
 use Rattle.rows.specs.declared.Row.{Row}
 use Rattle.rows.specs.Rows.{cellOf}
@@ -24,11 +25,13 @@ pub record Changes (d : List ℕ) (g : List Slot → List Slot) (rs rs′ : List
   pub is : (store : List ℕ) → slotsIn rs′ store d ≡ g (slotsIn rs store d)
   pub fits : AllFit d rs → AllFit d rs′
 
--- x, ns and rs become y, ns′ and rs′: the working state is changed by g, whatever numbers were accepted, and the rows still fit
+-- x, ns and rs become y, ns′ and rs′: the working state is changed by g, whatever numbers were accepted, the rows still fit, and the profile
+-- stays
 pub record Moves (d : List ℕ) (g : Work → Work) (x : Tally) (ns : List ℕ) (rs : List Row) (y : Tally) (ns′ : List ℕ) (rs′ : List Row) : Type
     0 where
   pub is : (a : ℕ → Bool) (store : List ℕ) → workOf a y ns′ rs′ store d ≡ g (workOf a x ns rs store d)
   pub fits : AllFit d rs → AllFit d rs′
+  pub profile : profileAt ns′ ≡ profileAt ns
 
 -- a piece's message has all indices exactly if it has as many records as the piece says
 abbrev pub Counted : List ℕ → Placed → List Row → Type 0

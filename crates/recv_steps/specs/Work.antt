@@ -1,4 +1,4 @@
--- What a datagram's counts, nexts, memories and rows mean: the working state of the receiver with cells.
+-- What a datagram's counts, nexts, memories, profile and rows mean: the working state of the receiver with cells.
 use Prim.Native.Nat.{ℕ}
 use mathlib.Core.Bool.{Bool}
 use mathlib.Core.List.{List}
@@ -6,7 +6,7 @@ use lib.Dec.{eqb}
 use Rattle.cells.specs.Datagram.{Work, Fate, late, early, due, newer, free}
 use Rattle.rows.specs.declared.Row.{Row}
 use Rattle.row_slots.specs.Slots.{slotsIn}
-use Rattle.receiver.specs.Parts.{nextAt, newestAt}
+use Rattle.receiver.specs.Parts.{nextAt, newestAt, profileFor}
 use Rattle.recv_steps.specs.declared.Tally.{Tally}
 use Rattle.recv_steps.specs.declared.Course.{Course}
 use Rattle.recv_steps.specs.declared.Course.the-variants.{Late, Early, Due, Newer, Free}
@@ -15,7 +15,8 @@ use Rattle.recv_steps.specs.declared.Course.the-variants.{Late, Early, D
 unfoldable pub workOf : (ℕ → Bool) → Tally → List ℕ → List Row → List ℕ → List ℕ → Work
 workOf a x ns rs store d =
     record {
-      state = record { accepted = a; next = nextAt ns; newest = newestAt ns; slots = slotsIn rs store d };
+      state =
+          record { profile = profileFor ns; accepted = a; next = nextAt ns; newest = newestAt ns; slots = slotsIn rs store d };
       counts = record { ready = x .ready; dropped = x .dropped };
       turn = x .turn;
       full = eqb (x .full) 1;

@@ -4,6 +4,7 @@
 use libc::STDIN_FILENO;
 use recv_answers::QueueReceived;
 use recv_queue::CellRecord;
+use recv_queue::Profile;
 use recv_queue::RecvQueue;
 use recv_queue::Take;
 use recv_queue::WriteQueue;
@@ -48,7 +49,7 @@ fn after(x: State, queue: RecvQueue, records: [CellRecord; 256], right: bool) ->
 }
 
 fn new_receiver(cells: usize, store: &[u8], tally: Tally) -> State {
-    let made = recv_array::new_held(cells, store);
+    let made = recv_array::new_held(cells, store, Profile::Console);
     let queue = made.queue;
     let records = made.records;
     State {

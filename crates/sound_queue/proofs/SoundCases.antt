@@ -8,11 +8,12 @@ use Prim.Native.Nat.{ℕ, zero, suc, _+_, _-_, _<_, _≤_}
 use native.Mathlib.Nat.{not-suc-le-zero, le-refl, add-zero, add-suc}
 use native.Mathlib.Numerals.{add-one, sub-one}
 use native.Mathlib.Omega.{arith}
+use lib.Bits.{bitOr, or-add-and, and-le-l, and-le-r}
 use lib.Dec.{ltb, leb, eqb}
 use lib.ListN.{length, getD, take, drop, drop-of-length-le}
 use lib.Seq.{take-all, drop-length}
 use borrow.Author.Tests.{ltb-true, lt-ltb, le-ltb, le-leb, lt-leb, eq-eqb, ne-eqb}
-use Rattle.base.specs.Limits.{numbers24, maxOrdChans, memories, manyNexts, windowPlaces, maxUnsent}
+use Rattle.base.specs.Limits.{numbers24, maxOrdChans, memories, profiles, windowPlaces, maxUnsent}
 use Rattle.base.specs.Lists.{any, every, below}
 use Rattle.base.proofs.Choices.{cases, and-left, and-right, and-both, neither}
 use Rattle.base.proofs.Lists.{below-at, below-all}
@@ -25,12 +26,12 @@ use Rattle.window.proofs.Accepted.{accepted-place, accepted-below}
 use Rattle.cells.specs.Sound.{soundNexts, soundMemories}
 use Rattle.receiver.specs.declared.Heads.{Heads}
 use Rattle.receiver.specs.declared.RecvQueue.{RecvQueue}
-use Rattle.receiver.specs.Parts.{nextPlace, memoryPlace, nextAt, newestAt, queueOf}
-use Rattle.receiver.specs.Queue.{nextOf, newestOf, unsentOf, placesWithin, soundWindow, differ, soundUnsent, soundQueue}
-use Rattle.receiver.proofs.ByParts.{place-within, SomePlace, place-some, next-at, newest-at, next-of-parts, newest-of-parts}
+use Rattle.receiver.specs.Parts.{nextPlace, memoryPlace, nextAt, newestAt, profilePlace, profileAt, queueOf}
+use Rattle.receiver.specs.Queue.{nextOf, newestOf, unsentOf, placesWithin, soundWindow, differ, soundUnsent, soundProfile, soundQueue}
+use Rattle.receiver.proofs.ByParts.{place-before, SomePlace, place-some, next-at, newest-at, profile-at, next-of-parts, newest-of-parts}
 use Rattle.receiver.proofs.Parts.{from-here, part-from}
 use Rattle.sound_queue.specs.declared.QueueSound.{QueueSound}
-use Rattle.sound_queue.specs.Sound.{told, queueSoundOf, nextsWithin, soundNumber, soundNumbers, numbersSoundOf}
+use Rattle.sound_queue.specs.Sound.{told, queueSoundOf, nextsWithin, joined, soundNumber, soundNumbers, numbersSoundOf}
 use Rattle.sound_queue.proofs.Ascending.{ascending-differ, rising-all}
 
 -- ---- one place of a window
@@ -105,35 +106,82 @@ module _ (nexts : List ℕ) where
       rw (add-suc, ← past nexts (length nexts + k) (omega arith)) (and-true (nextsWithin nexts (length nexts + k)) ∙ past-within k)
 
   -- they are the channels' nexts and the memories
-  both : nextsWithin nexts manyNexts ≡ true → (soundNexts (nextAt nexts) && soundMemories (newestAt nexts)) ≡ true
+  abbrev Bounded : Bool
+  Bounded = soundNexts (nextAt nexts) && soundMemories (newestAt nexts)
+
+  both : nextsWithin nexts profilePlace ≡ true → Bounded ≡ true
   unfolding nextsWithin
   both t = and-both (soundNexts (nextAt nexts)) _
-      (below-all maxOrdChans _ (λ c l. rw (next-at nexts c l) (below-at manyNexts _ t (nextPlace c) (omega arith))))
-      (below-all memories _ (λ m l. rw (newest-at nexts m l) (below-at manyNexts _ t (memoryPlace m) (place-within m l))))
+      (below-all maxOrdChans _ (λ c l. rw (next-at nexts c l) (below-at profilePlace _ t (nextPlace c) (omega arith))))
+      (below-all memories _ (λ m l. rw (newest-at nexts m l) (below-at profilePlace _ t (memoryPlace m) (place-before m l))))
 
-  all : (soundNexts (nextAt nexts) && soundMemories (newestAt nexts)) ≡ true → nextsWithin nexts manyNexts ≡ true
+  all : Bounded ≡ true → nextsWithin nexts profilePlace ≡ true
   unfolding nextsWithin
-  all t = below-all manyNexts _ (λ i l. at i (place-some i l))
+  all t = below-all profilePlace _ (λ i l. at i l (place-some i (omega arith)))
     where
-      at : (i : ℕ) → SomePlace i → leb (getD nexts i 0) numbers24 ≡ true
-      at i (inl p) = rw (p .2, ← next-at nexts (p .0) (p .1))
+      at : (i : ℕ) → i < profilePlace → SomePlace i → leb (getD nexts i 0) numbers24 ≡ true
+      at i l (inl p) = rw (p .2, ← next-at nexts (p .0) (p .1))
           (below-at maxOrdChans _ (and-left (soundNexts (nextAt nexts)) _ t) (p .0) (p .1))
-      at i (inr p) = rw (p .2, ← newest-at nexts (p .0) (p .1))
+      at i l (inr (inl p)) = rw (p .2, ← newest-at nexts (p .0) (p .1))
           (below-at memories _ (and-right (soundNexts (nextAt nexts)) _ t) (p .0) (p .1))
+      at i l (inr (inr e)) = absurd (omega arith)
 
-  in-two : nextsWithin nexts manyNexts ≡ (soundNexts (nextAt nexts) && soundMemories (newestAt nexts))
-  in-two = cases (nextsWithin nexts manyNexts)
+  in-two : nextsWithin nexts profilePlace ≡ Bounded
+  in-two = cases (nextsWithin nexts profilePlace)
       (λ t. t ∙ sym (both t))
-      (λ t. t ∙ cases (soundNexts (nextAt nexts) && soundMemories (newestAt nexts)) (λ u. neither _ (all u) t) (λ u. sym u))
+      (λ t. t ∙ cases Bounded (λ u. neither _ (all u) t) (λ u. sym u))
 
-  pub nexts-all : (a : Bool) → a ≡ nextsWithin nexts manyNexts → a ≡ (soundNexts (nextAt nexts) && soundMemories (newestAt nexts))
-  nexts-all a e = e ∙ in-two
+  -- with the profile: one that is, one that is not, and 0 where the nexts end before it
+  abbrev Sound : Bool
+  Sound = soundNexts (nextAt nexts) && (soundMemories (newestAt nexts) && soundProfile (profileAt nexts))
 
-  pub nexts-few : (a : Bool) → length nexts < manyNexts → a ≡ nextsWithin nexts (length nexts) → a ≡ (soundNexts (nextAt nexts)
-      && soundMemories (newestAt nexts))
+  by-profile : (a : Bool) → a ≡ nextsWithin nexts profilePlace → soundProfile (profileAt nexts) ≡ true → a ≡ Sound
+  by-profile a e t = e ∙ in-two ∙ rw (t, and-true (soundMemories (newestAt nexts)))
+
+  pub nexts-all : (a : Bool) → getD nexts profilePlace 0 < profiles → a ≡ nextsWithin nexts profilePlace → a ≡ Sound
+  unfolding soundProfile
+  nexts-all a l e = by-profile a e (rw (profile-at nexts) (lt-ltb (getD nexts profilePlace 0) profiles l))
+
+  pub profile-not : profiles ≤ getD nexts profilePlace 0 → false ≡ Sound
+  unfolding soundProfile
+  profile-not g = rw (
+    profile-at nexts,
+    le-ltb (getD nexts profilePlace 0) profiles g,
+    and-false (soundMemories (newestAt nexts)),
+    and-false (soundNexts (nextAt nexts)),
+  )
+
+  pub nexts-few : (a : Bool) → length nexts ≤ profilePlace → a ≡ nextsWithin nexts (length nexts) → a ≡ Sound
+  unfolding soundProfile
   nexts-few a h e =
-      let z : length nexts + (manyNexts - length nexts) ≡ manyNexts = omega arith in
-      nexts-all a (e ∙ sym (past-within (manyNexts - length nexts)) ∙ ap (nextsWithin nexts) z)
+      let z : length nexts + (profilePlace - length nexts) ≡ profilePlace = omega arith in
+      by-profile a (e ∙ sym (past-within (profilePlace - length nexts)) ∙ ap (nextsWithin nexts) z)
+      (rw (profile-at nexts, ← past nexts profilePlace h))
+
+-- ---- numbers joined: none yet, one more, all of them; where what they join to is within, so is each
+module _ (nexts : List ℕ) where
+  pub joined-none : 0 ≡ joined nexts 0
+  unfolding joined
+  joined-none = refl
+
+  pub joined-further : (i b : ℕ) → b ≡ joined nexts i → bitOr b (getD nexts i 0) ≡ joined nexts (i + 1)
+  unfolding joined
+  joined-further i b e = rw (add-one i) (ap (λ (x : ℕ). bitOr x (getD nexts i 0)) e)
+
+  pub joined-end : (i n b : ℕ) → i ≤ n → n ≤ i → b ≡ joined nexts i → b ≡ joined nexts n
+  joined-end i n b h k e = let z : i ≡ n = omega arith in (rw z at e)
+
+  all-joined : (n : ℕ) → joined nexts n ≤ numbers24 → nextsWithin nexts n ≡ true
+  unfolding joined nextsWithin below
+  all-joined zero h = refl
+  all-joined (suc n) h =
+      let a = or-add-and (joined nexts n) (getD nexts n 0) in
+      let b = and-le-l (joined nexts n) (getD nexts n 0) in
+      let c = and-le-r (joined nexts n) (getD nexts n 0) in
+      and-both (nextsWithin nexts n) _ (all-joined n (omega arith)) (le-leb (getD nexts n 0) numbers24 (omega arith))
+
+  pub joined-within : (n b : ℕ) → b ≡ joined nexts n → b ≤ numbers24 → true ≡ nextsWithin nexts n
+  joined-within n b e h = sym (all-joined n (rw e at h))
 
 -- ---- an unsent number
 module _ (w : ReliableWindow) (n : ℕ) where
@@ -246,6 +294,10 @@ pub first-all : (w : ReliableWindow) (l : List ℕ) (m : ℕ) (r : QueueSound) �
     ≡ numbersSoundOf w (take m l)
 first-all w l m r h e = rw (take-all m l (omega arith)) e
 
+and-three : (a b c d : Bool) → (a && (b && (c && d))) ≡ ((a && (b && c)) && d)
+and-three true b c d = sym (and-assoc b c d)
+and-three false b c d = refl
+
 -- ---- all of them, one after the other
 module _ (h : Heads) (dbits rbits nexts unsent : List ℕ) where
   abbrev q : RecvQueue
@@ -265,11 +317,12 @@ module _ (h : Heads) (dbits rbits nexts unsent : List ℕ) where
       unfolding soundQueue queueOf
       reliables-not i = not-sound (rw (sym e ∙ f, sym g ∙ i)) r
 
-      module _ (i : b ≡ true) (c : Bool) (j : c ≡ (soundNexts (nextAt nexts) && soundMemories (newestAt nexts))) where
-        by-nexts : (soundNexts (nextOf q) && (soundMemories (newestOf q) && soundUnsent q))
-            ≡ ((soundNexts (nextAt nexts) && soundMemories (newestAt nexts)) && soundUnsent q)
+      module _ (i : b ≡ true) (c : Bool) (j : c ≡ (soundNexts (nextAt nexts) && (soundMemories (newestAt nexts)
+          && soundProfile (profileAt nexts)))) where
+        by-nexts : (soundNexts (nextOf q) && (soundMemories (newestOf q) && (soundProfile (profileAt nexts) && soundUnsent q)))
+            ≡ ((soundNexts (nextAt nexts) && (soundMemories (newestAt nexts) && soundProfile (profileAt nexts))) && soundUnsent q)
         by-nexts = rw (next-of-parts h dbits rbits nexts unsent, newest-of-parts h dbits rbits nexts unsent)
-            (sym (and-assoc (soundNexts (nextAt nexts)) (soundMemories (newestAt nexts)) (soundUnsent q)))
+            (and-three (soundNexts (nextAt nexts)) (soundMemories (newestAt nexts)) (soundProfile (profileAt nexts)) (soundUnsent q))
 
         pub channels-not : c ≡ false → r ≡ told false false → r ≡ queueSoundOf q
         unfolding soundQueue queueOf

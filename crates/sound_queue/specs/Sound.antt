@@ -1,8 +1,9 @@
 -- What the test of the receiver's own values tells, and the parts of `soundQueue` that a function of the code tests by itself.
-use Prim.Native.Nat.{ℕ}
+use Prim.Native.Nat.{ℕ, zero, suc}
 use mathlib.Core.Bool.{Bool, _&&_}
 use mathlib.Core.List.{List}
 use lib.Dec.{ltb, leb}
+use lib.Bits.{bitOr}
 use lib.ListN.{getD}
 use Rattle.base.specs.Limits.{numbers24}
 use Rattle.base.specs.Lists.{every, below}
@@ -23,6 +24,11 @@ queueSoundOf q = told (soundQueue q) (soundQueue q && ascending (unsentOf q))
 -- each channel's next and each memory is at most 2^24, of the first k of these numbers
 unfoldable pub nextsWithin : List ℕ → ℕ → Bool
 nextsWithin nexts k = below k (λ i. leb (getD nexts i 0) numbers24)
+
+-- the first k of these numbers, joined by their bits
+unfoldable pub joined : List ℕ → ℕ → ℕ
+joined nexts zero = 0
+joined nexts (suc k) = bitOr (joined nexts k) (getD nexts k 0)
 
 -- a number that may be unsent: "below low or accepted", and below 2^24
 unfoldable pub soundNumber : ReliableWindow → ℕ → Bool

@@ -11,10 +11,10 @@ ghost use Rattle.window.specs.Places.{placeSet};
 ghost use Rattle.window.specs.Window.{windowOf};
 ghost use Rattle.cells.specs.Sound.{soundNexts, soundMemories};
 ghost use Rattle.ack.specs.Write.{ascending};
-ghost use Rattle.receiver.specs.Parts.{nextAt, newestAt, queueOf};
-ghost use Rattle.receiver.specs.Queue.{placesWithin, soundWindow};
+ghost use Rattle.receiver.specs.Parts.{nextAt, newestAt, profileAt, queueOf};
+ghost use Rattle.receiver.specs.Queue.{placesWithin, soundWindow, soundProfile};
 ghost use Rattle.receiver.specs.Queue as Queue;
-ghost use Rattle.sound_queue.specs.Sound.{told, queueSoundOf, nextsWithin, soundNumber, soundNumbers, numbersSoundOf};
+ghost use Rattle.sound_queue.specs.Sound.{told, queueSoundOf, nextsWithin, joined, soundNumber, soundNumbers, numbersSoundOf};
 
 // sound: the rules hold. ascending: they do, and the unsent numbers ascend.
 pub struct QueueSound {
@@ -94,18 +94,49 @@ fn place_within(low: u32, bits: &[u8], n: u32) -> bool
     !window::accepted_in(low, bits, n)
 }
 
-// Each channel's next and each memory is at most 2^24; a number past the end is 0.
+// Each channel's next and each memory is at most 2^24, and the profile is one; a number past the end is 0.
 fn sound_nexts(nexts: &[u32]) -> bool
-    ensures { λ r. ⌜ r ≡ (soundNexts (nextAt (now (nexts .entry))) && soundMemories (newestAt (now (nexts .entry)))) ⌝ }
+    ensures { λ r. ⌜ r ≡ (soundNexts (nextAt (now (nexts .entry)))
+        && (soundMemories (newestAt (now (nexts .entry))) && soundProfile (profileAt (now (nexts .entry))))) ⌝ }
 {
-    if nexts.len() < base::NEXTS {
+    if nexts.len() <= receiver::PROFILE_PLACE {
         return nexts_within(nexts, nexts.len());
     }
-    nexts_within(nexts, base::NEXTS)
+    let profile = nexts[receiver::PROFILE_PLACE];
+    if profile < base::PROFILES {
+        return nexts_within(nexts, receiver::PROFILE_PLACE);
+    }
+    false
 }
 
-// The tests of all are joined by `&`: without a branch the loop is done several numbers at a time.
+// No number is above the number that all join to by their bits. Where that one is within, so are they, and none is looked at by itself.
 fn nexts_within(nexts: &[u32], n: usize) -> bool
+    requires { ⌜ n ≤ length (now nexts) ⌝ }
+    ensures { λ r. ⌜ r ≡ nextsWithin (now (nexts .entry)) n ⌝ }
+{
+    let bits = join(nexts, n);
+    if bits <= base::NUMBERS_24 {
+        return true;
+    }
+    each_within(nexts, n)
+}
+
+// Without a branch the loop is done several numbers at a time.
+fn join(nexts: &[u32], n: usize) -> u32
+    requires { ⌜ n ≤ length (now nexts) ⌝ }
+    ensures { λ r. ⌜ r ≡ joined (now (nexts .entry)) n ⌝ }
+{
+    let mut bits = 0;
+    let mut i = 0;
+    while i < n {
+        let next = nexts[i];
+        bits = bits | next;
+        i += 1;
+    }
+    bits
+}
+
+fn each_within(nexts: &[u32], n: usize) -> bool
     requires { ⌜ n ≤ length (now nexts) ⌝ }
     ensures { λ r. ⌜ r ≡ nextsWithin (now (nexts .entry)) n ⌝ }
 {

@@ -6,6 +6,7 @@ use libc::STDOUT_FILENO;
 use recv_answers::QueueReceived;
 use recv_answers::QueueTaken;
 use recv_queue::CellRecord;
+use recv_queue::Profile;
 use recv_queue::RecvQueue;
 
 const CELLS: usize = 32;
@@ -135,7 +136,7 @@ fn main() {
     let mut store = [0u8; STORE];
     let mut joined = [0u8; STORE];
     let mut input = [0u8; 65535];
-    let made = recv_array::new_held(CELLS, &store);
+    let made = recv_array::new_held(CELLS, &store, Profile::Console);
     let queue = made.queue;
     let records = made.records;
     run(

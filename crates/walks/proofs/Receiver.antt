@@ -39,6 +39,7 @@ withDatagramBits q bits = record {
   unsent = q .unsent;
   pending = q .pending;
   newest = q .newest;
+  profile = q .profile;
 }
 
 abbrev pub withReliableBits : RecvQueue → List ℕ → RecvQueue
@@ -49,6 +50,7 @@ withReliableBits q bits = record {
   unsent = q .unsent;
   pending = q .pending;
   newest = q .newest;
+  profile = q .profile;
 }
 
 abbrev pub withUnsent : RecvQueue → List ℕ → RecvQueue
@@ -59,6 +61,7 @@ withUnsent q numbers = record {
   unsent = numbers;
   pending = q .pending;
   newest = q .newest;
+  profile = q .profile;
 }
 
 module _ {M : Type 1} (𝓤 : URA M) (H : Heap 𝓤) (A : Atoms 𝓤) (W : Given 𝓤 H A) (b : ℕ) (s : Share) where

@@ -113,7 +113,7 @@ module _ {M : Type 1} (𝓤 : URA M) (H : Heap 𝓤) (A : Atoms 𝓤) (W : Given
         -- 4: [the reference; [κ₀]; wroteOutput; [κ₁]]: the nexts are copied
         use1 W (Ref ⊛ Ref) (shr-copy 𝓤 H A W (named 0) κ₀ T.the-row .twice x (vptr b o ∷ [])) $ split ! $ move ! (2 ∷ 0 ∷ []) $
         calls-nexts-of 𝓤 H A W mem run κ₀ q₀ x (vptr b o) ! fm known-nexts (and-then ! (var ! (4 + 1) refl) (no-more !)) (λ v.
-        peeks ! (Array u32 65) (Is (Array u32 65)) (shows 𝓤 H A (Array u32 65)) ns (v ∷ []) (λ are.
+        peeks ! (Array u32 66) (Is (Array u32 66)) (shows 𝓤 H A (Array u32 66)) ns (v ∷ []) (λ are.
         -- 5: [what the nexts own; [κ₀]; the reference; wroteOutput; [κ₁]]
         land ! (from ! (stop !)) (init ! (5 + 5) refl (typed v are)) $
         assigns ! (of-opd ! (var ! (5 + 5) refl)) (from ! (stop !)) (init ! (5 + 19) refl (typed v are)) $
@@ -152,7 +152,7 @@ module _ {M : Type 1} (𝓤 : URA M) (H : Heap 𝓤) (A : Atoms 𝓤) (W : Given
         (from ! (stop !)) (init ! (6 + 16) refl (tt, (tt, (record { fits = lit< tt }, tt)))) $
         relends ! (6 + 3) (6 + 17) (6 + 18) refl refl (room .0) $
         -- the local is lent, and the token cut in three
-        move ! ((6 + 19) ∷ 3 ∷ []) $ sharing-local u32 tt 65 l₄ (lit< tt, lit< tt) ! tt ns (λ ν δ₀. move ! (4 ∷ []) $
+        move ! ((6 + 19) ∷ 3 ∷ []) $ sharing-local u32 tt 66 l₄ (lit< tt, lit< tt) ! tt ns (λ ν δ₀. move ! (4 ∷ []) $
         use1 W (‵ (flft κ₀ (PosShare·left q₀)) ⊛ ‵ (flft κ₀ (PosShare·right q₀))) (W .lfts .lft-split κ₀ q₀) $ split ! $ move ! (1 ∷ []) $
         use1 W (‵ (flft κ₀ (PosShare·left (PosShare·right q₀))) ⊛ ‵ (flft κ₀ (PosShare·right (PosShare·right q₀))))
         (W .lfts .lft-split κ₀ (PosShare·right q₀)) $ split ! $ move ! (7 ∷ 2 ∷ 0 ∷ 1 ∷ []) $
@@ -169,7 +169,7 @@ module _ {M : Type 1} (𝓤 : URA M) (H : Heap 𝓤) (A : Atoms 𝓤) (W : Given
         calls-list-written 𝓤 H A W mem run (α ∷ []) (β ∷ []) (ν ∷ []) (ε ∷ []) κ₁ fullShare fullShare fullShare fullShare q₁ (headsOf h)
         (lent (o + 0 + 4) δ₁ (h .datagrams .bits)) (lent (o + 260 + 4) δ₂ (h .reliables .bits))
         (record { ptr = (l₄, 0); name = δ₀; now = ns }) (lent (o + 776) δ₃ (h .unsent)) nack j vh (sliceVal (b, o + 0 + 4) 256)
-        (sliceVal (b, o + 260 + 4) 256) (sliceVal (l₄, 0) 65) (sliceVal (b, o + 776) 1024) vj ! fm known
+        (sliceVal (b, o + 260 + 4) 256) (sliceVal (l₄, 0) 66) (sliceVal (b, o + 776) 1024) vj ! fm known
         (and-then ! (var ! (11 + 4) refl) (and-then ! (var ! (11 + 10) refl)
         (and-then ! (var ! (11 + 12) refl) (and-then ! (var ! (11 + 14) refl)
         (and-then ! (var ! (11 + 16) refl) (and-then ! (var ! (11 + 2) refl) (and-then ! (var ! (11 + 18) refl) (no-more !))))))))
@@ -185,15 +185,15 @@ module _ {M : Type 1} (𝓤 : URA M) (H : Heap 𝓤) (A : Atoms 𝓤) (W : Given
         move ! (1 ∷ 2 ∷ []) $ use2 W (‵ (flft κ₀ (PosShare·right q₀))) (W .lfts .lft-join κ₀ (PosShare·right q₀)) $ move ! (1 ∷ 0 ∷ []) $
         use2 W (‵ (flft κ₀ q₀)) (W .lfts .lft-join κ₀ q₀) $
         -- 6: [[κ₀]; the answer; the output's last value; [κ₁]; [ν]; lent for ν]
-        move ! (4 ∷ 5 ∷ []) $ unshared-local u32 tt 65 l₄ (lit< tt, lit< tt) ! tt ns ν (λ v₄.
+        move ! (4 ∷ 5 ∷ []) $ unshared-local u32 tt 66 l₄ (lit< tt, lit< tt) ! tt ns ν (λ v₄.
         keep ! (1 ∷ 2 ∷ 3 ∷ 4 ∷ 5 ∷ 6 ∷ 7 ∷ 8 ∷ 0 ∷ 9 ∷ 10 ∷ 11 ∷ 12 ∷ 13 ∷ 14 ∷ 15 ∷ 16 ∷ 17 ∷ 18 ∷ 19 ∷ 20 ∷ 21 ∷ 22 ∷ 23 ∷ 24 ∷ 25 ∷ 26
         ∷ 27 ∷ 28 ∷ 29 ∷ 30 ∷ 31 ∷ 32 ∷ 33 ∷ 34 ∷ 35 ∷ 36 ∷ 37 ∷ 38 ∷ 39 ∷ 40 ∷ 41 ∷ 42 ∷ 43 ∷ []) $
         -- 4: [[κ₀]; the answer; the output's last value; [κ₁]], then all locals in order
         returns ! (look ! 4 refl) $ gone ! 4 refl $ by ! (exits v₀ a l (e .0) (e .1 ∙ ap (λ (q : RecvQueue). outputOf (writingOf nack q js))
         (own-parts h (channels-long h was))))))))))))))))
       where
-        typed : (v : Val) → Is (Array u32 65) ns (v ∷ []) → Holds (hasTy (tyArray (tyInt w32) 65) v) × WT v
-        typed v are = array-lawful 𝓤 H A W u32 (uint-lawful 𝓤 H A W w32) 65 .typed ns _ are .0
+        typed : (v : Val) → Is (Array u32 66) ns (v ∷ []) → Holds (hasTy (tyArray (tyInt w32) 66) v) × WT v
+        typed v are = array-lawful 𝓤 H A W u32 (uint-lawful 𝓤 H A W w32) 66 .typed ns _ are .0
 
 module _ {M : Type 1} (𝓤 : URA M) (H : Heap 𝓤) (A : Atoms 𝓤) (W : Given 𝓤 H A) (mem : Memory → SProp 𝓤) (run : Routine → Fun 𝓤)
     (𝓣 : Tables 𝓤 H) (known-nexts : Triple 𝓤 (𝓣 .C #recv-channel·nexts-of) (NextsOf 𝓤 H A mem run))

@@ -72,7 +72,7 @@ module _ {M : Type 1} (𝓤 : URA M) (H : Heap 𝓤) (A : Atoms 𝓤) (W : Given
     made : (a : WriteQueue) → p a < 2 ^ 32 → Is T.the-row h (valsOf h) → Is T.the-row (h₁ a) (valsOf (h₁ a))
     made a fits was =
         let w = LL.owed T.the-type T′.the-laws h (valsOf h) was in
-        LL.owes T.the-type T′.the-laws (h₁ a) (w .0, (w .1 .0, (w .1 .1 .0, (w .1 .1 .1 .0, ((refl, fits), (w .1 .1 .1 .1 .1 .0, tt))))))
+        LL.owes T.the-type T′.the-laws (h₁ a) (w .0, (w .1 .0, (w .1 .1 .0, (w .1 .1 .1 .0, ((refl, fits), w .1 .1 .1 .1 .1)))))
 
     abbrev Bound : walkOf 𝓤 H A f.ended stayed (f.clauses 𝓤 H A mem run) .Ghost
     Bound = (((κ₀, (κ₁, tt)), (q₀, (q₁, tt)), tt, (x, (j, tt)), (vptr b o ∷ [], (vj ∷ [], tt))), tt)

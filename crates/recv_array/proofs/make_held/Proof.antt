@@ -15,6 +15,9 @@ use denote.Enum.Laws as EL
 use Rattle.walks.proofs.Order.{var, gone}
 use Rattle.walks.proofs.Begin.{Begins, begins}
 use Rattle.walks.proofs.Ways.{_&_, Ways, had-at-exit, meets, read-slice, uint, value}
+use Rattle.reliability.specs.declared.Profile.{Profile}
+use Rattle.reliability.proofs.Profile as P
+use Rattle.reliability.proofs.Profile.Laws as P′
 use Rattle.cells.specs.declared.CellRecord.{CellRecord}
 use Rattle.cells.proofs.CellRecord as C
 use Rattle.cells.proofs.CellRecord.Laws as C′
@@ -53,7 +56,8 @@ abbrev ways : Ways (here.ended .signature .params) (here.ended .kept)
 ways = value (plain (λ _. Q.the-row)) (λ κs. LL.vals Q.the-type Q′.the-laws) (λ κs. LL.tells Q.the-type Q′.the-laws) (λ κs x f. refl)
     & value (ArrayOf (plain (λ _. C.the-row)) (λ _. tt) 256) (λ κs. array-vals (LL.vals C.the-type C′.the-laws))
     (λ κs. array-tells C.the-row (LL.vals C.the-type C′.the-laws) (LL.tells C.the-type C′.the-laws) 256) (λ κs x f. refl)
-    & uint w64 & read-slice 0 tt (plain (λ _. u8)) & tt
+    & uint w64 & read-slice 0 tt (plain (λ _. u8))
+    & value (plain (λ _. P.the-row)) (λ κs. EL.vals P.the-type P′.the-laws) (λ κs. EL.tells P.the-type P′.the-laws) (λ κs x f. refl) & tt
 
 abbrev stayed : Stays (here.ended .signature .params) (here.ended .kept)
 stayed = had-at-exit here.ended ways
@@ -73,9 +77,9 @@ module _ {M : Type 1} (𝓤 : URA M) (H : Heap 𝓤) (A : Atoms 𝓤) (mem : Mem
   With = tripleOf 𝓤 H A with.signature (with.spec 𝓤 H A mem run)
 
 module _ {M : Type 1} (𝓤 : URA M) (H : Heap 𝓤) (A : Atoms 𝓤) (W : Given 𝓤 H A) (mem : Memory → SProp 𝓤) (run : Routine → Fun 𝓤) (κ₀ : Lft)
-    (q₀ : Share) (h : RecvQueue) (rs : List CellRecord) (n : ℕ) (b₀ o₀ : ℕ) (γ₀ : GName) (cs : List ℕ)
+    (q₀ : Share) (h : RecvQueue) (rs : List CellRecord) (n : ℕ) (b₀ o₀ : ℕ) (γ₀ : GName) (cs : List ℕ) (p : Profile)
     (isq : Is Q.the-row h (LL.vals Q.the-type Q′.the-laws h)) (isr : Is Cells rs (valOf rs ∷ [])) (small : n < 2 ^ 64)
-    (room₀ : Room u8 (length cs)) where
+    (room₀ : Room u8 (length cs)) (isp : Is P.the-row p (EL.vals P.the-type P′.the-laws p)) where
   -- how many records the call is over
   abbrev m : ℕ
   m = min n heldCells
@@ -106,8 +110,20 @@ module _ {M : Type 1} (𝓤 : URA M) (H : Heap 𝓤) (A : Atoms 𝓤) (W : Given
   abbrev vd : Val
   vd = sliceVal (b₀, o₀) (length cs)
 
+  abbrev vp : Val
+  vp = EL.val P.the-type P′.the-laws p
+
   abbrev Passed : walkOf 𝓤 H A here.ended stayed (here.clauses 𝓤 H A mem run) .Ghost
-  Passed = (((κ₀, tt), (q₀, tt), tt, (h, (rs, (n, (d, tt)))), (vq ∷ [], (valOf rs ∷ [], (vint w64 n ∷ [], (vd ∷ [], tt))))), tt)
+  Passed = (
+    (
+      (κ₀, tt),
+      (q₀, tt),
+      tt,
+      (h, (rs, (n, (d, (p, tt))))),
+      (vq ∷ [], (valOf rs ∷ [], (vint w64 n ∷ [], (vd ∷ [], (vp ∷ [], tt))))),
+    ),
+    tt,
+  )
 
   abbrev Post : Val → SProp 𝓤
   Post = walkOf 𝓤 H A here.ended stayed (here.clauses 𝓤 H A mem run) .post Passed
@@ -116,13 +132,13 @@ module _ {M : Type 1} (𝓤 : URA M) (H : Heap 𝓤) (A : Atoms 𝓤) (W : Given
   abbrev Left : Val → MakeNew → RecvQueue → List CellRecord → List (Item 𝓤)
   Left u a h′ l = ‵ (Z.the-row .own (madeWith a h′ (new l)) (u ∷ [])) ∷ ‵ (flft κ₀ q₀) ∷ []
 
-  exits : (u : Val) (a : MakeNew) (h′ : RecvQueue) (l : List CellRecord) → madeNew a h′ l ≡ makeNewOf h (take m rs) cs → length l
+  exits : (u : Val) (a : MakeNew) (h′ : RecvQueue) (l : List CellRecord) → madeNew a h′ l ≡ makeNewOf p h (take m rs) cs → length l
       ≡ length (take m rs) → ent 𝓤 (⋆ 𝓤 H A (Left u a h′ l)) (Post u)
   exits u a h′ l said e1 =
       qed W (Left u a h′ l) ∵ suffices ! _ (ends-at 𝓤 H A here.ended stayed (here.clauses 𝓤 H A mem run) W Passed u (madeWith a h′ (new l))
-      (tt, (tt, (tt, (tt, tt)))) (tt, (tt, (tt, (tt, tt))))) $ says ! (made-held n rs l (isr .1 .0 .1) e1 h cs a h′ said) $
+      (tt, (tt, (tt, (tt, (tt, tt))))) (tt, (tt, (tt, (tt, (tt, tt)))))) $ says ! (made-held n rs l (isr .1 .0 .1) e1 p h cs a h′ said) $
       nothing ! $ move ! (2 ∷ 0 ∷ []) $ join ! $ frame ! $ nothing ! $ nothing ! $ fjoin ! $ nothing ! $ fjoin ! $ nothing ! $ fjoin ! $
-      nothing ! $ fjoin ! $ done !
+      nothing ! $ fjoin ! $ nothing ! $ fjoin ! $ done !
 
   -- ---- the call that puts the answer beside what was lent
   module _ (a : MakeNew) (q : RecvQueue) (rs′ : List CellRecord) (va vq′ vr : Val) where
@@ -149,46 +165,47 @@ module _ {M : Type 1} (𝓤 : URA M) (H : Heap 𝓤) (A : Atoms 𝓤) (W : Given
   module _ (C″ : Calls 𝓤 H) (Λ : Loops 𝓤 H) (fm : FmC 𝓤 H (W .laws) C″) (known-use : Triple 𝓤 (C″ #use) (InUse 𝓤 H A mem run))
       (known : Triple 𝓤 (C″ #call) (Make 𝓤 H A mem run)) (known-with : Triple 𝓤 (C″ #with) (With 𝓤 H A mem run)) where
     walk : Begins (Go {0}) W here.signature (Passed .0) C″ Λ code.function Post
-    walk = begins ! (keep ! (4 ∷ 3 ∷ 0 ∷ 1 ∷ []))
+    walk = begins ! (keep ! (5 ∷ 3 ∷ 0 ∷ 1 ∷ []))
         ((LL.lawful Q.the-type Q′.the-laws 𝓤 H A W .typed h _ isq .0) & (typed rs (valOf rs) isr) & (tt, record { fits = small })
-        & (tt, (tt, (record { fits = room₀ .0 }, tt))) & tt)
-        (λ l₀ l₁ l₂ l₃ l₄ l₅ l₆ l₇ l₈ l₉ l₁₀ l₁₁ l₁₂ l₁₃. keep ! (0 ∷ 1 ∷ 2 ∷ 9 ∷ 3 ∷ 10 ∷ 4 ∷ 5 ∷ 6 ∷ 7 ∷ 8 ∷ 11 ∷ 12 ∷ 13 ∷ 14 ∷ 15
-        ∷ 16 ∷ 17 ∷ 18 ∷ 19 ∷ 20 ∷ 21 ∷ 22 ∷ 23 ∷ 24 ∷ 25 ∷ 26 ∷ 27 ∷ 28 ∷ 29 ∷ 30 ∷ 31 ∷ []) $
+        & (tt, (tt, (record { fits = room₀ .0 }, tt)))
+        & (EL.lawful P.the-type P′.the-laws 𝓤 H A W tt .typed p _ isp .0) & tt)
+        (λ l₀ l₁ l₂ l₃ l₄ l₅ l₆ l₇ l₈ l₉ l₁₀ l₁₁ l₁₂ l₁₃ l₁₄. keep ! (0 ∷ 1 ∷ 2 ∷ 10 ∷ 3 ∷ 11 ∷ 4 ∷ 5 ∷ 6 ∷ 7 ∷ 8 ∷ 9 ∷ 12 ∷ 13 ∷ 14
+        ∷ 15 ∷ 16 ∷ 17 ∷ 18 ∷ 19 ∷ 20 ∷ 21 ∷ 22 ∷ 23 ∷ 24 ∷ 25 ∷ 26 ∷ 27 ∷ 28 ∷ 29 ∷ 30 ∷ 31 ∷ 32 ∷ 33 ∷ []) $
         -- 6: [the tokens; the parameters by reference; the receiver and its local; the records and their local]
         assigns ! (of-opd ! (var ! (6 + 1) refl)) (from ! (stop !))
         (init ! 3 refl (LL.lawful Q.the-type Q′.the-laws 𝓤 H A W .typed h _ isq .0)) $
         assigns ! (of-opd ! (var ! (6 + 2) refl)) (from ! (stop !)) (init ! 5 refl (typed rs (valOf rs) isr)) $
         calls-use 𝓤 H A W mem run n ! fm known-use small (and-then ! (var ! (7 + 3) refl) (no-more !)) (λ z g.
-        land ! (from ! (stop !)) (init ! (4 + 7) refl (subst (λ (z : Val). T (hasTy (tyInt w64) z) × WT z) (sym (g .0))
-        (tt, record { fits = g .1 }))) $ rewrite ! (4 + 7) (λ (z : Val). ‵ (fat fullShare (tyInt w64) l₇ 0 z)) (g .0) refl $
-        move ! (5 ∷ 4 ∷ []) $ lending-first C.the-row tt 256 l₆ m (min-le-right n 256) room ! tt rs (λ α δ.
-        move ! (6 ∷ 5 ∷ []) $ lending-whole Q.the-row l₅ refl Q′.mir refl ! tt h (λ β ε.
+        land ! (from ! (stop !)) (init ! (4 + 8) refl (subst (λ (z : Val). T (hasTy (tyInt w64) z) × WT z) (sym (g .0))
+        (tt, record { fits = g .1 }))) $ rewrite ! (4 + 8) (λ (z : Val). ‵ (fat fullShare (tyInt w64) l₈ 0 z)) (g .0) refl $
+        move ! (5 ∷ 4 ∷ []) $ lending-first C.the-row tt 256 l₇ m (min-le-right n 256) room ! tt rs (λ α δ.
+        move ! (6 ∷ 5 ∷ []) $ lending-whole Q.the-row l₆ refl Q′.mir refl ! tt h (λ β ε.
         -- 8: [the lent receiver; its lender's part; [β]; the lent records; their lender's part; [α]; the other tokens and parameters]
-        assigns ! (addr ! (from ! (stop !))) (from ! (stop !)) (init ! (6 + 9) refl (tt, tt)) $
         assigns ! (addr ! (from ! (stop !))) (from ! (stop !)) (init ! (6 + 10) refl (tt, tt)) $
-        assigns ! (agg ! (and-then ! (var ! (6 + 10) refl) (and-then ! (var ! (6 + 7) refl) (no-more !)))) (from ! (stop !))
-        (init ! (6 + 11) refl (tt, (tt, (record { fits = g .1 }, tt)))) $
-        move ! (2 ∷ 5 ∷ 6 ∷ 0 ∷ 3 ∷ 7 ∷ []) $ calls-make 𝓤 H A W mem run (β ∷ []) (α ∷ []) κ₀ fullShare fullShare q₀ (y l₅ ε h) (x l₆ δ) d
-        (vptr l₅ 0) (vx l₆) vd ! fm known (and-then ! (var ! (1 + 9) refl)
-        (and-then ! (var ! (1 + 11) refl) (and-then ! (var ! (3 + 4) refl) (no-more !)))) (λ v a h′ l is.
+        assigns ! (addr ! (from ! (stop !))) (from ! (stop !)) (init ! (6 + 11) refl (tt, tt)) $
+        assigns ! (agg ! (and-then ! (var ! (6 + 11) refl) (and-then ! (var ! (6 + 8) refl) (no-more !)))) (from ! (stop !))
+        (init ! (6 + 12) refl (tt, (tt, (record { fits = g .1 }, tt)))) $
+        move ! (2 ∷ 5 ∷ 6 ∷ 0 ∷ 3 ∷ 7 ∷ []) $ calls-make 𝓤 H A W mem run (β ∷ []) (α ∷ []) κ₀ fullShare fullShare q₀ (y l₆ ε h) (x l₇ δ) d
+        p (vptr l₆ 0) (vx l₇) vd vp ! fm known isp (and-then ! (var ! (1 + 10) refl)
+        (and-then ! (var ! (1 + 12) refl) (and-then ! (var ! (3 + 4) refl) (and-then ! (var ! (3 + 5) refl) (no-more !))))) (λ v a h′ l is.
         -- 8: [the answer; the tokens; the last values; the lenders' parts]
         peeks ! R.the-row (Is R.the-row) (shows 𝓤 H A R.the-row) a (v ∷ []) (λ isa.
-        land ! (from ! (stop !)) (init ! (6 + 8) refl (EL.lawful R.the-type R′.the-laws 𝓤 H A W tt .typed a _ isa .0)) $
+        land ! (from ! (stop !)) (init ! (6 + 9) refl (EL.lawful R.the-type R′.the-laws 𝓤 H A W tt .typed a _ isa .0)) $
         -- the lifetimes are ended, and what was lent comes back
-        move ! (1 ∷ 6 ∷ 4 ∷ []) $ returned-whole Q.the-row l₅ refl Q′.mir refl ! tt β ε h′ (λ vq′.
-        move ! (3 ∷ 6 ∷ 5 ∷ []) $ returned-first C.the-row tt 256 l₆ m (min-le-right n 256) room ! tt α δ rs l (λ vr.
+        move ! (1 ∷ 6 ∷ 4 ∷ []) $ returned-whole Q.the-row l₆ refl Q′.mir refl ! tt β ε h′ (λ vq′.
+        move ! (3 ∷ 6 ∷ 5 ∷ []) $ returned-first C.the-row tt 256 l₇ m (min-le-right n 256) room ! tt α δ rs l (λ vr.
         move ! (3 ∷ []) $ peeks ! Q.the-row (Is Q.the-row) (shows 𝓤 H A Q.the-row) h′ (vq′ ∷ []) (λ isq′.
         assigns ! (of-opd ! (var ! 3 refl)) (from ! (stop !))
-        (init ! (4 + 12) refl (LL.lawful Q.the-type Q′.the-laws 𝓤 H A W .typed h′ _ isq′ .0)) $
+        (init ! (4 + 13) refl (LL.lawful Q.the-type Q′.the-laws 𝓤 H A W .typed h′ _ isq′ .0)) $
         move ! (2 ∷ []) $ peeks ! Cells (Is Cells) (shows 𝓤 H A Cells) (new l) (vr ∷ []) (λ isr′.
-        assigns ! (of-opd ! (var ! 2 refl)) (from ! (stop !)) (init ! (4 + 13) refl (typed (new l) vr isr′)) $
+        assigns ! (of-opd ! (var ! 2 refl)) (from ! (stop !)) (init ! (4 + 14) refl (typed (new l) vr isr′)) $
         move ! (4 ∷ 1 ∷ 0 ∷ []) $ use3 W (raw (With 𝓤 H A mem run .pre (to-with a h′ (new l) v vq′ vr))) (goes-with a h′ (new l) v vq′ vr) $
         calls-at ! fm (With 𝓤 H A mem run) known-with (to-with a h′ (new l) v vq′ vr)
-        (and-then ! (var ! (2 + 8) refl) (and-then ! (var ! (2 + 12) refl) (and-then ! (var ! (2 + 13) refl) (no-more !)))) (λ u.
+        (and-then ! (var ! (2 + 9) refl) (and-then ! (var ! (2 + 13) refl) (and-then ! (var ! (2 + 14) refl) (no-more !)))) (λ u.
         use1 W (later (‵ (Z.the-row .own (madeWith a h′ (new l)) (u ∷ [])))) (gives-with a h′ (new l) v vq′ vr u) $ await ! tt $
         peeks ! Z.the-row (Is Z.the-row) (shows 𝓤 H A Z.the-row) (madeWith a h′ (new l)) (u ∷ []) (λ isz.
         land ! (from ! (stop !)) (init ! 4 refl (LL.lawful Z.the-type Z′.the-laws 𝓤 H A W .typed (madeWith a h′ (new l)) _ isz .0)) $
-        returns ! (look ! 4 refl) $ move ! (0 ∷ 3 ∷ 4 ∷ 5 ∷ 6 ∷ 7 ∷ 8 ∷ 2 ∷ []) $ gone ! 2 refl $
+        returns ! (look ! 4 refl) $ move ! (0 ∷ 3 ∷ 4 ∷ 5 ∷ 6 ∷ 7 ∷ 8 ∷ 9 ∷ 2 ∷ []) $ gone ! 2 refl $
         by ! (exits u a h′ l (is .1) (is .0))))))))))))))
 
 module _ {M : Type 1} (𝓤 : URA M) (H : Heap 𝓤) (A : Atoms 𝓤) (W : Given 𝓤 H A) (mem : Memory → SProp 𝓤) (run : Routine → Fun 𝓤)
@@ -198,8 +215,9 @@ module _ {M : Type 1} (𝓤 : URA M) (H : Heap 𝓤) (A : Atoms 𝓤) (W : Given
   here-meets = meets here.ended ways 𝓤 H A W 𝓣 code.function (here.clauses 𝓤 H A mem run)
       (λ κs qs bounds a g are. via 𝓤 _ (fst∗ 𝓤 _ (emp 𝓤))
       (walk 𝓤 H A W mem run (κs .0) (qs .0) (a .0) (a .1 .0) (a .1 .1 .0) (a .1 .1 .1 .0 .ptr .0) (a .1 .1 .1 .0 .ptr .1)
-      (a .1 .1 .1 .0 .name) (a .1 .1 .1 .0 .now)
-      (are .0) (are .1 .0) (are .1 .1 .0 .1) (are .1 .1 .1 .0 .0 .1) (𝓣 .C) (𝓣 .Λ) (fmOf 𝓤 H (W .laws) 𝓣) known-use known known-with .go))
+      (a .1 .1 .1 .0 .name) (a .1 .1 .1 .0 .now) (a .1 .1 .1 .1 .0)
+      (are .0) (are .1 .0) (are .1 .1 .0 .1) (are .1 .1 .1 .0 .0 .1) (are .1 .1 .1 .1 .0) (𝓣 .C) (𝓣 .Λ) (fmOf 𝓤 H (W .laws) 𝓣) known-use
+      known known-with .go))
 
 pub make-held-spec : {M : Type 1} → stated.statement M
 unfolding code.routine tablesOf

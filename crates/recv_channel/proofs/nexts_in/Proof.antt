@@ -7,10 +7,10 @@ use Rattle.recv_channel.proofs.nexts_in.Statement.{statement}
 use Rattle.recv_channel.proofs.nexts_in.Tie as tie
 
 abbrev Inv-loop : tie.InvT-loop
-Inv-loop newest channels nexts₀ i₀ nexts i = Filled channels i nexts
+Inv-loop newest profile channels nexts₀ i₀ nexts i = Filled channels i nexts
 
 abbrev μ-loop : tie.MeasureT-loop
-μ-loop newest channels nexts₀ i₀ nexts i = 32 - i
+μ-loop newest profile channels nexts₀ i₀ nexts i = 32 - i
 
 loop-holds : tie.Need-loop-holds Inv-loop μ-loop
 loop-holds c = record { few = omega arith; long = refl; nexts = λ j l. absurd (omega arith); memories = λ j l. absurd (omega arith) }
@@ -54,6 +54,9 @@ loop-again c = fill-more _ _ _ _ _ (c .before .before .loop .inv) (omega arith) 
 array-write-nexts-3 : tie.Need-array-write-nexts-3 Inv-loop μ-loop
 array-write-nexts-3 c = search needs
 
+array-write-nexts-4 : tie.Need-array-write-nexts-4 Inv-loop μ-loop
+array-write-nexts-4 c = search needs
+
 returns : tie.Need-returns Inv-loop μ-loop
 returns c = search (needs, filled-all)
 
@@ -77,4 +80,5 @@ nexts-in-spec =
     loop-less
     loop-again
     array-write-nexts-3
+    array-write-nexts-4
     returns)

@@ -1,5 +1,5 @@
--- `recv_channel::nexts_of` meets its contract: a walk of its MIR, by hand. The borrow is looked into, the channels and the receiver's own
--- memory are copied out by value, the borrow is shut, and the covered function `nexts_in` makes numbers of the copies.
+-- `recv_channel::nexts_of` meets its contract: a walk of its MIR, by hand. The borrow is looked into, the channels, the receiver's own
+-- memory and its profile are copied out by value, the borrow is shut, and the covered function `nexts_in` makes numbers of the copies.
 -- Assumes nothing.
 use Rattle.walks.proofs.Walk.{_≡_, refl, ℕ, _+_, [], _∷_, List, map, URA, w32, tyArray, Val, vptr, hasTy, WT, SProp, ent}
 use Rattle.walks.proofs.Walk.{emp, via, fst∗, GName}
@@ -24,7 +24,7 @@ use Rattle.walks.proofs.Begin.{Begins, begins}
 use Rattle.walks.proofs.Ways.{_&_, Ways, had-at-exit, meets, read-ref}
 use Rattle.receiver.specs.Parts.{nextsIn, nextsOf}
 use Rattle.walks.proofs.Behind.{is-back, unraw}
-use Rattle.recv_channel.proofs.Receiver.{newest-fits}
+use Rattle.recv_channel.proofs.Receiver.{newest-fits, profile-fits}
 use Rattle.recv_channel.proofs.Calls.{NextsIn, calls-nexts-in}
 use Rattle.recv_channel.proofs.nexts_in.Symbol as nexts-in-def
 use Rattle.recv_channel.proofs.nexts_in.Symbol.{name as #recv-channel·nexts-in}
@@ -62,7 +62,7 @@ module _ {M : Type 1} (𝓤 : URA M) (H : Heap 𝓤) (A : Atoms 𝓤) (W : Given
 
   -- its numbers
   abbrev ns : List ℕ
-  ns = nextsIn (h .channels) (h .newest)
+  ns = nextsIn (h .channels) (h .newest) (h .profile)
 
   are-nexts : ns ≡ nextsOf h
   unfolding nextsOf
@@ -74,9 +74,9 @@ module _ {M : Type 1} (𝓤 : URA M) (H : Heap 𝓤) (A : Atoms 𝓤) (W : Given
   abbrev Post : Val → SProp 𝓤
   Post = walkOf 𝓤 H A f.ended stayed (f.clauses 𝓤 H A mem run) .post Bound
 
-  exits : (v : Val) → ent 𝓤 (⋆ 𝓤 H A (‵ (Array u32 65 .own ns (v ∷ [])) ∷ ‵ (flft κ q) ∷ [])) (Post v)
+  exits : (v : Val) → ent 𝓤 (⋆ 𝓤 H A (‵ (Array u32 66 .own ns (v ∷ [])) ∷ ‵ (flft κ q) ∷ [])) (Post v)
   exits v =
-      qed W (‵ (Array u32 65 .own ns (v ∷ [])) ∷ ‵ (flft κ q) ∷ []) ∵
+      qed W (‵ (Array u32 66 .own ns (v ∷ [])) ∷ ‵ (flft κ q) ∷ []) ∵
       suffices ! _ (ends-at 𝓤 H A f.ended stayed (f.clauses 𝓤 H A mem run) W Bound v ns (tt, tt) (tt, tt)) $
       says ! are-nexts $
       nothing ! $ move ! (2 ∷ 0 ∷ []) $ join ! $ frame ! $ nothing ! $ nothing ! $ fjoin ! $ done !
@@ -86,7 +86,7 @@ module _ {M : Type 1} (𝓤 : URA M) (H : Heap 𝓤) (A : Atoms 𝓤) (W : Given
     walk : Begins (Go {0}) W f.signature (Bound .0) C₀ Λ code.function Post
     walk = begins ! (step (λ z. keep ! (0 ∷ 1 ∷ []) $ fsplit3 ! $ keep ! (2 ∷ 3 ∷ []) $ z))
         ((tt, tt) & tt)
-        (λ l₀ l₁ l₂ l₃.
+        (λ l₀ l₁ l₂ l₃ l₄.
         looks ! tt T.the-row (Is T.the-row) (shows 𝓤 H A T.the-row) valsOf (LL.tells T.the-type T′.the-laws)
         (LL.copy T.the-type T′.the-copy 𝓤 H A W) h b o (λ q′ vs.
         spelt ! T.the-row (Is T.the-row) (shows 𝓤 H A T.the-row) valsOf (LL.tells T.the-type T′.the-laws) q′ h vs b o $ move ! (1 ∷ []) $
@@ -96,15 +96,18 @@ module _ {M : Type 1} (𝓤 : URA M) (H : Heap 𝓤) (A : Atoms 𝓤) (W : Given
         (look-in ! 0 (unraw ! (sub ! 2 refl (whole !)))))) (from ! (stop !)) (init ! (4 + 2) refl (typed was)) $
         assigns ! (of-opd ! (load ! (from ! (hop ! (look ! (4 + 1) refl) (fld ! refl (stop !)))) (look-in ! 0 (sub ! 5 refl (whole !)))))
         (from ! (stop !)) (init ! (4 + 3) refl (tt, record { fits = newest-fits h was })) $
+        assigns ! (of-opd ! (load ! (from ! (hop ! (look ! (4 + 1) refl) (fld ! refl (stop !)))) (look-in ! 0 (sub ! 6 refl (whole !)))))
+        (from ! (stop !)) (init ! (4 + 4) refl (tt, record { fits = profile-fits h was })) $
         shuts ! tt T.the-row q′ h (valsOf h) b o $ move ! (1 ∷ []) $ drop ! $
         owned ! (Array C.the-row 32) (Is (Array C.the-row 32)) (array-makes 𝓤 H A W C.the-row (LL.makes C.the-type C′.the-plain 𝓤 H A) 32)
         (h .channels) (mach ∷ []) (channels-are was) $
         -- 2: [what the copy owns; [κ]]
-        calls-nexts-in 𝓤 H A W mem run (h .channels) (h .newest) mach ! fm known (newest-fits h was)
-        (and-then ! (var ! (2 + 2) refl) (and-then ! (var ! (2 + 3) refl) (no-more !))) (λ v.
-        peeks ! (Array u32 65) (Is (Array u32 65)) (shows 𝓤 H A (Array u32 65)) ns (v ∷ []) (λ are.
+        calls-nexts-in 𝓤 H A W mem run (h .channels) (h .newest) (h .profile) mach ! fm known (newest-fits h was)
+        (profile-fits h was)
+        (and-then ! (var ! (2 + 2) refl) (and-then ! (var ! (2 + 3) refl) (and-then ! (var ! (2 + 4) refl) (no-more !)))) (λ v.
+        peeks ! (Array u32 66) (Is (Array u32 66)) (shows 𝓤 H A (Array u32 66)) ns (v ∷ []) (λ are.
         -- 2: [what the numbers own; [κ]]
-        land ! (from ! (stop !)) (init ! (2 + 0) refl (array-lawful 𝓤 H A W u32 (uint-lawful 𝓤 H A W w32) 65 .typed ns
+        land ! (from ! (stop !)) (init ! (2 + 0) refl (array-lawful 𝓤 H A W u32 (uint-lawful 𝓤 H A W w32) 66 .typed ns
         _ are .0)) $
         returns ! (look ! 2 refl) $ gone ! 2 refl $ by ! (exits v))))))
 

@@ -157,8 +157,8 @@ module _ {M : Type 1} (𝓤 : URA M) (H : Heap 𝓤) (A : Atoms 𝓤) (W : Given
     bytes-typed : (zs : List ℕ) (v : Val) → Is (Array u8 256) zs (v ∷ []) → Holds (hasTy (tyArray (tyInt w8) 256) v) × WT v
     bytes-typed zs v are = array-lawful 𝓤 H A W u8 (uint-lawful 𝓤 H A W w8) 256 .typed zs _ are .0
 
-    numbers-typed : (zs : List ℕ) (v : Val) → Is (Array u32 65) zs (v ∷ []) → Holds (hasTy (tyArray (tyInt w32) 65) v) × WT v
-    numbers-typed zs v are = array-lawful 𝓤 H A W u32 (uint-lawful 𝓤 H A W w32) 65 .typed zs _ are .0
+    numbers-typed : (zs : List ℕ) (v : Val) → Is (Array u32 66) zs (v ∷ []) → Holds (hasTy (tyArray (tyInt w32) 66) v) × WT v
+    numbers-typed zs v are = array-lawful 𝓤 H A W u32 (uint-lawful 𝓤 H A W w32) 66 .typed zs _ are .0
 
     walk : Begins (Go {0}) W f.signature (Bound .0) C₀ Λ code.function Post
     walk = begins ! (step (λ z. keep ! (0 ∷ 6 ∷ 1 ∷ 7 ∷ 4 ∷ 8 ∷ 5 ∷ 9 ∷ []) $ fsplit3 ! $ drop ! $ z))
@@ -185,7 +185,7 @@ module _ {M : Type 1} (𝓤 : URA M) (H : Heap 𝓤) (A : Atoms 𝓤) (W : Given
         assigns ! (addr ! (from ! (hop ! (look ! (9 + 1) refl) (stop !)))) (from ! (stop !)) (init ! (9 + 12) refl (tt, tt)) $
         sharing-ref T.the-row κ₀ q₀ (x γ h) ! tt (λ α₁ δ₁. move ! (2 ∷ 0 ∷ []) $
         calls-nexts-of 𝓤 H A W mem run (α₁ ∷ []) fullShare (x δ₁ h) (vptr b o) ! fm known-nexts
-        (and-then ! (var ! (12 + 12) refl) (no-more !)) (λ v₁. peeks ! (Array u32 65) (Is (Array u32 65)) (shows 𝓤 H A (Array u32 65))
+        (and-then ! (var ! (12 + 12) refl) (no-more !)) (λ v₁. peeks ! (Array u32 66) (Is (Array u32 66)) (shows 𝓤 H A (Array u32 66))
         ns (v₁ ∷ []) (λ are₁.
         land ! (from ! (stop !)) (init ! (13 + 11) refl (numbers-typed ns v₁ are₁)) $ assigns ! (of-opd ! (var ! (13 + 11) refl))
         (from ! (stop !)) (init ! (13 + 29) refl (numbers-typed ns v₁ are₁)) $
@@ -207,10 +207,10 @@ module _ {M : Type 1} (𝓤 : URA M) (H : Heap 𝓤) (A : Atoms 𝓤) (W : Given
         relends ! (10 + 2) (10 + 18) (10 + 19) refl refl (room₁ .0) $
         relends ! (10 + 5) (10 + 20) (10 + 21) refl refl (room₂ .0) $
         move ! ((10 + 28) ∷ 5 ∷ []) $ lending-local u8 tt 256 l₇ (lit< tt, lit< tt) ! tt rs (λ β δ₂. move ! ((12 + 28) ∷ 7 ∷ []) $
-        lending-local u32 tt 65 l₈ (lit< tt, lit< tt) ! tt ns (λ ε δ₃. move ! (8 ∷ 9 ∷ []) $
+        lending-local u32 tt 66 l₈ (lit< tt, lit< tt) ! tt ns (λ ε δ₃. move ! (8 ∷ 9 ∷ []) $
         sharing-ref T.the-row κ₀ q₀ (x γ h) ! tt (λ α₂ δ₄. move ! (2 ∷ 11 ∷ 8 ∷ 15 ∷ 17 ∷ 12 ∷ 0 ∷ 9 ∷ 6 ∷ 14 ∷ 16 ∷ 13 ∷ []) $
         calls-on 𝓤 H A W mem run (α₂ ∷ []) (β ∷ []) (ε ∷ []) κ₁ κ₂ κ₃ fullShare fullShare fullShare q₁ q₂ q₃ (x δ₄ h) (copied l₇ δ₂ rs)
-        (copied l₈ δ₃ ns) w k c s g (vptr b o) (sliceVal (l₇, 0) 256) (sliceVal (l₈, 0) 65) vw vs vg ! fm known-on k-fits c-fits
+        (copied l₈ δ₃ ns) w k c s g (vptr b o) (sliceVal (l₇, 0) 256) (sliceVal (l₈, 0) 66) vw vs vg ! fm known-on k-fits c-fits
         (and-then ! (var ! (7 + 13) refl) (and-then ! (var ! (7 + 15) refl)
         (and-then ! (var ! (7 + 17) refl) (and-then ! (var ! (7 + 19) refl)
         (and-then ! (var ! (7 + 3) refl) (and-then ! (var ! (7 + 4) refl)
@@ -224,7 +224,7 @@ module _ {M : Type 1} (𝓤 : URA M) (H : Heap 𝓤) (A : Atoms 𝓤) (W : Given
         peeks ! P.the-row (Is P.the-row) (shows 𝓤 H A P.the-row) a (va a ∷ []) (λ is₁.
         move ! (1 ∷ 11 ∷ 12 ∷ 13 ∷ 14 ∷ []) $ unshared-ref T.the-row κ₀ q₀ (x γ h) ! tt α₂ $ move ! (3 ∷ 13 ∷ 8 ∷ []) $
         returned-local u8 tt 256 l₇ (lit< tt, lit< tt) ! tt β δ₂ z₁ (λ v₇. move ! (5 ∷ 12 ∷ 9 ∷ []) $
-        returned-local u32 tt 65 l₈ (lit< tt, lit< tt) ! tt ε δ₃ z₂ (λ v₈.
+        returned-local u32 tt 66 l₈ (lit< tt, lit< tt) ! tt ε δ₃ z₂ (λ v₈.
         -- 12: [_8; what the nexts own; _7; what the bits own; the receiver; [κ₀]; the answer; [κ₁]; [κ₂]; [κ₃]; the words'; the store's]
         assigns ! (addr ! (from ! (hop ! (look ! (12 + 1) refl) (stop !)))) (from ! (stop !)) (init ! (12 + 23) refl (tt, tt)) $
         assigns ! (addr ! (from ! (stop !))) (from ! (stop !)) (init ! (12 + 24) refl (tt, tt)) $
@@ -234,15 +234,15 @@ module _ {M : Type 1} (𝓤 : URA M) (H : Heap 𝓤) (A : Atoms 𝓤) (W : Given
         assigns ! (agg ! (and-then ! (var ! (12 + 26) refl) (and-then ! (lit ! tt) (no-more !)))) (from ! (stop !))
         (init ! (12 + 27) refl (tt, (tt, (record { fits = lit< tt }, tt)))) $
         move ! (2 ∷ 3 ∷ []) $ sharing-local u8 tt 256 l₇ (lit< tt, lit< tt) ! tt z₁ (λ β₁ δ₅. move ! (3 ∷ 4 ∷ []) $
-        sharing-local u32 tt 65 l₈ (lit< tt, lit< tt) ! tt z₂ (λ ε₁ δ₆. move ! (6 ∷ 7 ∷ []) $ lending-again T.the-row κ₀ q₀ (x γ h) ! tt
+        sharing-local u32 tt 66 l₈ (lit< tt, lit< tt) ! tt z₂ (λ ε₁ δ₆. move ! (6 ∷ 7 ∷ []) $ lending-again T.the-row κ₀ q₀ (x γ h) ! tt
         (λ α₃ δ₇. move ! (2 ∷ 8 ∷ 5 ∷ 0 ∷ 9 ∷ 6 ∷ 3 ∷ []) $
         calls-settle 𝓤 H A W mem run (α₃ ∷ []) (β₁ ∷ []) (ε₁ ∷ []) fullShare fullShare fullShare (x δ₇ h) a (copied l₇ δ₅ z₁)
-        (copied l₈ δ₆ z₂) (datagramNumber dg) (vptr b o) (va a) (sliceVal (l₇, 0) 256) (sliceVal (l₈, 0) 65) ! fm known-settle (e₂ .1)
+        (copied l₈ δ₆ z₂) (datagramNumber dg) (vptr b o) (va a) (sliceVal (l₇, 0) 256) (sliceVal (l₈, 0) 66) ! fm known-settle (e₂ .1)
         (and-then ! (var ! (9 + 23) refl) (and-then ! (var ! (9 + 8) refl)
         (and-then ! (var ! (9 + 25) refl) (and-then ! (var ! (9 + 27) refl) (and-then ! (var ! (9 + 7) refl) (no-more !)))))) (λ v₄ e₇.
         land ! (from ! (stop !)) (init ! (12 + 22) refl (unit-typed e₇)) $ move ! (0 ∷ 4 ∷ 3 ∷ []) $ returned-again T.the-row κ₀ q₀ (x γ h)
         ! tt α₃ δ₇ (h′ a z₁ z₂) $ move ! (2 ∷ 5 ∷ []) $ unshared-local u8 tt 256 l₇ (lit< tt, lit< tt) ! tt z₁ β₁
-        (λ v₇′. move ! (3 ∷ 4 ∷ []) $ unshared-local u32 tt 65 l₈ (lit< tt, lit< tt) ! tt z₂ ε₁ (λ v₈′.
+        (λ v₇′. move ! (3 ∷ 4 ∷ []) $ unshared-local u32 tt 66 l₈ (lit< tt, lit< tt) ! tt z₂ ε₁ (λ v₈′.
         -- the locals _7 and _8 stand first
         assigns ! (of-opd ! (load ! (from ! (fld ! refl (stop !))) (look-in ! (9 + 8) (sub ! 0 refl (whole !))))) (from ! (stop !))
         (init ! (9 + 0) refl (EL.lawful E.the-type E′.the-laws 𝓤 H A W tt .typed (a .answer) _ (answer-is a is₁) .0)) $

@@ -136,7 +136,7 @@ module _ {M : Type 1} (𝓤 : URA M) (H : Heap 𝓤) (A : Atoms 𝓤) (W : Given
         -- 8: [the reference; [κ₀]; words; [κ₁]; store; [κ₂]; joining buffer; [κ₃]]
         use1 W (‵ Ref ⊛ ‵ Ref) (shr-copy 𝓤 H A W (named 0) κ₀ T.the-row .twice x (vptr b o ∷ [])) $ split ! $ move ! (2 ∷ 0 ∷ []) $
         calls-nexts-of 𝓤 H A W mem run κ₀ q₀ x (vptr b o) ! fm known-nexts (and-then ! (var ! (8 + 1) refl) (no-more !))
-        (λ v. peeks ! (Array u32 65) (Is (Array u32 65)) (shows 𝓤 H A (Array u32 65)) ns (v ∷ []) (λ are.
+        (λ v. peeks ! (Array u32 66) (Is (Array u32 66)) (shows 𝓤 H A (Array u32 66)) ns (v ∷ []) (λ are.
         land ! (from ! (stop !)) (init ! (9 + 8) refl (numbers-typed v are)) $ assigns ! (of-opd ! (var ! (9 + 8) refl)) (from ! (stop !))
         (init ! (9 + 22) refl (numbers-typed v are)) $
         move ! (2 ∷ []) $ fsplit3 ! $ drop ! $ drop ! $ move ! (0 ∷ 2 ∷ []) $
@@ -177,7 +177,7 @@ module _ {M : Type 1} (𝓤 : URA M) (H : Heap 𝓤) (A : Atoms 𝓤) (W : Given
         (from ! (stop !)) (init ! (10 + 19) refl (tt, (tt, (record { fits = lit< tt }, tt)))) $
         relends ! (10 + 6) (10 + 20) (10 + 21) refl refl (room₃ .0) $
         -- the local is lent, and the token cut in three
-        move ! ((10 + 22) ∷ 3 ∷ []) $ sharing-local u32 tt 65 l₇ (lit< tt, lit< tt) ! tt ns (λ ν δ₀. move ! (4 ∷ []) $
+        move ! ((10 + 22) ∷ 3 ∷ []) $ sharing-local u32 tt 66 l₇ (lit< tt, lit< tt) ! tt ns (λ ν δ₀. move ! (4 ∷ []) $
         use1 W (‵ (flft κ₀ (PosShare·left q₀)) ⊛ ‵ (flft κ₀ (PosShare·right q₀))) (W .lfts .lft-split κ₀ q₀) $ split ! $
         move ! (1 ∷ []) $
         use1 W (‵ (flft κ₀ (PosShare·left (PosShare·right q₀))) ⊛ ‵ (flft κ₀ (PosShare·right (PosShare·right q₀))))
@@ -192,7 +192,7 @@ module _ {M : Type 1} (𝓤 : URA M) (H : Heap 𝓤) (A : Atoms 𝓤) (W : Given
         calls-take-rows 𝓤 H A W mem run (α ∷ []) (β ∷ []) (ν ∷ []) (ε ∷ []) κ₁ κ₂ κ₃ fullShare fullShare fullShare fullShare q₁ q₂ q₃
         (headsOf h) (lent (o + 0 + 4) δ₁ (h .datagrams .bits)) (lent (o + 260 + 4) δ₂ (h .reliables .bits))
         (record { ptr = (l₇, 0); name = δ₀; now = ns }) (lent (o + 776) δ₃ (h .unsent)) w k c s j vh (sliceVal (b, o + 0 + 4) 256)
-        (sliceVal (b, o + 260 + 4) 256) (sliceVal (l₇, 0) 65) (sliceVal (b, o + 776) 1024) vw vs vj ! fm known-rows k-fits c-fits
+        (sliceVal (b, o + 260 + 4) 256) (sliceVal (l₇, 0) 66) (sliceVal (b, o + 776) 1024) vw vs vj ! fm known-rows k-fits c-fits
         (and-then ! (var ! (11 + 7) refl) (and-then ! (var ! (11 + 13) refl)
         (and-then ! (var ! (11 + 15) refl) (and-then ! (var ! (11 + 17) refl)
         (and-then ! (var ! (11 + 19) refl) (and-then ! (var ! (11 + 2) refl)
@@ -208,12 +208,12 @@ module _ {M : Type 1} (𝓤 : URA M) (H : Heap 𝓤) (A : Atoms 𝓤) (W : Given
         α $
         move ! (1 ∷ 2 ∷ []) $ use2 W (‵ (flft κ₀ (PosShare·right q₀))) (W .lfts .lft-join κ₀ (PosShare·right q₀)) $ move ! (1 ∷ 0 ∷ []) $
         use2 W (‵ (flft κ₀ q₀)) (W .lfts .lft-join κ₀ q₀) $
-        move ! (2 ∷ 7 ∷ []) $ unshared-local u32 tt 65 l₇ (lit< tt, lit< tt) ! tt ns ν (λ v₇. returns ! (look ! (7 + 0) refl) $
+        move ! (2 ∷ 7 ∷ []) $ unshared-local u32 tt 66 l₇ (lit< tt, lit< tt) ! tt ns ν (λ v₇. returns ! (look ! (7 + 0) refl) $
         move ! (2 ∷ 1 ∷ 3 ∷ 4 ∷ 5 ∷ 6 ∷ []) $ move ! (0 ∷ 1 ∷ 2 ∷ 3 ∷ 4 ∷ 5 ∷ 7 ∷ 8 ∷ 9 ∷ 10 ∷ 11 ∷ 12 ∷ 13 ∷ []) $ gone ! 6 refl $
         by ! (exits v₀ a z e (said ∙ ap (λ (q : RecvQueue). takeRowsOf q k c ws st buffer) (own-parts h (channels-long h was))))))))))))))))
       where
-        numbers-typed : (v : Val) → Is (Array u32 65) ns (v ∷ []) → Holds (hasTy (tyArray (tyInt w32) 65) v) × WT v
-        numbers-typed v are = array-lawful 𝓤 H A W u32 (uint-lawful 𝓤 H A W w32) 65 .typed ns _ are .0
+        numbers-typed : (v : Val) → Is (Array u32 66) ns (v ∷ []) → Holds (hasTy (tyArray (tyInt w32) 66) v) × WT v
+        numbers-typed v are = array-lawful 𝓤 H A W u32 (uint-lawful 𝓤 H A W w32) 66 .typed ns _ are .0
 
 module _ {M : Type 1} (𝓤 : URA M) (H : Heap 𝓤) (A : Atoms 𝓤) (W : Given 𝓤 H A) (mem : Memory → SProp 𝓤) (run : Routine → Fun 𝓤)
     (𝓣 : Tables 𝓤 H) (known-nexts : Triple 𝓤 (𝓣 .C #recv-channel·nexts-of) (NextsOf 𝓤 H A mem run))

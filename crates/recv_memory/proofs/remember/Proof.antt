@@ -11,5 +11,7 @@ remember-spec = tie.close (tie.spec
     (λ c. search needs)
     (λ c. search needs)
     (λ c. search (needs, stored))
+    (λ c. search needs)
     (λ c. search (needs, past-the-end))
+    (λ c. search needs)
     (λ c. search (needs, too-large)))

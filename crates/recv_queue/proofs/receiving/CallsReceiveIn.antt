@@ -41,7 +41,7 @@ module _ {M : Type 1} (𝓤 : URA M) (H : Heap 𝓤) (A : Atoms 𝓤) (W : Given
       ∷ ‵ (MutSlice (named 3) ε u8 .own s (vs ∷ [])) ∷ ‵ (ShrSlice (named 4) ζ u8 .own d (vd ∷ [])) ∷ []
 
   abbrev Fits : Type 0
-  Fits = Enough (now x) (now s) (now d) n × (rowWords * n ≤ length (now y))
+  Fits = Enough (now g) (now x) (now s) (now d) n × (rowWords * n ≤ length (now y))
 
   goes-in : Fits → n < 2 ^ 64 → ent 𝓤 (⋆ 𝓤 H A Asks) (In 𝓤 H A mem run .pre to-in)
   goes-in f h = qed W Asks ∵ says ! f $

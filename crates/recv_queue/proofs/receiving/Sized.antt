@@ -84,7 +84,7 @@ module _ {M : Type 1} (𝓤 : URA M) (H : Heap 𝓤) (A : Atoms 𝓤) (W : Given
   module _ (κ₀ κ₁ κ₂ κ₃ : Lft) (q₀ q₁ q₂ q₃ : Share) (b₀ o₀ : ℕ) (γ₀ : GName) (queue : RecvQueue) (b₁ o₁ : ℕ) (γ₁ : GName)
       (rs : List CellRecord) (n : ℕ) (b₂ o₂ : ℕ) (γ₂ : GName) (st : List ℕ) (b₃ o₃ : ℕ) (γ₃ : GName) (dg : List ℕ)
       (room₁ : Room C.the-row (length rs)) (room₂ : Room u8 (length st)) (room₃ : Room u8 (length dg)) (n-fits : n < 2 ^ 64)
-      (enough : Enough rs st dg n) (few-enough : n ≤ B) where
+      (enough : Enough queue rs st dg n) (few-enough : n ≤ B) where
     -- the parameters, and the array as it is lent from the block l
     abbrev g : RefT RecvQueue
     g = record { ptr = (b₀, o₀); name = γ₀; now = queue }
@@ -192,7 +192,7 @@ module _ {M : Type 1} (𝓤 : URA M) (H : Heap 𝓤) (A : Atoms 𝓤) (W : Given
     pub sized-meets : Meets 𝓤 H A few.signature (WpFn 𝓤 H (𝓣 .C) (𝓣 .Λ) (code N len))
         (closing 𝓤 H A few.ended (sized-clauses 𝓤 H A mem run B))
     sized-meets = meets few.ended ways 𝓤 H A W 𝓣 (code N len) (sized-clauses 𝓤 H A mem run B)
-        (λ κs qs bounds a _ are. needs 𝓤 (Enough (now (a .1 .0)) (now (a .1 .1 .1 .0)) (now (a .1 .1 .1 .1 .0)) (a .1 .1 .0)
+        (λ κs qs bounds a _ are. needs 𝓤 (Enough (now (a .0)) (now (a .1 .0)) (now (a .1 .1 .1 .0)) (now (a .1 .1 .1 .1 .0)) (a .1 .1 .0)
         × (a .1 .1 .0 ≤ B)) _ (λ fits.
         walk (κs .0) (κs .1 .0) (κs .1 .1 .0) (κs .1 .1 .1 .0) (qs .0) (qs .1 .0) (qs .1 .1 .0) (qs .1 .1 .1 .0) (a .0 .ptr .0)
         (a .0 .ptr .1) (a .0 .name) (a .0 .now) (a .1 .0 .ptr .0) (a .1 .0 .ptr .1) (a .1 .0 .name) (a .1 .0 .now) (a .1 .1 .0)

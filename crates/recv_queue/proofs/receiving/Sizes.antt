@@ -28,7 +28,8 @@ module _ {M : Type 1} (𝓤 : URA M) (H : Heap 𝓤) (A : Atoms 𝓤) (mem : Mem
   abbrev pub sized-clauses : Clauses 𝓤 few.ended
   sized-clauses κs a = record {
     ghost = Unit {0};
-    requires = λ _. fact 𝓤 (Enough (now (a .1 .0)) (now (a .1 .1 .1 .0)) (now (a .1 .1 .1 .1 .0)) (a .1 .1 .0) × (a .1 .1 .0 ≤ B));
+    requires = λ _. fact 𝓤 (Enough (now (a .0)) (now (a .1 .0)) (now (a .1 .1 .1 .0)) (now (a .1 .1 .1 .1 .0)) (a .1 .1 .0)
+        × (a .1 .1 .0 ≤ B));
     ensures = few.clauses 𝓤 H A mem run κs a .ensures;
   }
 
@@ -57,7 +58,8 @@ module _ {M : Type 1} (𝓤 : URA M) (H : Heap 𝓤) (A : Atoms 𝓤) (W : Given
         ∷ ‵ (MutSlice (named 1) β C.the-row .own x (vx ∷ [])) ∷ ‵ (MutSlice (named 2) δ u8 .own s (vs ∷ []))
         ∷ ‵ (ShrSlice (named 3) ε u8 .own d (vd ∷ [])) ∷ []
 
-    goes-sized : Enough (now x) (now s) (now d) n × (n ≤ B) → n < 2 ^ 64 → ent 𝓤 (⋆ 𝓤 H A Asks) (Sized 𝓤 H A mem run B .pre to-sized)
+    goes-sized : Enough (now g) (now x) (now s) (now d) n × (n ≤ B) → n < 2 ^ 64 → ent 𝓤 (⋆ 𝓤 H A Asks)
+        (Sized 𝓤 H A mem run B .pre to-sized)
     goes-sized f h = qed W Asks ∵ says ! f $ nothing ! $ move ! (4 ∷ 0 ∷ []) $ join ! $ move ! (3 ∷ 0 ∷ []) $ join ! $
         move ! (2 ∷ 0 ∷ []) $
         join ! $ move ! (1 ∷ 0 ∷ []) $ join ! $
@@ -73,7 +75,8 @@ module _ {M : Type 1} (𝓤 : URA M) (H : Heap 𝓤) (A : Atoms 𝓤) (W : Given
     -- h, the records l and the store u that it left
     pub calls-sized : {K : Type 0} {Γ : List (Item 𝓤)} {E : Env 𝓤 H} {C′ : Calls 𝓤 H} {Λ : Loops 𝓤 H} {o : Post 𝓤 H} {f : Name}
         {xs : List Operand} {z : Place} {rest : Body}
-        → K → FmC 𝓤 H (W .laws) C′ → Triple 𝓤 (C′ f) (Sized 𝓤 H A mem run B) → Enough (now x) (now s) (now d) n × (n ≤ B) → n < 2 ^ 64
+        → K → FmC 𝓤 H (W .laws) C′ → Triple 𝓤 (C′ f) (Sized 𝓤 H A mem run B) → Enough (now g) (now x) (now s) (now d) n × (n ≤ B)
+        → n < 2 ^ 64
         → Opds K W (raw (Sized 𝓤 H A mem run B .pre to-sized) ∷ Γ) E xs (vg ∷ vx ∷ vint w64 n ∷ vs ∷ vd ∷ [])
         → ((v : Val) (a : Receive) (h : RecvQueue) (l : List CellRecord) (u : List ℕ) → (length l ≡ length (now x))
         × (length u ≡ length (now s)) × Says a h l u

@@ -127,6 +127,7 @@ fn frames(
         r (now (bits .exit)) (now (nexts .exit)) (rowsOf (now (words .exit))) ⌝ }
 {
     see_bytes(datagram);
+    let profile = recv_memory::profile_for(nexts);
     let mut l = low;
     let mut s = Tally {
         turn,
@@ -136,7 +137,7 @@ fn frames(
     };
     let mut at = base::MIN_DATAGRAM;
     loop {
-        match frame::read_frame(datagram, at) {
+        match frame::read_frame(profile, datagram, at) {
             ReadFrame::Cut => {
                 return Framed::Done {
                     low: l,

@@ -6,10 +6,10 @@ use Rattle.frame.proofs.frames.read_frames.Statement.{statement}
 use Rattle.frame.proofs.frames.read_frames.Tie as tie
 
 abbrev Inv-loop : tie.InvT-loop
-Inv-loop s at place₀ count₀ place count = Passed s at place count
+Inv-loop p s at place₀ count₀ place count = Passed p s at place count
 
 abbrev μ-loop : tie.MeasureT-loop
-μ-loop s at place₀ count₀ place count = length s - place
+μ-loop p s at place₀ count₀ place count = length s - place
 
 loop-holds : tie.Need-loop-holds Inv-loop μ-loop
 loop-holds c = search (needs, passed-none)

@@ -4,7 +4,7 @@ use Rattle.frame.proofs.read.read_frame.Statement.{statement}
 use Rattle.frame.proofs.read.read_frame.Tie as tie
 
 frame-at-requires : tie.Need-frame-at-requires
-frame-at-requires c κs = header-in _ _ _ (c .before .before .before .span-at .ensures) _ _ (c .before .start .given .1)
+frame-at-requires c κs = header-in _ _ _ _ (c .before .before .before .span-at .ensures) _ _ (c .before .start .given .1)
 
 sub-len : tie.Need-sub-len
 sub-len c = search (needs, body-after)

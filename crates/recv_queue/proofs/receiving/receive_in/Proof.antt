@@ -62,7 +62,7 @@ module _ {M : Type 1} (𝓤 : URA M) (H : Heap 𝓤) (A : Atoms 𝓤) (W : Given
     (rs : List CellRecord)
     (b₂ o₂ : ℕ) (γ₂ : GName) (ws : List ℕ) (n : ℕ) (b₃ o₃ : ℕ) (γ₃ : GName) (st : List ℕ) (b₄ o₄ : ℕ) (γ₄ : GName) (dg : List ℕ)
     (room₁ : Room C.the-row (length rs)) (room₂ : Room u32 (length ws)) (room₃ : Room u8 (length st)) (room₄ : Room u8 (length dg))
-    (n-fits : n < 2 ^ 64) (enough : Enough rs st dg n) (wide : rowWords * n ≤ length ws) where
+    (n-fits : n < 2 ^ 64) (enough : Enough queue rs st dg n) (wide : rowWords * n ≤ length ws) where
   -- the parameters
   abbrev g : RefT RecvQueue
   g = record { ptr = (b₀, o₀); name = γ₀; now = queue }
@@ -200,11 +200,11 @@ module _ {M : Type 1} (𝓤 : URA M) (H : Heap 𝓤) (A : Atoms 𝓤) (W : Given
         (e .1))))))))))))
       where
         all : n ≤ length rs
-        all = enough-few rs st dg n enough .0
+        all = enough-few queue rs st dg n enough .0
 
         within-records : (a : Receive) → m a ≤ length rs
         within-records a = let k : m a ≤ n = written-within (receiveAnswer a) n in let i : n ≤ length rs =
-            enough-few rs st dg n enough .0 in omega arith
+            enough-few queue rs st dg n enough .0 in omega arith
 
         within-words : (a : Receive) (w : List ℕ) → length w ≡ length ws → rowWords * m a ≤ length w
         within-words a w e = let k : m a ≤ n = written-within (receiveAnswer a) n in omega arith
@@ -216,8 +216,8 @@ module _ {M : Type 1} (𝓤 : URA M) (H : Heap 𝓤) (A : Atoms 𝓤) (W : Given
     (known-save : Triple 𝓤 (𝓣 .C #recv-queue·save) (Save 𝓤 H A mem run)) where
   here-meets : Meets 𝓤 H A here.signature (WpFn 𝓤 H (𝓣 .C) (𝓣 .Λ) code.function) (here.spec 𝓤 H A mem run)
   here-meets = meets here.ended ways 𝓤 H A W 𝓣 code.function (here.clauses 𝓤 H A mem run)
-      (λ κs qs bounds a _ are. needs 𝓤 (Enough (now (a .1 .0)) (now (a .1 .1 .1 .1 .0)) (now (a .1 .1 .1 .1 .1 .0)) (a .1 .1 .1 .0)
-      × (rowWords * a .1 .1 .1 .0 ≤ length (now (a .1 .1 .0)))) _ (λ fits.
+      (λ κs qs bounds a _ are. needs 𝓤 (Enough (now (a .0)) (now (a .1 .0)) (now (a .1 .1 .1 .1 .0)) (now (a .1 .1 .1 .1 .1 .0))
+      (a .1 .1 .1 .0) × (rowWords * a .1 .1 .1 .0 ≤ length (now (a .1 .1 .0)))) _ (λ fits.
       walk 𝓤 H A W mem run (κs .0) (κs .1 .0) (κs .1 .1 .0) (κs .1 .1 .1 .0) (κs .1 .1 .1 .1 .0) (qs .0) (qs .1 .0) (qs .1 .1 .0)
       (qs .1 .1 .1 .0) (qs .1 .1 .1 .1 .0) (a .0 .ptr .0) (a .0 .ptr .1) (a .0 .name) (a .0 .now) (a .1 .0 .ptr .0) (a .1 .0 .ptr .1)
       (a .1 .0 .name) (a .1 .0 .now)

@@ -50,7 +50,7 @@ module _ {M : Type 1} (𝓤 : URA M) (H : Heap 𝓤) (A : Atoms 𝓤) (W : Given
     (n : ℕ)
     (b₂ o₂ : ℕ) (γ₂ : GName) (st : List ℕ) (b₃ o₃ : ℕ) (γ₃ : GName) (dg : List ℕ) (m : ℕ)
     (room₁ : Room C.the-row (length rs)) (room₂ : Room u8 (length st)) (room₃ : Room u8 (length dg)) (n-fits : n < 2 ^ 64)
-    (m-fits : m < 2 ^ 64) (enough : Enough rs st dg n) (within : n ≤ m) where
+    (m-fits : m < 2 ^ 64) (enough : Enough queue rs st dg n) (within : n ≤ m) where
   -- the parameters
   abbrev g : RefT RecvQueue
   g = record { ptr = (b₀, o₀); name = γ₀; now = queue }
@@ -160,7 +160,7 @@ module _ {M : Type 1} (𝓤 : URA M) (H : Heap 𝓤) (A : Atoms 𝓤) (W : Given
         relends ! (8 + 2) (8 + 19) (8 + 20) refl refl (room₁ .0) $
         relends ! (8 + 4) (8 + 21) (8 + 22) refl refl (room₂ .0) $
         calls-sized 𝓤 H A W mem run mostCells κ₀ κ₁ κ₂ κ₃ q₀ q₁ q₂ q₃ g (x γ₁) n s d vg vx vs vd ! fm known-large
-        (enough, enough-few rs st dg n enough .1) n-fits
+        (enough, enough-few queue rs st dg n enough .1) n-fits
         (and-then ! (var ! (1 + 18) refl) (and-then ! (var ! (1 + 20) refl)
         (and-then ! (var ! (1 + 3) refl) (and-then ! (var ! (1 + 22) refl) (and-then ! (var ! (1 + 5) refl) (no-more !))))))
         (λ v a h l u e.
@@ -176,7 +176,7 @@ module _ {M : Type 1} (𝓤 : URA M) (H : Heap 𝓤) (A : Atoms 𝓤) (W : Given
     (known-large : Triple 𝓤 (𝓣 .C #recv-queue·receiving·receive-large) (Sized 𝓤 H A mem run mostCells)) where
   here-meets : Meets 𝓤 H A here.signature (WpFn 𝓤 H (𝓣 .C) (𝓣 .Λ) code.function) (here.spec 𝓤 H A mem run)
   here-meets = meets here.ended ways 𝓤 H A W 𝓣 code.function (here.clauses 𝓤 H A mem run)
-      (λ κs qs bounds a _ are. needs 𝓤 (Enough (now (a .1 .0)) (now (a .1 .1 .1 .0)) (now (a .1 .1 .1 .1 .0)) (a .1 .1 .0)
+      (λ κs qs bounds a _ are. needs 𝓤 (Enough (now (a .0)) (now (a .1 .0)) (now (a .1 .1 .1 .0)) (now (a .1 .1 .1 .1 .0)) (a .1 .1 .0)
       × (a .1 .1 .0 ≤ a .1 .1 .1 .1 .1 .0)) _ (λ fits.
       walk 𝓤 H A W mem run (κs .0) (κs .1 .0) (κs .1 .1 .0) (κs .1 .1 .1 .0) (qs .0) (qs .1 .0) (qs .1 .1 .0) (qs .1 .1 .1 .0)
       (a .0 .ptr .0) (a .0 .ptr .1) (a .0 .name) (a .0 .now) (a .1 .0 .ptr .0) (a .1 .0 .ptr .1) (a .1 .0 .name) (a .1 .0 .now)
