@@ -1,4 +1,7 @@
 // ACK and NACK: read record by record, and written from a list of numbers. Document 01, "Bytes", "Read ACK" and "Write ACK or NACK".
+
+#![tactic(auto)]
+
 ghost use Rattle.std.specs.Prelude.{◌≡◌, ◌<◌, ◌≤◌, length};
 ghost use Rattle.base.specs.Limits.{max_list};
 ghost use Rattle.base.specs.Put.{Run, and_then};
@@ -24,19 +27,19 @@ const RANGE: u8 = 0x00;
 
 const RANGE_SIZE: usize = 7;
 
-#[derive(Drop)]
+#[derive(Clone, Copy)]
 pub struct SingleRecord {
     pub sequence: u32,
 }
 
 // First and last, both included.
-#[derive(Drop)]
+#[derive(Clone, Copy)]
 pub struct RangeRecord {
     pub start: u32,
     pub end: u32,
 }
 
-#[derive(Drop)]
+#[derive(Clone, Copy)]
 pub enum Record {
     Single(SingleRecord),
     Range(RangeRecord),
@@ -44,14 +47,14 @@ pub enum Record {
 
 // Where the next record stands, and how many are left.
 #[repr(C)]
-#[derive(Drop)]
+#[derive(Clone, Copy)]
 pub struct AckCursor {
     pub at: usize,
     pub left: u32,
 }
 
 // Refusals: 1, 3.
-#[derive(Drop)]
+#[derive(Clone, Copy)]
 pub enum AckHeader {
     Found { nack: bool, records: AckCursor },
     Cut,
@@ -59,7 +62,7 @@ pub enum AckHeader {
 }
 
 // A record and the cursor after it, or End where none is left. Refusals: 1, 10, 11.
-#[derive(Drop)]
+#[derive(Clone, Copy)]
 pub enum AckStep {
     Next { record: Record, records: AckCursor },
     End,
@@ -69,7 +72,7 @@ pub enum AckStep {
 }
 
 // Refusals: 13, 14, 12.
-#[derive(Drop)]
+#[derive(Clone, Copy)]
 pub enum WriteAck {
     Written { len: usize },
     TooLarge,

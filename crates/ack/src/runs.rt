@@ -48,7 +48,7 @@ fn record_size(first: u32, last: u32) -> usize
 }
 
 // How many records there are, and how many bytes they take.
-#[derive(Drop)]
+#[derive(Clone, Copy)]
 pub(crate) struct Tally {
     pub(crate) records: usize,
     pub(crate) bytes: usize,

@@ -2,14 +2,13 @@
 -- Assumes nothing.
 use Prim.Native.Nat.{ℕ}
 use mathlib.Core.Path.{◌≡◌, refl}
-use mathlib.Core.Bool.{true, false}
-use mathlib.Core.List.{List, [], ◌∷◌, ◌++◌, map}
-use lib.ListN.{length, drop}
+use mathlib.Core.Bool.{true}
+use mathlib.Core.List.{List, [], ◌∷◌, map}
 use Rattle.base.specs.Lists.{only}
 use Rattle.reliability.specs.declared.Profile.TheVariants.{Console, Cpp}
-use Rattle.bare.specs.Frame.{Frame, sequenced}
+use Rattle.bare.specs.Frame.{Frame}
 use Rattle.bare.specs.Sequenced.{numbered_as, put_by, numbered_from, numbered_line, sequences_of, sequenced_on}
-use Rattle.bare.proofs.Shown.{whole-frame, piece-frame, msg, gave, seen, run_as}
+use Rattle.bare.proofs.Shown.{whole-frame, msg, gave, seen, run_as}
 use Rattle.bare.proofs.ByExampleSequenced.{lever}
 
 -- A piece of a kind 4 message, one of two: its reliable, order and channel number, its index, and one byte.

@@ -3,13 +3,12 @@
 use Prim.Native.Nat.{ℕ}
 use mathlib.Core.Path.{◌≡◌, refl}
 use mathlib.Core.Bool.{true, false}
-use mathlib.Core.List.{List, [], ◌∷◌, ◌++◌, map}
-use lib.ListN.{length, drop}
+use mathlib.Core.List.{List, [], ◌∷◌, map}
 use Rattle.base.specs.Lists.{only}
 use Rattle.reliability.specs.declared.Profile.TheVariants.{Console}
 use Rattle.bare.specs.Frame.{Frame, sequenced}
 use Rattle.bare.specs.Sequenced.{numbered_as, put_by, numbered_from, numbered_line, sequences_of, kind1_on, kind4}
-use Rattle.bare.proofs.Shown.{whole-frame, piece-frame, msg, gave, seen, run}
+use Rattle.bare.proofs.Shown.{whole-frame, msg, gave, seen, run}
 
 -- A whole frame of a sequenced kind: its reliable number (0 for kind 1), channel (0 for kind 4) and sequence number, and one byte.
 unfoldable pub lever : ℕ → ℕ → ℕ → ℕ → ℕ → Frame

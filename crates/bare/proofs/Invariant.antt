@@ -13,7 +13,6 @@ use Rattle.base.specs.Lists.{any, without, only}
 use Rattle.base.proofs.Choices.{by_bool, cases, by_option, and_left, and_right, neither}
 use Rattle.base.proofs.Lists.{any-true, without-mem, mem-without}
 use Rattle.base.proofs.EachAt.{EachAt-map}
-use Rattle.reliability.proofs.Table.{at}
 use Rattle.reliability.specs.declared.Profile.{Profile}
 use Rattle.bare.specs.Frame.{Frame, Piece, Message, carries_reliable, ordered, in_limits, piece_of, message}
 use Rattle.bare.specs.Bare.{Out, Bare, Fed, new, conflict, has_id, joined, Kept, refused, waiting, complete, keep, assemble}

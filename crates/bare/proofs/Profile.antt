@@ -8,7 +8,6 @@ use lib.Dec.{ltb, eqb}
 use lib.ListN.{length}
 use Rattle.base.specs.Lists.{find, any}
 use Rattle.base.proofs.Choices.{by_bool, by_option}
-use Rattle.reliability.specs.declared.Profile.{Profile}
 use Rattle.bare.specs.Frame.{Frame, Piece, Message, ordered, sequenced, in_limits}
 use Rattle.bare.specs.Bare.{Out, Bare, Sent, Fed, is_at, emit, follow, quiet, hold, append, queue, memory_of, older, remember, ready}
 use Rattle.bare.specs.Bare.{sequence, deliver, Kept, refused, waiting, complete, assemble, seen_before, drop_in, finish, step, feed}

@@ -1,23 +1,23 @@
 -- Late sequenced messages are discarded: the sequence numbers in the line rise.
 -- Assumes nothing.
-use Prim.Native.Nat.{ℕ, zero, suc, ◌≤◌, ◌<◌}
+use Prim.Native.Nat.{ℕ, zero, suc, ◌≤◌}
 use mathlib.Core.Path.{◌≡◌, refl, sym, ◌∙◌, ap}
-use mathlib.Core.Bool.{Bool, true, false, ◌&&◌, ◌||◌, false≢true}
+use mathlib.Core.Bool.{Bool, true, false, ◌||◌, false≢true}
 use mathlib.Core.List.Memᴰ
 use mathlib.Core.List.{List, [], ◌∷◌, ◌++◌, map, append_assoc, append-nil, Memᴰ}
 use native.Mathlib.Omega.{arith}
 use native.Mathlib.Numerals.{add-one}
-use lib.ListN.{length, drop}
+use lib.ListN.{length}
 use lib.Seq.{drop-append_seam}
 use lib.Dec.{ltb, eqb}
-use borrow.Author.Tests.{ltb-false, eqb-true, eqb-false, eq-eqb, ne_eqb}
+use borrow.Author.Tests.{ltb-false, eqb-true, eqb-false}
 use Rattle.base.specs.Limits.{max_ord_chans}
 use Rattle.base.specs.Lists.{find, any, only}
 use Rattle.base.proofs.Choices.{by_bool, cases, by_option, and_left, and_right, neither}
 use Rattle.base.proofs.Lists.{find-some, without-mem, only-fail}
 use Rattle.reliability.specs.declared.Profile.{Profile}
 use Rattle.reliability.specs.declared.Profile.TheVariants.{Console, Cpp}
-use Rattle.bare.specs.Frame.{Frame, Piece, Message, ordered, sequenced, in_limits, message}
+use Rattle.bare.specs.Frame.{Frame, Piece, Message, ordered, sequenced, in_limits}
 use Rattle.bare.specs.Bare.{Out, Bare, Sent, Fed, new, is_at, emit, follow, quiet, hold, append, queue, memory_of, older, noted}
 use Rattle.bare.specs.Bare.{remember, ready, sequence, deliver, Kept, refused, waiting, complete, assemble, seen_before}
 use Rattle.bare.specs.Bare.{drop_in, finish, step, feed}

@@ -1,6 +1,6 @@
 -- The bare receiver of document 01 ("The line, the book and demand 3"): no cells, and four steps for each frame ("A datagram's frames, in
 -- order"); with document 02's request 1, late sequenced messages, and request 2, "The bare receiver has its list's profile".
-use Rattle.std.specs.Prelude.{ℕ, zero, suc, ◌+◌, Bool, true, false, cond, not, ◌&&◌, ◌||◌, List, [], ◌∷◌, ◌++◌, eqb, length}
+use Rattle.std.specs.Prelude.{ℕ, zero, suc, ◌+◌, Bool, false, cond, not, ◌&&◌, ◌||◌, List, [], ◌∷◌, ◌++◌, eqb, length}
 use Rattle.std.proofs.Math.Option.{Option, none, some}
 use Rattle.base.specs.Limits.{max_ord_chans}
 use Rattle.base.specs.Numbers.{behind, following}

@@ -1,5 +1,5 @@
 -- Document 01's sender's book, its ordered messages, and what has arrived of it.
-use Rattle.std.specs.Prelude.{ℕ, zero, suc, ◌<◌, ◌≡◌, ◌⊎◌, Bool, true, false, List, [], ◌++◌}
+use Rattle.std.specs.Prelude.{ℕ, zero, suc, ◌<◌, ◌≡◌, ◌⊎◌, true, false, List, [], ◌++◌}
 use Rattle.bare.specs.Frame.{Frame, Message, carries_reliable, ordered, in_limits}
 
 -- "frames of kinds 3 and 7 with one channel and order number": f is one of the ordered message o of channel c

@@ -1,5 +1,5 @@
 -- Bytes stored from a place on.
-use Rattle.std.specs.Prelude.{ℕ, zero, suc, ◌+◌, List, [], ◌∷◌, ◌++◌, ◌≡◌, set, length}
+use Rattle.std.specs.Prelude.{ℕ, zero, suc, List, [], ◌∷◌, ◌++◌, ◌≡◌, set, length}
 use Rattle.base.specs.If.{if_lt}
 
 -- the list l with the bytes bs from place p on; what would stand past the end of l is not stored

@@ -1,4 +1,7 @@
 // What the other crates share: document 01's limits, and numbers read from bytes and written as bytes.
+
+#![tactic(auto)]
+
 ghost use Rattle.std.specs.Prelude.{◌≡◌, ◌∷◌, [], min, get_or, length};
 ghost use Rattle.base.specs.Bytes.{be16, be32, le24, be16_bytes, be32_bytes, le24_bytes};
 ghost use Rattle.base.specs.Put.{Run};

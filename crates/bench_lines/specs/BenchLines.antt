@@ -4,7 +4,6 @@ use Rattle.std.specs.Prelude.{ℕ, ◌≡◌, true, false, List, [], ◌∷◌, 
 use Rattle.base.specs.Answer.{Answer, refused, gives}
 use Rattle.reliability.specs.declared.Profile.{Profile}
 use Rattle.reliability.specs.declared.Profile.TheVariants.{Console}
-use Rattle.frame.specs.declared.FragmentMeta.{FragmentMeta}
 use Rattle.frame.specs.declared.Frame.{Frame}
 use Rattle.frame.specs.declared.Placed.{Placed}
 use Rattle.frame.specs.Read.{read_frame_of, body_of}

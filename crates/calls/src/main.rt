@@ -6,9 +6,13 @@
 // a console's. A cut call ends the input, as does another first byte. Output, one line a call: `r 0 READY DROPPED LEFT`,
 // `t 0 LENGTH SUM KIND CHANNEL ORDER`, `u 0 LENGTH SUM`, `m 0 LENGTH SUM`, `n 0`; on a refusal the letter and document 01's number. SUM is
 // over the bytes handed out: from 1 on, for each byte h = (31 h + byte) mod 65521.
-use libc::STDIN_FILENO;
+
+#![tactic(auto)]
+
 use recv_answers::QueueReceived;
 use recv_queue::{CellRecord, Profile, RecvQueue, Take, WriteQueue};
+use std::io;
+use std::io::Read;
 
 const STORE: usize = base::CELL_BYTES * recv_array::HELD;
 
@@ -16,7 +20,7 @@ const STORE: usize = base::CELL_BYTES * recv_array::HELD;
 const BUFFER: usize = 65535;
 
 // The receiver and its cells' records.
-#[derive(Drop)]
+#[derive(Clone, Copy)]
 struct Receiver {
     queue: RecvQueue,
     records: [CellRecord; 256],
@@ -26,24 +30,30 @@ fn with_cells(queue: RecvQueue, records: [CellRecord; 256]) -> Receiver {
     Receiver { queue, records }
 }
 
-fn show_received(told: QueueReceived) {
+fn show_received(rt: &impl Print, told: QueueReceived) {
     let number = told.number as u64;
     let values = [told.ready as u64, told.dropped as u64, told.left as u64];
-    replay::line(b"r", number, replay::given(number, &values));
+    replay::line(rt, b"r", number, replay::given(number, &values));
 }
 
-fn receive(x: Receiver, cells: usize, store: &mut [u8], datagram: &[u8]) -> Receiver {
+fn receive(
+    rt: &impl Print,
+    x: Receiver,
+    cells: usize,
+    store: &mut [u8],
+    datagram: &[u8],
+) -> Receiver {
     let queue = x.queue;
     let records = x.records;
     let r = recv_array::receive_held(queue, records, cells, store, datagram);
     let answer = r.answer;
     let q = r.queue;
     let rs = r.records;
-    show_received(recv_answers::receive_told(answer));
+    show_received(rt, recv_answers::receive_told(answer));
     with_cells(q, rs)
 }
 
-fn show_take<'a>(answer: Take, store: &'a [u8], joined: &'a [u8]) {
+fn show_take<'a>(rt: &impl Print, answer: Take, store: &'a [u8], joined: &'a [u8]) {
     let body = recv_queue::body(store, joined, answer);
     let told = recv_answers::take_told(answer);
     let number = told.number as u64;
@@ -55,45 +65,46 @@ fn show_take<'a>(answer: Take, store: &'a [u8], joined: &'a [u8]) {
         told.channel as u64,
         told.order as u64,
     ];
-    replay::line(b"t", number, replay::given(number, &values));
+    replay::line(rt, b"t", number, replay::given(number, &values));
 }
 
-fn take(x: Receiver, cells: usize, store: &[u8], joined: &mut [u8]) -> Receiver {
+fn take(rt: &impl Print, x: Receiver, cells: usize, store: &[u8], joined: &mut [u8]) -> Receiver {
     let queue = x.queue;
     let records = x.records;
     let r = recv_array::take_held(queue, records, cells, store, joined);
     let answer = r.answer;
     let rs = r.records;
-    show_take(answer, store, joined);
+    show_take(rt, answer, store, joined);
     with_cells(queue, rs)
 }
 
-fn show_write(letter: &[u8], answer: WriteQueue, out: &[u8]) {
+fn show_write(rt: &impl Print, letter: &[u8], answer: WriteQueue, out: &[u8]) {
     let told = recv_answers::write_told(answer);
     let number = told.number as u64;
     let sum = replay::sum(replay::part(out, 0, told.len));
     replay::line(
+        rt,
         letter,
         number,
         replay::given(number, &[told.len as u64, sum]),
     );
 }
 
-fn write_unsent(x: Receiver, out: &mut [u8]) -> Receiver {
+fn write_unsent(rt: &impl Print, x: Receiver, out: &mut [u8]) -> Receiver {
     let queue = x.queue;
     let records = x.records;
     let r = recv_array::write_unsent_held(queue, out);
     let answer = r.answer;
     let q = r.queue;
-    show_write(b"u", answer, out);
+    show_write(rt, b"u", answer, out);
     with_cells(q, records)
 }
 
-fn write_missing(x: Receiver, out: &mut [u8]) -> Receiver {
+fn write_missing(rt: &impl Print, x: Receiver, out: &mut [u8]) -> Receiver {
     let queue = x.queue;
     let records = x.records;
     let answer = recv_array::write_missing_held(queue, out);
-    show_write(b"m", answer, out);
+    show_write(rt, b"m", answer, out);
     with_cells(queue, records)
 }
 
@@ -104,12 +115,12 @@ fn profile_of(n: usize) -> Profile {
     Profile::Console
 }
 
-fn make_new(cells: usize, n: usize, store: &[u8]) -> Receiver {
+fn make_new(rt: &impl Print, cells: usize, n: usize, store: &[u8]) -> Receiver {
     let made = recv_array::new_held(cells, store, profile_of(n));
     let answer = made.answer;
     let queue = made.queue;
     let records = made.records;
-    replay::line(b"n", recv_answers::new_number(answer) as u64, &[]);
+    replay::line(rt, b"n", recv_answers::new_number(answer) as u64, &[]);
     with_cells(queue, records)
 }
 
@@ -122,7 +133,7 @@ const NEW: u8 = 4;
 const END: u8 = 255;
 
 // A call's first byte, and its number.
-#[derive(Drop)]
+#[derive(Clone, Copy)]
 struct Call {
     what: u8,
     n: usize,
@@ -134,51 +145,59 @@ fn call_of(what: u8, n: usize) -> Call {
 
 // A datagram follows its call; the other calls write over what stands there. The call's first byte, or END where the datagram is cut or
 // the profile is none.
-fn filled(what: u8, bytes: &mut [u8]) -> u8 {
+fn filled<R: Read>(stdin: &mut R, what: u8, bytes: &mut [u8]) -> io::Result<u8> {
     let n = bytes.len();
     if (what == NEW) & (base::PROFILES as usize <= n) {
-        return END;
+        return Ok(END);
     }
     if what != 0 {
-        return what;
+        return Ok(what);
     }
-    if io::read_full(STDIN_FILENO, bytes) < n {
-        return END;
+    if replay::read_full(stdin, bytes)? < n {
+        return Ok(END);
     }
-    what
+    Ok(what)
 }
 
 // The next call's n bytes are the front of the buffer.
-fn read_call(buffer: &mut [u8]) -> Call {
+fn read_call<R: Read>(stdin: &mut R, buffer: &mut [u8]) -> io::Result<Call> {
     let mut head = [0u8; 3];
-    if io::read_full(STDIN_FILENO, &mut head) < 3 {
-        return call_of(END, 0);
+    if replay::read_full(stdin, &mut head)? < 3 {
+        return Ok(call_of(END, 0));
     }
-    let n = io::count(base::be16_at(&head, 1) as isize, buffer);
-    let what = filled(head[0], &mut buffer[..n]);
-    call_of(what, n)
+    let n = replay::within(buffer, base::be16_at(&head, 1) as usize);
+    let what = filled(stdin, head[0], &mut buffer[..n])?;
+    Ok(call_of(what, n))
 }
 
 // The number of cells, or 0 where the input has none.
-fn read_cells() -> usize {
+fn read_cells<R: Read>(stdin: &mut R) -> io::Result<usize> {
     let mut head = [0u8; 2];
-    if io::read_full(STDIN_FILENO, &mut head) < 2 {
-        return 0;
+    if replay::read_full(stdin, &mut head)? < 2 {
+        return Ok(0);
     }
-    base::be16_at(&head, 0) as usize
+    Ok(base::be16_at(&head, 0) as usize)
 }
 
-fn answered(x: Receiver, cells: usize, what: u8, store: &mut [u8], bytes: &mut [u8]) -> Receiver {
+fn answered(
+    rt: &impl Print,
+    x: Receiver,
+    cells: usize,
+    what: u8,
+    store: &mut [u8],
+    bytes: &mut [u8],
+) -> Receiver {
     match what {
-        0 => receive(x, cells, store, bytes),
-        1 => take(x, cells, store, bytes),
-        2 => write_unsent(x, bytes),
-        3 => write_missing(x, bytes),
-        _ => make_new(cells, bytes.len(), store),
+        0 => receive(rt, x, cells, store, bytes),
+        1 => take(rt, x, cells, store, bytes),
+        2 => write_unsent(rt, x, bytes),
+        3 => write_missing(rt, x, bytes),
+        _ => make_new(rt, cells, bytes.len(), store),
     }
 }
 
 fn one_call(
+    rt: &impl Print,
     x: Receiver,
     cells: usize,
     call: Call,
@@ -186,48 +205,70 @@ fn one_call(
     buffer: &mut [u8],
 ) -> Receiver {
     let n = replay::within(buffer, call.n);
-    answered(x, cells, call.what, store, &mut buffer[..n])
+    answered(rt, x, cells, call.what, store, &mut buffer[..n])
 }
 
 // The count of turns is far above what any input has: a call takes three bytes or more.
-fn run(x: Receiver, cells: usize, store: &mut [u8], buffer: &mut [u8]) {
+fn run<R: Read>(
+    rt: &impl Print,
+    stdin: &mut R,
+    x: Receiver,
+    cells: usize,
+    store: &mut [u8],
+    buffer: &mut [u8],
+) -> io::Result<()> {
     let mut now = x;
     let mut left: u64 = 18446744073709551615;
     while 0 < left {
-        let call = read_call(buffer);
+        let call = read_call(stdin, buffer)?;
         if NEW < call.what {
-            return;
+            return Ok(());
         }
-        now = one_call(now, cells, call, store, buffer);
+        now = one_call(rt, now, cells, call, store, buffer);
         left -= 1;
     }
+    Ok(())
 }
 
-fn start(cells: usize, store: &mut [u8], buffer: &mut [u8]) {
+fn start<R: Read>(
+    rt: &impl Print,
+    stdin: &mut R,
+    cells: usize,
+    store: &mut [u8],
+    buffer: &mut [u8],
+) -> io::Result<()> {
     let made = recv_array::new_held(cells, store, Profile::Console);
     let answer = made.answer;
     let queue = made.queue;
     let records = made.records;
     let number = recv_answers::new_number(answer);
     if number != 0 {
-        replay::line(b"-", number as u64, &[]);
-        return;
+        replay::line(rt, b"-", number as u64, &[]);
+        return Ok(());
     }
-    run(with_cells(queue, records), cells, store, buffer);
+    run(rt, stdin, with_cells(queue, records), cells, store, buffer)
 }
 
 // The receiver's store is the front of the whole, as long as its cells are.
-fn start_within(cells: usize, whole: &mut [u8], buffer: &mut [u8]) {
+fn start_within<R: Read>(
+    rt: &impl Print,
+    stdin: &mut R,
+    cells: usize,
+    whole: &mut [u8],
+    buffer: &mut [u8],
+) -> io::Result<()> {
     if whole.len() / base::CELL_BYTES < cells {
-        replay::line(b"-", 9, &[]);
-        return;
+        replay::line(rt, b"-", 9, &[]);
+        return Ok(());
     }
     let n = replay::within(whole, base::CELL_BYTES * cells);
-    start(cells, &mut whole[..n], buffer);
+    start(rt, stdin, cells, &mut whole[..n], buffer)
 }
 
-fn main() {
+fn main(rt: HostRuntime) -> io::Result<()> {
     let mut store = [0u8; STORE];
     let mut buffer = [0u8; BUFFER];
-    start_within(read_cells(), &mut store, &mut buffer);
+    let mut stdin = rt.stdin();
+    let cells = read_cells(&mut stdin)?;
+    start_within(&rt, &mut stdin, cells, &mut store, &mut buffer)
 }

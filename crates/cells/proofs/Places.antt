@@ -9,7 +9,6 @@ use native.Mathlib.Nat.{mul-le-mul_right, suc-mul}
 use native.Mathlib.Omega.{arith}
 use lib.ListN.{length, get_or, set, take, drop}
 use lib.Seq.{drop-append-add, drop-append-le, drop-drop, take-append-add}
-use lib.Dec.{eqb}
 use Rattle.base.specs.Put.{put}
 use Rattle.base.specs.Lists.{any}
 use Rattle.base.proofs.Puts.{put-split}

@@ -1,7 +1,7 @@
 -- "A receiver .. keeps" its profile (request 2): a datagram does not change it.
 -- Assumes nothing.
 use Prim.Native.Nat.{ℕ, zero, suc}
-use mathlib.Core.Path.{◌≡◌, refl, ◌∙◌}
+use mathlib.Core.Path.{◌≡◌, refl}
 use mathlib.Core.List.{List, [], ◌∷◌}
 use lib.ListN.{length}
 use Rattle.base.specs.Lists.{any}
@@ -12,7 +12,7 @@ use Rattle.bare.specs.Bare.{seen_before}
 use Rattle.cells.specs.Cell.{open_as, is_free, all_there, clash, put_slot, slot_of}
 use Rattle.cells.specs.Datagram.{Work, drop_one, fill_up, place, made, rise, remember_in, accept_in, is_held, go_on, cascade, follows, Fate}
 use Rattle.cells.specs.Datagram.{late, early, due, newer, free, fate_of, roomy, readied, whole, joins, kept, piece, keep_in, frame}
-use Rattle.cells.specs.Datagram.{frames, State, begin, end, datagram}
+use Rattle.cells.specs.Datagram.{frames, State, begin, datagram}
 
 module _ (p : Profile) where
   abbrev Has : Work → Type 0

@@ -17,7 +17,7 @@ use Rattle.base.proofs.Lists.{any-true, any-mem, any-all, any-map}
 use Rattle.base.proofs.Counts.{count-lt-map, count-length}
 use Rattle.bare.specs.Frame.{Piece, Message}
 use Rattle.bare.specs.Bare.{Out}
-use Rattle.cells.specs.Cell.{Slot, Key, held_as, ready_as, at, of, sits, is_open, is_ready, message_at, empty_cell, empty_slot, change}
+use Rattle.cells.specs.Cell.{Slot, Key, held_as, ready_as, of, sits, is_open, is_ready, message_at, empty_cell, empty_slot, change}
 use Rattle.cells.specs.Cell.{map_if, freed}
 use Rattle.cells.specs.Datagram.{sweep}
 use Rattle.cells.specs.Take.{lower, earliest, Taken, taking, drain_in, drain}

@@ -1,5 +1,5 @@
 -- What the receiver decides and changes, as functions of the records alone: what code that has only the records computes.
-use Rattle.std.specs.Prelude.{ℕ, zero, suc, Bool, cond, ◌&&◌, List, [], ◌∷◌, map, ltb, eqb}
+use Rattle.std.specs.Prelude.{ℕ, suc, Bool, cond, ◌&&◌, List, [], ◌∷◌, map, ltb, eqb}
 use Rattle.std.proofs.Math.Option.{Option, none, some}
 use Rattle.bare.specs.Frame.{Frame, piece_of}
 use Rattle.bare.specs.Bare.{conflict}

@@ -1,5 +1,7 @@
 // The receiver with cells: a cell's record; definitions (specs/) and the theorems that they refine document 01's bare receiver (proofs/).
 
+#![tactic(auto)]
+
 // What a cell is used for: for nothing, for a piece of an open, a held or a ready message, or, only while a datagram is worked on, for a
 // joined message that was dropped late and frees its cells afterwards.
 pub const UNUSED: u32 = 0;
@@ -14,7 +16,7 @@ pub const RELEASED: u32 = 4;
 
 // One record stands beside each cell; all its numbers have one width.
 #[repr(C)]
-#[derive(Drop)]
+#[derive(Clone, Copy)]
 pub struct CellRecord {
     pub used: u32,
     pub kind: u32,

@@ -2,7 +2,7 @@
 -- Made by `model examples bytes 14 12` (folder model/), an independent model of document 01; here they are computed.
 -- Assumes nothing.
 use mathlib.Core.Path.{◌≡◌, refl}
-use mathlib.Core.List.{List, [], ◌∷◌}
+use mathlib.Core.List.{[], ◌∷◌}
 use lib.ListN.{replicate}
 use Rattle.reliability.specs.declared.Profile.TheVariants.{Console, Cpp}
 use Rattle.cells.specs.Cell.{empty_slot}

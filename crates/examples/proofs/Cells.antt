@@ -2,7 +2,7 @@
 -- Made by `model examples cells 14 20` (folder model/), an independent model of document 01; here they are computed.
 -- Assumes nothing.
 use mathlib.Core.Path.{◌≡◌, refl}
-use mathlib.Core.List.{List, [], ◌∷◌}
+use mathlib.Core.List.{[], ◌∷◌}
 use Rattle.reliability.specs.declared.Profile.TheVariants.{Console, Cpp}
 use Rattle.bare.proofs.Shown as line
 use Rattle.bare.proofs.Shown.{msg}
@@ -21,8 +21,8 @@ pub cells-14-0 :
     ≡ saw (gave 0 1) (empty_slot ∷ empty_slot ∷ empty_slot ∷ empty_slot ∷ empty_slot ∷ [])
     ∷ saw (gave 1 0) (slot 3 0 0 1 0 1 2 0 0 (16 ∷ []) ∷ empty_slot ∷ empty_slot ∷ empty_slot ∷ empty_slot ∷ [])
     ∷ saw (gave 0 0) (slot 3 0 0 1 0 1 2 0 0 (16 ∷ []) ∷ slot 1 0 0 1 0 2 0 3 0 (27 ∷ 6 ∷ []) ∷ empty_slot ∷ empty_slot ∷ empty_slot ∷ [])
-    ∷ saw (gave 1 2) (slot 3 0 0 1 0 1 2 0 0 (16 ∷ []) ∷ empty_slot ∷ empty_slot ∷ slot 2 0 0 3 0 1 0 3 0 [] ∷ slot 3 0 0 4 0 1 0 0 1 (66 ∷ 27
-    ∷ []) ∷ [])
+    ∷ saw (gave 1 2) (slot 3 0 0 1 0 1 2 0 0 (16 ∷ []) ∷ empty_slot ∷ empty_slot ∷ slot 2 0 0 3 0 1 0 3 0 [] ∷ slot 3 0 0 4 0 1 0 0 1 (66
+    ∷ 27 ∷ []) ∷ [])
     ∷ saw (took (msg 1 0 0 (16 ∷ []))) (empty_slot ∷ empty_slot ∷ empty_slot ∷ slot 2 0 0 3 0 1 0 3 0 [] ∷ slot 3 0 0 4 0 1 0 0 1 (66 ∷ 27
     ∷ []) ∷ [])
     ∷ saw (took (msg 4 0 0 (66 ∷ 27 ∷ []))) (empty_slot ∷ empty_slot ∷ empty_slot ∷ slot 2 0 0 3 0 1 0 3 0 [] ∷ empty_slot ∷ [])
@@ -47,7 +47,8 @@ pub cells-14-1 :
     ≡ saw (gave 1 0) (slot 3 7 1 6 0 2 0 0 0 [] ∷ slot 3 7 0 6 0 2 0 0 0 (38 ∷ []) ∷ empty_slot ∷ empty_slot ∷ [])
     ∷ saw (refused 8) (slot 3 7 1 6 0 2 0 0 0 [] ∷ slot 3 7 0 6 0 2 0 0 0 (38 ∷ []) ∷ empty_slot ∷ empty_slot ∷ [])
     ∷ saw (refused 8) (slot 3 7 1 6 0 2 0 0 0 [] ∷ slot 3 7 0 6 0 2 0 0 0 (38 ∷ []) ∷ empty_slot ∷ empty_slot ∷ [])
-    ∷ saw (gave 1 0) (slot 3 7 1 6 0 2 0 0 0 [] ∷ slot 3 7 0 6 0 2 0 0 0 (38 ∷ []) ∷ slot 3 0 0 3 1 1 0 0 1 (89 ∷ 77 ∷ []) ∷ empty_slot ∷ [])
+    ∷ saw (gave 1 0) (slot 3 7 1 6 0 2 0 0 0 [] ∷ slot 3 7 0 6 0 2 0 0 0 (38 ∷ []) ∷ slot 3 0 0 3 1 1 0 0 1 (89 ∷ 77 ∷ []) ∷ empty_slot
+    ∷ [])
     ∷ saw (gave 0 1) (slot 3 7 1 6 0 2 0 0 0 [] ∷ slot 3 7 0 6 0 2 0 0 0 (38 ∷ []) ∷ slot 3 0 0 3 1 1 0 0 1 (89 ∷ 77 ∷ [])
     ∷ slot 1 7 1 3 0 2 0 0 0 (49 ∷ []) ∷ [])
     ∷ saw (refused 8) (slot 3 7 1 6 0 2 0 0 0 [] ∷ slot 3 7 0 6 0 2 0 0 0 (38 ∷ []) ∷ slot 3 0 0 3 1 1 0 0 1 (89 ∷ 77 ∷ [])
@@ -209,7 +210,8 @@ pub cells-14-9 :
     ∷ receive (part 3 5 0 2 0 2 7 0 (6 ∷ []) ∷ part 1 0 2 0 0 2 7 0 (82 ∷ []) ∷ part 1 0 2 0 0 2 7 1 (36 ∷ 43 ∷ []) ∷ whole 7 6 0 1 32 (91
     ∷ 53 ∷ []) ∷ [])
     ∷ [])
-    ≡ saw (gave 1 0) (slot 2 0 0 3 1 1 0 1 0 (80 ∷ []) ∷ slot 3 0 1 0 0 2 0 0 0 [] ∷ slot 3 0 0 0 0 2 0 0 0 [] ∷ empty_slot ∷ empty_slot ∷ [])
+    ≡ saw (gave 1 0) (slot 2 0 0 3 1 1 0 1 0 (80 ∷ []) ∷ slot 3 0 1 0 0 2 0 0 0 [] ∷ slot 3 0 0 0 0 2 0 0 0 [] ∷ empty_slot ∷ empty_slot
+    ∷ [])
     ∷ saw (gave 1 0) (slot 2 0 0 3 1 1 0 1 0 (80 ∷ []) ∷ slot 3 0 1 0 0 2 0 0 0 [] ∷ slot 3 0 0 0 0 2 0 0 0 [] ∷ slot 3 0 0 4 1 1 2 0 1 []
     ∷ slot 2 0 0 3 0 1 0 2 0 [] ∷ [])
     ∷ saw (refused 8) (slot 2 0 0 3 1 1 0 1 0 (80 ∷ []) ∷ slot 3 0 1 0 0 2 0 0 0 [] ∷ slot 3 0 0 0 0 2 0 0 0 [] ∷ slot 3 0 0 4 1 1 2 0 1 []
@@ -354,9 +356,10 @@ pub cells-14-17 :
     ∷ receive (part 5 0 0 0 0 2 0 0 [] ∷ whole 1 0 2 3 0 (80 ∷ 50 ∷ []) ∷ part 5 0 0 0 0 2 0 1 [] ∷ [])
     ∷ [])
     ≡ saw (gave 1 1) (slot 3 0 0 5 0 1 0 0 0 [] ∷ empty_slot ∷ empty_slot ∷ empty_slot ∷ empty_slot ∷ [])
-    ∷ saw (gave 2 2) (slot 3 0 0 5 0 1 0 0 0 [] ∷ slot 3 0 0 2 0 1 0 0 1 [] ∷ slot 3 0 0 3 1 1 0 0 2 (48 ∷ 49 ∷ []) ∷ empty_slot ∷ empty_slot
+    ∷ saw (gave 2 2) (slot 3 0 0 5 0 1 0 0 0 [] ∷ slot 3 0 0 2 0 1 0 0 1 [] ∷ slot 3 0 0 3 1 1 0 0 2 (48 ∷ 49 ∷ []) ∷ empty_slot
+    ∷ empty_slot ∷ [])
+    ∷ saw (took (msg 5 0 0 [])) (empty_slot ∷ slot 3 0 0 2 0 1 0 0 1 [] ∷ slot 3 0 0 3 1 1 0 0 2 (48 ∷ 49 ∷ []) ∷ empty_slot ∷ empty_slot
     ∷ [])
-    ∷ saw (took (msg 5 0 0 [])) (empty_slot ∷ slot 3 0 0 2 0 1 0 0 1 [] ∷ slot 3 0 0 3 1 1 0 0 2 (48 ∷ 49 ∷ []) ∷ empty_slot ∷ empty_slot ∷ [])
     ∷ saw (gave 1 1) (slot 1 7 0 5 0 1024 0 0 0 (14 ∷ 99 ∷ []) ∷ slot 3 0 0 2 0 1 0 0 0 [] ∷ slot 3 0 0 3 1 1 0 0 1 (48 ∷ 49 ∷ [])
     ∷ slot 3 0 0 4 31 1 2 0 2 (26 ∷ []) ∷ empty_slot ∷ [])
     ∷ saw (gave 0 3) (slot 1 7 0 5 0 1024 0 0 0 (14 ∷ 99 ∷ []) ∷ slot 3 0 0 2 0 1 0 0 0 [] ∷ slot 3 0 0 3 1 1 0 0 1 (48 ∷ 49 ∷ [])

@@ -3,7 +3,7 @@
 -- Assumes nothing.
 use mathlib.Core.Path.{◌≡◌, refl}
 use mathlib.Core.Bool.{true, false}
-use mathlib.Core.List.{List, [], ◌∷◌}
+use mathlib.Core.List.{[], ◌∷◌}
 use Rattle.cells.specs.Cell.{empty_slot}
 use Rattle.cells.proofs.Shown.{slot, run, sound_at}
 
@@ -28,20 +28,20 @@ sound-14-1 = (refl, refl, refl, refl, refl)
 pub sound-14-2 :
     (sound_at 1 (slot 3 0 0 7 1 1 0 0 0 [] ∷ slot 2 0 1 7 0 2 0 1 0 (80 ∷ []) ∷ slot 2 0 0 7 0 2 0 1 0 (8 ∷ []) ∷ slot 3 0 0 0 0 1 0 0 1 []
     ∷ slot 3 0 0 5 0 1 0 0 2 (21 ∷ []) ∷ slot 3 0 0 6 0 1 0 0 3 (62 ∷ 10 ∷ []) ∷ []) ≡ false)
-    × (sound_at 1 (slot 3 0 0 7 1 1 0 0 0 [] ∷ slot 2 0 1 7 0 2 0 1 0 (80 ∷ []) ∷ slot 2 0 0 7 0 2 0 1 0 (8 ∷ []) ∷ slot 3 0 0 0 0 1 0 0 1 []
-    ∷ slot 3 0 0 5 32 1 0 0 2 (21 ∷ []) ∷ slot 3 0 0 6 0 1 0 0 3 (62 ∷ 10 ∷ []) ∷ []) ≡ false)
-    × (sound_at 1 (slot 3 0 0 7 1 1 0 0 0 [] ∷ slot 2 0 1 7 0 2 0 1 0 (80 ∷ []) ∷ slot 2 0 0 7 0 2 0 1 0 (8 ∷ []) ∷ slot 3 0 0 0 0 1 0 0 0 []
-    ∷ slot 3 0 0 5 0 1 0 0 2 (21 ∷ []) ∷ slot 3 0 0 6 0 1 0 0 3 (62 ∷ 10 ∷ []) ∷ []) ≡ false)
-    × (sound_at 1 (slot 3 0 0 7 1 1 0 0 0 [] ∷ slot 2 0 1 7 0 2 0 1 0 (80 ∷ []) ∷ slot 2 0 0 7 1 2 0 1 0 (8 ∷ []) ∷ slot 3 0 0 0 0 1 0 0 1 []
-    ∷ slot 3 0 0 5 0 1 0 0 2 (21 ∷ []) ∷ slot 3 0 0 6 0 1 0 0 3 (62 ∷ 10 ∷ []) ∷ []) ≡ false)
+    × (sound_at 1 (slot 3 0 0 7 1 1 0 0 0 [] ∷ slot 2 0 1 7 0 2 0 1 0 (80 ∷ []) ∷ slot 2 0 0 7 0 2 0 1 0 (8 ∷ [])
+    ∷ slot 3 0 0 0 0 1 0 0 1 [] ∷ slot 3 0 0 5 32 1 0 0 2 (21 ∷ []) ∷ slot 3 0 0 6 0 1 0 0 3 (62 ∷ 10 ∷ []) ∷ []) ≡ false)
+    × (sound_at 1 (slot 3 0 0 7 1 1 0 0 0 [] ∷ slot 2 0 1 7 0 2 0 1 0 (80 ∷ []) ∷ slot 2 0 0 7 0 2 0 1 0 (8 ∷ [])
+    ∷ slot 3 0 0 0 0 1 0 0 0 [] ∷ slot 3 0 0 5 0 1 0 0 2 (21 ∷ []) ∷ slot 3 0 0 6 0 1 0 0 3 (62 ∷ 10 ∷ []) ∷ []) ≡ false)
+    × (sound_at 1 (slot 3 0 0 7 1 1 0 0 0 [] ∷ slot 2 0 1 7 0 2 0 1 0 (80 ∷ []) ∷ slot 2 0 0 7 1 2 0 1 0 (8 ∷ [])
+    ∷ slot 3 0 0 0 0 1 0 0 1 [] ∷ slot 3 0 0 5 0 1 0 0 2 (21 ∷ []) ∷ slot 3 0 0 6 0 1 0 0 3 (62 ∷ 10 ∷ []) ∷ []) ≡ false)
     × (sound_at 1 (slot 3 0 0 7 1 1 0 0 0 [] ∷ slot 2 0 1 7 0 2 0 1 0 (80 ∷ []) ∷ slot 2 0 0 7 0 2 0 1 0 (8 ∷ [])
     ∷ slot 3 0 2 6 0 1 0 0 3 (62 ∷ 10 ∷ []) ∷ slot 3 0 0 5 0 1 0 0 2 (21 ∷ []) ∷ slot 3 0 0 6 0 1 0 0 3 (62 ∷ 10 ∷ []) ∷ []) ≡ false)
 unfolding run sound_at
 sound-14-2 = (refl, refl, refl, refl, refl)
 
 pub sound-14-3 :
-    (sound_at 0 (slot 3 0 0 4 0 1 1 0 0 (88 ∷ []) ∷ slot 2 0 0 3 0 1 0 1 0 (18 ∷ []) ∷ slot 1 0 0 4 0 3 3 0 0 [] ∷ slot 1 0 2 4 0 3 3 0 0 (51
-    ∷ 76 ∷ []) ∷ slot 2 0 0 3 0 1 0 3 0 (99 ∷ []) ∷ []) ≡ true)
+    (sound_at 0 (slot 3 0 0 4 0 1 1 0 0 (88 ∷ []) ∷ slot 2 0 0 3 0 1 0 1 0 (18 ∷ []) ∷ slot 1 0 0 4 0 3 3 0 0 []
+    ∷ slot 1 0 2 4 0 3 3 0 0 (51 ∷ 76 ∷ []) ∷ slot 2 0 0 3 0 1 0 3 0 (99 ∷ []) ∷ []) ≡ true)
     × (sound_at 0 (slot 1 0 0 4 0 1 1 0 0 (88 ∷ []) ∷ slot 2 0 0 3 0 1 0 1 0 (18 ∷ []) ∷ slot 1 0 0 4 0 3 3 0 0 []
     ∷ slot 1 0 2 4 0 3 3 0 0 (51 ∷ 76 ∷ []) ∷ slot 2 0 0 3 0 1 0 3 0 (99 ∷ []) ∷ []) ≡ false)
     × (sound_at 0 (slot 3 0 0 4 0 1 1 0 0 (88 ∷ []) ∷ slot 2 0 0 3 0 1 0 1 0 (18 ∷ []) ∷ slot 1 0 0 4 0 3 3 0 0 []
@@ -212,8 +212,8 @@ unfolding run sound_at
 sound-14-15 = (refl, refl, refl, refl, refl)
 
 pub sound-14-16 :
-    (sound_at 1 (slot 3 7 1 1 0 2 1 2 0 (84 ∷ []) ∷ slot 3 7 0 1 0 2 1 2 0 (62 ∷ []) ∷ slot 3 0 0 4 0 1 2 3 1 [] ∷ slot 1 7 0 4 1 2 1 3 0 (53
-    ∷ 91 ∷ []) ∷ []) ≡ true)
+    (sound_at 1 (slot 3 7 1 1 0 2 1 2 0 (84 ∷ []) ∷ slot 3 7 0 1 0 2 1 2 0 (62 ∷ []) ∷ slot 3 0 0 4 0 1 2 3 1 []
+    ∷ slot 1 7 0 4 1 2 1 3 0 (53 ∷ 91 ∷ []) ∷ []) ≡ true)
     × (sound_at 1 (slot 3 7 1 1 0 2 1 2 0 (84 ∷ []) ∷ slot 3 7 0 1 0 2 1 2 0 (62 ∷ []) ∷ slot 3 0 0 4 0 1 2 3 1 []
     ∷ slot 1 7 0 4 1 1 1 3 0 (53 ∷ 91 ∷ []) ∷ []) ≡ false)
     × (sound_at 1 (slot 3 7 1 1 0 2 1 2 0 (84 ∷ []) ∷ slot 0 7 0 1 0 2 1 2 0 (62 ∷ []) ∷ slot 3 0 0 4 0 1 2 3 1 []

@@ -4,3 +4,5 @@
 // which was written from document 01 and not from the definitions; here the definitions are computed and must agree. `model/build.sh`
 // builds the model, `target/model/model examples cells 14 20` prints Cells.antt (bytes 14 12, sound 14 20 and values 14 6 the others), and
 // `model/examples.sh SEED N` checks as many others as one likes.
+
+#![tactic(auto)]

@@ -1,6 +1,9 @@
-// Windows, ACKs and splits for programs in other languages, under plain names: a static library of them links into Rust or C
-// (`rt staticlib exports`). Such a function can't answer an enum. It answers document 01's refusal number, or 0 where nothing is refused,
-// and the values beside it, which are 0 on a refusal. Each promise says by the called function's own definition what all the numbers are.
+// Windows, ACKs and splits for programs in other languages, under plain names: the static library `exports_c` hands them on, and links into
+// Rust or C. Such a function can't answer an enum. It answers document 01's refusal number, or 0 where nothing is refused, and the values
+// beside it, which are 0 on a refusal. Each promise says by the called function's own definition what all the numbers are.
+
+#![tactic(auto)]
+
 ghost use Rattle.std.specs.Prelude.{◌≡◌, length};
 ghost use Rattle.base.specs.Put.{Run};
 ghost use Rattle.window.specs.Window.{new_window, insert_of, insert_answer};
@@ -16,7 +19,7 @@ use split::Piece;
 use window::{Insert, ReliableWindow};
 
 #[repr(C)]
-#[derive(Drop)]
+#[derive(Clone, Copy)]
 pub struct WindowInsert {
     pub number: u32,
     pub window: ReliableWindow,
@@ -24,7 +27,7 @@ pub struct WindowInsert {
 
 // How many bytes were written.
 #[repr(C)]
-#[derive(Drop)]
+#[derive(Clone, Copy)]
 pub struct AckWritten {
     pub number: u32,
     pub len: usize,
@@ -32,7 +35,7 @@ pub struct AckWritten {
 
 // The cursor stands at the first record.
 #[repr(C)]
-#[derive(Drop)]
+#[derive(Clone, Copy)]
 pub struct AckHeaderFound {
     pub number: u32,
     pub nack: bool,
@@ -41,7 +44,7 @@ pub struct AckHeaderFound {
 
 // A record and the cursor after it; nothing is found where no record is left. A Single's number is first and last.
 #[repr(C)]
-#[derive(Drop)]
+#[derive(Clone, Copy)]
 pub struct AckRecordFound {
     pub number: u32,
     pub found: bool,
@@ -53,7 +56,7 @@ pub struct AckRecordFound {
 
 // The piece's bytes are those from `start` on, `len` of them.
 #[repr(C)]
-#[derive(Drop)]
+#[derive(Clone, Copy)]
 pub struct SplitPiece {
     pub number: u32,
     pub start: usize,
@@ -62,15 +65,13 @@ pub struct SplitPiece {
     pub index: u32,
 }
 
-#[unsafe(no_mangle)]
-pub extern "C" fn poghduka_window_new() -> ReliableWindow
+pub fn poghduka_window_new() -> ReliableWindow
     ensures { result ≡ new_window }
 {
     ReliableWindow::new()
 }
 
-#[unsafe(no_mangle)]
-pub extern "C" fn poghduka_window_insert(w: ReliableWindow, n: u32) -> WindowInsert
+pub fn poghduka_window_insert(w: ReliableWindow, n: u32) -> WindowInsert
     ensures { result ≡ insert_told (insert_of w n) }
 {
     let r = w.insert(n);
@@ -83,39 +84,34 @@ pub extern "C" fn poghduka_window_insert(w: ReliableWindow, n: u32) -> WindowIns
     }
 }
 
-#[unsafe(no_mangle)]
-pub extern "C" fn poghduka_window_missing(w: ReliableWindow, list: &mut [u32]) -> usize
+pub fn poghduka_window_missing(w: ReliableWindow, list: &mut [u32]) -> usize
     ensures { Run 0 (Missing.missing w) list.old result list.new }
 {
     w.missing(list)
 }
 
-#[unsafe(no_mangle)]
-pub extern "C" fn poghduka_write_list(out: &mut [u8], nack: bool, numbers: &[u32]) -> AckWritten
+pub fn poghduka_write_list(out: &mut [u8], nack: bool, numbers: &[u32]) -> AckWritten
     ensures value { result ≡ ack_told (write_list_of (length out.old) nack numbers.now) }
     ensures out_after { out.new ≡ written_of out.old nack numbers.now }
 {
     ack_written(ack::write_list(out, nack, numbers))
 }
 
-#[unsafe(no_mangle)]
-pub extern "C" fn poghduka_read_ack_header(s: &[u8]) -> AckHeaderFound
+pub fn poghduka_read_ack_header(s: &[u8]) -> AckHeaderFound
     ensures { result ≡ header_told (read_header_of s.now) }
 {
     header_told(ack::read_header(s))
 }
 
 // The record that the cursor stands at.
-#[unsafe(no_mangle)]
-pub extern "C" fn poghduka_read_ack_record(s: &[u8], records: AckCursor) -> AckRecordFound
+pub fn poghduka_read_ack_record(s: &[u8], records: AckCursor) -> AckRecordFound
     ensures { result ≡ record_told (read_record_of s.now records) }
 {
     record_told(ack::read_record(s, records))
 }
 
 // Piece k of the split of the buffer at this mtu.
-#[unsafe(no_mangle)]
-pub extern "C" fn poghduka_split_piece(buffer: &[u8], mtu: u16, k: u32) -> SplitPiece
+pub fn poghduka_split_piece(buffer: &[u8], mtu: u16, k: u32) -> SplitPiece
     ensures { result ≡ piece_told (split_piece_of (length buffer.now) mtu k) }
 {
     piece_numbers(split::split_piece(buffer, mtu, k))

@@ -14,7 +14,6 @@ use Rattle.reliability.specs.declared.Profile.{Profile}
 use Rattle.reliability.specs.Profiles.{profile_of}
 use Rattle.frame.specs.declared.Frame.{Frame}
 use Rattle.frame.specs.declared.FramesRead.{FramesRead}
-use Rattle.frame.specs.declared.Placed.{Placed}
 use Rattle.frame.specs.declared.ReadFrame.{ReadFrame}
 use Rattle.frame.specs.Read.{read_frame_of, read_answer}
 use Rattle.frame.specs.Frames.{read_frames_of}

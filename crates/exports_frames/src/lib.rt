@@ -1,6 +1,9 @@
-// Frames and a datagram's head for programs in other languages, as `exports` has windows, ACKs and splits (`rt staticlib exports_frames`).
-// Each promise says by the called function's own definition what all the numbers are, and what is left of the output. A profile is a
-// number here, 0 console and 1 C++; every other is refused with 9.
+// Frames and a datagram's head for programs in other languages, as `exports` has windows, ACKs and splits: the static library
+// `exports_frames_c` hands them on. Each promise says by the called function's own definition what all the numbers are, and what is left of
+// the output. A profile is a number here, 0 console and 1 C++; every other is refused with 9.
+
+#![tactic(auto)]
+
 ghost use Rattle.std.specs.Prelude.{◌≡◌, ltb, length};
 ghost use Rattle.base.specs.Answer.{gives};
 ghost use Rattle.base.specs.If.{if_lt};
@@ -18,7 +21,7 @@ use frame_write::{WriteFrame, WriteHead};
 
 // The frame and where its body stands, and the place after it.
 #[repr(C)]
-#[derive(Drop)]
+#[derive(Clone, Copy)]
 pub struct FrameFound {
     pub number: u32,
     pub placed: Placed,
@@ -27,7 +30,7 @@ pub struct FrameFound {
 
 // How many frames there are, and the bytes left from the first that does not fit.
 #[repr(C)]
-#[derive(Drop)]
+#[derive(Clone, Copy)]
 pub struct FramesFound {
     pub number: u32,
     pub count: usize,
@@ -36,15 +39,14 @@ pub struct FramesFound {
 
 // The place after the frame.
 #[repr(C)]
-#[derive(Drop)]
+#[derive(Clone, Copy)]
 pub struct FrameWritten {
     pub number: u32,
     pub next: usize,
 }
 
 // The frames from place `at` on.
-#[unsafe(no_mangle)]
-pub extern "C" fn poghduka_read_frames(profile: u32, s: &[u8], at: usize) -> FramesFound
+pub fn poghduka_read_frames(profile: u32, s: &[u8], at: usize) -> FramesFound
     ensures { result ≡ frames_told (under_profile profile (gives (read_frames_of (profile_of profile) s.now at))) }
 {
     if known(profile) {
@@ -64,8 +66,7 @@ pub extern "C" fn poghduka_read_frames(profile: u32, s: &[u8], at: usize) -> Fra
 }
 
 // The frame at place `at`.
-#[unsafe(no_mangle)]
-pub extern "C" fn poghduka_read_frame(profile: u32, s: &[u8], at: usize) -> FrameFound
+pub fn poghduka_read_frame(profile: u32, s: &[u8], at: usize) -> FrameFound
     ensures { result ≡ frame_told (under_profile profile (read_frame_of (profile_of profile) s.now at)) }
 {
     if known(profile) {
@@ -77,8 +78,7 @@ pub extern "C" fn poghduka_read_frame(profile: u32, s: &[u8], at: usize) -> Fram
 }
 
 // Writes the frame into the output from place `at` on.
-#[unsafe(no_mangle)]
-pub extern "C" fn poghduka_write_frame(
+pub fn poghduka_write_frame(
     profile: u32,
     out: &mut [u8],
     at: usize,
@@ -99,8 +99,7 @@ pub extern "C" fn poghduka_write_frame(
 }
 
 // Writes 84 and the number at the start of the output.
-#[unsafe(no_mangle)]
-pub extern "C" fn poghduka_write_head(out: &mut [u8], number: u32) -> u32
+pub fn poghduka_write_head(out: &mut [u8], number: u32) -> u32
     ensures value { result ≡ number_of (write_head_of (length out.old) number) }
     ensures out_after { out.new ≡ head_written_of out.old number }
 {

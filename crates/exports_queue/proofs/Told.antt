@@ -1,13 +1,10 @@
 -- What the exported receiver's calls promise, of what the calls under them promise and of the numbers told.
 -- Assumes nothing.
 use mathlib.Core.Path.{◌≡◌, refl, ◌∙◌, ap}
-use Prim.Native.Nat.{ℕ}
-use mathlib.Core.Bool.{Bool, true, false, not}
+use Prim.Native.Nat.{ℕ, ◌<◌, ◌≤◌}
 use mathlib.Core.List.{List}
-use lib.Dec.{T, ltb, ltb→lt}
-use Rattle.base.specs.If.{if_lt}
 use Rattle.base.specs.Limits.{profiles}
-use Rattle.base.proofs.Ifs.{true-no, lt_yes}
+use Rattle.base.proofs.Ifs.{lt_yes, lt_no}
 use Rattle.reliability.specs.declared.Profile.{Profile}
 use Rattle.reliability.specs.Profiles.{profile_of}
 use Rattle.cells.specs.Cell.{Cell}
@@ -37,22 +34,17 @@ made-numbers : (a : MakeNew) (z : ℕ) (q : RecvQueue) (rs : List Cell) (is : Ma
 unfolding made_new new_numbers_of
 made-numbers a z q rs is said t = ap (λ n. new_numbers n q rs) t ∙ ap new_numbers_of said
 
--- a test as it comes out where it fails
-fails : (b : Bool) → T (not b) → b ≡ false
-fails true none = absurd none
-fails false none = refl
-
 -- make new for the number n, a profile's or none's; q, rs and st as they were lent
 module _ (n : ℕ) (q : RecvQueue) (rs : List Cell) (st : List ℕ) where
-  pub made-numbered : T (ltb n profiles) → (p : Profile) → p ≡ profile_of n → (a : MakeNew) (z : ℕ) (h : RecvQueue) (l : List Cell)
+  pub made-numbered : n < profiles → (p : Profile) → p ≡ profile_of n → (a : MakeNew) (z : ℕ) (h : RecvQueue) (l : List Cell)
       → made_new a h l ≡ make_new_of p q rs st → z ≡ number_of (new_answer a) → new_numbers z h l ≡ new_numbers_of (make_numbered_of n q rs st)
   unfolding make_numbered_of
   made-numbered less p e a z h l said t = made-numbers a z h l _
-      (lt_yes n profiles _ _ _ (ltb→lt n profiles less) (said ∙ ap (λ k. make_new_of k q rs st) e)) t
+      (lt_yes n profiles _ _ _ less (said ∙ ap (λ k. make_new_of k q rs st) e)) t
 
-  pub not-numbered : T (not (ltb n profiles)) → new_numbers 9 q rs ≡ new_numbers_of (make_numbered_of n q rs st)
-  unfolding make_numbered_of new_numbers_of if_lt
-  not-numbered none = ap new_numbers_of (true-no _ _ _ _ (fails (ltb n profiles) none) refl)
+  pub not-numbered : profiles ≤ n → new_numbers 9 q rs ≡ new_numbers_of (make_numbered_of n q rs st)
+  unfolding make_numbered_of new_numbers_of
+  not-numbered none = ap new_numbers_of (lt_no n profiles _ _ _ none refl)
 
 pub received-numbers : (a : Receive) (z : QueueReceived) (q : RecvQueue) (rs : List Cell) (st : List ℕ) (is : Received) → received a q rs st
     ≡ is → z ≡ receive_told (receive_answer a) → receive_numbers z q rs st ≡ receive_numbers_of is

@@ -1,6 +1,9 @@
-// The receiver's calls for programs in other languages, as `exports` has the others (`rt staticlib exports_queue`). The caller keeps the
-// receiver, its records and its store, and lends them for each call. Each promise says by the call's own definition what is returned, all
-// of it, and what is left of everything lent. A profile is a number here, 0 console and 1 C++; every other is refused with 9.
+// The receiver's calls for programs in other languages, as `exports_c` has the others: a static library (`rt lib` here). The caller keeps
+// the receiver, its records and its store, and lends them for each call. Each promise says by the call's own definition what is returned,
+// all of it, and what is left of everything lent. A profile is a number here, 0 console and 1 C++; every other is refused with 9.
+
+#![tactic(auto)]
+
 ghost use Rattle.std.specs.Prelude.{◌≡◌};
 ghost use Rattle.receiver.specs.Receive.{receive_of};
 ghost use Rattle.receiver.specs.Take.{take_of};

@@ -1,4 +1,7 @@
 // Frames, as document 01's "Bytes" has them, read from a slice under a profile (document 02, 2/13); `frame_write` writes them.
+
+#![tactic(auto)]
+
 ghost use Rattle.std.specs.Prelude.{◌≡◌, ◌+◌, ◌/◌, ◌<◌, ◌≤◌, length};
 ghost use Rattle.base.specs.Bytes.{be16, be32, le24};
 ghost use Rattle.frame.specs.Read.{header_size, body_length, longest_body, span_of};
@@ -19,7 +22,7 @@ pub const META_SIZE: usize = 10;
 
 // Where a piece stands in its message. The Rust's field `size` is document 01's count.
 #[repr(C)]
-#[derive(Drop)]
+#[derive(Clone, Copy)]
 pub struct FragmentMeta {
     pub count: u32,
     pub id: u16,
@@ -28,7 +31,7 @@ pub struct FragmentMeta {
 
 // What a frame's header says; a field that the kind, or a frame that is no piece, lacks is 0.
 #[repr(C)]
-#[derive(Drop)]
+#[derive(Clone, Copy)]
 pub struct Frame {
     pub kind: u8,
     pub reliable: u32,
@@ -41,7 +44,7 @@ pub struct Frame {
 
 // A frame, and where its body stands in the slice.
 #[repr(C)]
-#[derive(Drop)]
+#[derive(Clone, Copy)]
 pub struct Placed {
     pub frame: Frame,
     pub start: usize,
@@ -49,21 +52,21 @@ pub struct Placed {
 }
 
 // `Cut` is document 01's 1.
-#[derive(Drop)]
+#[derive(Clone, Copy)]
 pub enum ReadFrame {
     Whole { placed: Placed, next: usize },
     Cut,
 }
 
 // How many frames were read, and the bytes left from the first that does not fit.
-#[derive(Drop)]
+#[derive(Clone, Copy)]
 pub struct FramesRead {
     pub count: usize,
     pub left: usize,
 }
 
 // Where the body of a frame starts, and the place after the frame; or Cut where it does not fit.
-#[derive(Drop)]
+#[derive(Clone, Copy)]
 enum Span {
     Fits { start: usize, next: usize },
     Cut,

@@ -14,7 +14,6 @@ use Rattle.reliability.specs.Kinds.{fields_of}
 use Rattle.reliability.specs.declared.Profile.{Profile}
 use Rattle.reliability.specs.declared.Profile.TheVariants.{Console, Cpp}
 use Rattle.frame.specs.declared.Frame.{Frame}
-use Rattle.frame.specs.declared.FramesRead.{FramesRead}
 use Rattle.frame.specs.declared.Placed.{Placed}
 use Rattle.frame.specs.Read.{frame_at, body_length, longest_body, placed_at, body_of, read_frame_of}
 use Rattle.frame.specs.Frames.{on_read, frames_from, end_from, frames_of, end_of, read_frames_of}

@@ -1,5 +1,8 @@
 // The missing list number by number, as its definition is written: for each number it is found anew which byte and bit hold its place.
 // No part of the receiver uses it. `speed/` times it beside the list by words, and the program `replay_missing` runs both.
+
+#![tactic(auto)]
+
 ghost use Rattle.std.specs.Prelude.{◌≡◌, ◌<◌, ◌≤◌, ◌+◌};
 ghost use Rattle.base.specs.Limits.{numbers24, window_places};
 ghost use Rattle.base.specs.Put.{Run};
@@ -9,9 +12,8 @@ ghost use Rattle.window.specs.Missing as Missing;
 
 use window::ReliableWindow;
 
-// For the benchmark, which is in another language (`rt staticlib missing_plain`).
-#[unsafe(no_mangle)]
-pub extern "C" fn poghduka_missing_plain(w: ReliableWindow, list: &mut [u32]) -> usize
+// For the benchmark, which is in another language: the static library `missing_plain_c` hands it on.
+pub fn poghduka_missing_plain(w: ReliableWindow, list: &mut [u32]) -> usize
     ensures { Run 0 (Missing.missing w) list.old result list.new }
 {
     let bits = w.bits;

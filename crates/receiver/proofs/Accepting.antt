@@ -1,15 +1,15 @@
 -- The reliable numbers that a datagram's frames accept: in the window, and in the receiver with cells. They are the same.
 -- Assumes nothing.
-use Prim.Native.Nat.{ℕ, zero, suc, ◌+◌, ◌≤◌, ◌<◌}
+use Prim.Native.Nat.{ℕ, ◌+◌, ◌≤◌, ◌<◌}
 use mathlib.Core.Path.{◌≡◌, refl, sym, ◌∙◌, ap, subst}
-use mathlib.Core.Bool.{Bool, true, false, cond, ◌&&◌, ◌||◌, true≢false, false≢true}
-use mathlib.Core.Option.{Option, none, some}
+use mathlib.Core.Bool.{Bool, true, false, cond, ◌||◌}
+use mathlib.Core.Option.{none, some}
 use mathlib.Core.List.{List, [], ◌∷◌, Memᴰ}
 use native.Mathlib.Omega.{arith}
 use lib.Dec.{ltb, eqb}
-use borrow.Author.Tests.{ltb-true, ltb-false, eqb-true}
+use borrow.Author.Tests.{ltb-false, eqb-true}
 use Rattle.base.specs.Limits.{numbers24, window_places}
-use Rattle.base.proofs.Choices.{by_bool, cases, neither}
+use Rattle.base.proofs.Choices.{cases}
 use Rattle.window.specs.declared.ReliableWindow.{ReliableWindow}
 use Rattle.window.specs.Window.{accepted, accept}
 use Rattle.base.specs.Numbers.{distance}
@@ -19,7 +19,7 @@ use Rattle.window.proofs.Inserts.{accept-accepts, accept-sized}
 use Rattle.window.proofs.Laws.{proper-accepted, accepted-proper}
 use Rattle.bare.specs.Frame.{Frame, carries_reliable}
 use Rattle.bare.specs.Bare as line
-use Rattle.cells.specs.Datagram.{Work, frame, frames, drop_one, accept_in, keep_in}
+use Rattle.cells.specs.Datagram.{Work, frame, frames}
 use Rattle.receiver.specs.Receive.{accept_all}
 use Rattle.receiver.proofs.Keeps.{frame-accepted}
 

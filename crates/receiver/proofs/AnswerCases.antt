@@ -1,24 +1,23 @@
 -- The ways through receive and take: what holds of each refusal and of what is given holds of the answer.
 -- Assumes nothing.
-use Prim.Native.Nat.{ℕ, zero, suc, ◌+◌, ◌*◌, ◌≤◌, ◌<◌}
-use mathlib.Core.Path.{◌≡◌, refl, sym, ◌∙◌, ap, subst}
-use mathlib.Core.Bool.{Bool, true, false, cond, ◌&&◌}
-use mathlib.Core.Option.{Option, none, some}
-use mathlib.Core.List.{List, [], ◌∷◌, ◌++◌}
-use native.Mathlib.Omega.{arith}
+use Prim.Native.Nat.{ℕ, ◌≤◌, ◌<◌}
+use mathlib.Core.Path.{◌≡◌, refl}
+use mathlib.Core.Bool.{Bool, true, false}
+use mathlib.Core.Option.{some}
+use mathlib.Core.List.{List}
 use lib.ListN.{length, get_or}
-use lib.Dec.{ltb, leb, eqb}
-use borrow.Author.Tests.{ltb-true, ltb-false, leb-true, leb-false, eqb-true, eqb-false}
+use lib.Dec.{ltb, leb}
+use borrow.Author.Tests.{ltb-true, ltb-false, leb-true, leb-false}
 use Rattle.base.specs.If.{if_true, if_lt, if_le}
 use Rattle.base.specs.Limits.{min_datagram, max_datagram, max_unsent, window_places}
-use Rattle.base.specs.Lists.{option, find}
-use Rattle.base.proofs.Choices.{by_bool, by_option}
+use Rattle.base.specs.Lists.{find}
+use Rattle.base.proofs.Choices.{by_option}
 use Rattle.window.specs.declared.ReliableWindow.{ReliableWindow}
 use Rattle.window.specs.Window.{accepted}
 use Rattle.base.specs.Numbers.{distance}
-use Rattle.bare.specs.Frame.{Frame, Message}
-use Rattle.cells.specs.Cell.{Cell, Slot, ready_as, at, message_at}
-use Rattle.cells.specs.Datagram.{State, Work, datagram}
+use Rattle.bare.specs.Frame.{Message}
+use Rattle.cells.specs.Cell.{Cell, ready_as, at, message_at}
+use Rattle.cells.specs.Datagram.{datagram}
 use Rattle.cells.specs.Store.{slots_of}
 use Rattle.cells.specs.Take.{earliest}
 use Rattle.receiver.specs.declared.RecvQueue.{RecvQueue}

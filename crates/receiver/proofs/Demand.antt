@@ -128,18 +128,18 @@ module _ (s : Start) (cs : List Call) (bytes : AllBytes cs) where
   room-runs-out fs = matches-room _ (state_in (after_all outcome (begun s) cs)) (handed_out outcome (begun s) cs) fed fs
 
   in-line : line_for s.profile (read_by outcome s cs) ≡ handed_out outcome (begun s) cs ++ still_out outcome (after_all outcome (begun s) cs)
-  unfolding line_for frames_read feed
+  unfolding line_for frames_read feed drain_in drain state_of
   in-line =
       let x = after_all outcome (begun s) cs in
       let m = (drains x run.sane).matches _ (handed_out outcome (begun s) cs) fed in
       matches-line _ (state_in (drained outcome x)) _ m ∙ (rw (none_out x run.sane) (append-nil _))
     where
       nothing : (n : ℕ) (l : List Slot) → taking l ≡ none → drain_in n l ≡ []
-      nothing zero l e = unfold drain_in in refl
-      nothing (suc n) l e = unfold drain_in in rw e
+      nothing zero l e = refl
+      nothing (suc n) l e = rw e
 
       none_out : (x : Receiver) → Sane x → drain (state_in (drained outcome x)).slots ≡ []
-      none_out x v = unfold drain state_of in nothing _ _ (dry x v)
+      none_out x v = nothing _ _ (dry x v)
 
   one_list : OneList outcome s cs
   one_list = record {

@@ -1,15 +1,14 @@
 -- What a datagram's bytes always give of its frames.
 -- Assumes nothing.
-use Prim.Native.Nat.{ℕ, ◌+◌, ◌≤◌, ◌<◌}
-use mathlib.Core.Path.{◌≡◌, refl, sym, ◌∙◌, ap, subst}
+use Prim.Native.Nat.{ℕ, ◌≤◌, ◌<◌}
+use mathlib.Core.Path.{subst}
 use mathlib.Core.List.Memᴰ
 use mathlib.Core.List.{List, Memᴰ}
 use native.Mathlib.Omega.{arith}
 use lib.ListN.{length, take, drop, length-take}
-use Rattle.base.specs.Limits.{numbers24, min_datagram, max_datagram, cell_bytes}
+use Rattle.base.specs.Limits.{numbers24, min_datagram, max_datagram}
 use Rattle.reliability.specs.declared.Profile.{Profile}
 use Rattle.frame.specs.declared.Placed.{Placed}
-use Rattle.frame.specs.Read.{body_of}
 use Rattle.frame.specs.Frames.{frames_of}
 use Rattle.base.specs.Bytes.{Bytes}
 use Rattle.frame.proofs.Bounds.{read_small}

@@ -1,30 +1,28 @@
 -- What a take hands out: the message that the receiver with cells takes, its bytes where the answer says that they stand.
 -- Assumes nothing.
-use Prim.Native.Nat.{ℕ, zero, suc, ◌+◌, ◌*◌, ◌≤◌, ◌<◌}
-use mathlib.Core.Path.{◌≡◌, refl, sym, ◌∙◌, ap, subst}
-use mathlib.Core.Bool.{Bool, true, false, cond, ◌&&◌, false≢true, true≢false}
-use mathlib.Core.Option.{Option, none, some}
-use mathlib.Core.List.{List, [], ◌∷◌, ◌++◌, append-nil, Memᴰ}
+use Prim.Native.Nat.{ℕ, suc, ◌+◌, ◌*◌, ◌≤◌, ◌<◌}
+use mathlib.Core.Path.{◌≡◌, refl, sym, ◌∙◌, ap}
+use mathlib.Core.Bool.{Bool, true, false, cond, ◌&&◌}
+use mathlib.Core.Option.{some}
+use mathlib.Core.List.{List, [], ◌∷◌}
 use native.Mathlib.Omega.{arith}
-use native.Mathlib.Nat.{zero-add, suc-mul}
-use lib.ListN.{length, take, drop, length-append}
+use native.Mathlib.Nat.{suc-mul}
+use lib.ListN.{length, take, drop}
 use lib.Seq.{take_at, drop-drop}
-use lib.Dec.{ltb, eqb}
-use borrow.Author.Tests.{eqb-true, eqb-false, eq-eqb, ne_eqb, ltb-true, ltb-false, lt-ltb, le-ltb}
-use Rattle.base.specs.Answer.{Answer, refused, gives}
-use Rattle.base.specs.If.{if_true, if_lt}
-use Rattle.base.specs.Limits.{cell_bytes, max_frags}
-use Rattle.base.specs.Lists.{option, find}
+use lib.Dec.{eqb}
+use borrow.Author.Tests.{eqb-true, eqb-false, ne_eqb}
+use Rattle.base.specs.Limits.{cell_bytes}
+use Rattle.base.specs.Lists.{find}
 use Rattle.base.specs.Put.{put}
 use Rattle.base.proofs.Puts.{put-split}
-use Rattle.base.proofs.Choices.{by_bool, cases, and_left, and_right, neither}
+use Rattle.base.proofs.Choices.{by_bool, and_left}
 use Rattle.base.proofs.Lists.{find-some}
 use Rattle.bare.specs.Frame.{Message}
-use Rattle.cells.specs.Cell.{Cell, Slot, Key, ready_as, bears, at, sits, is_free, join, message_of, message_at, freed}
+use Rattle.cells.specs.Cell.{Cell, Slot, Key, ready_as, bears, at, sits, join, message_of, message_at, freed}
 use Rattle.cells.specs.Records.{index_of}
-use Rattle.cells.specs.Take.{earliest, Taken, taking}
+use Rattle.cells.specs.Take.{taking}
 use Rattle.cells.specs.Store.{cell_size, cell_body, slots_of, cells_of}
-use Rattle.receiver.specs.Take.{Where, in_store, in_joined, Handed, TakeResult, take_refuses, take_gives, handed}
+use Rattle.receiver.specs.Take.{in_store, in_joined, TakeResult, take_refuses, take_gives, handed}
 use Rattle.receiver.specs.Calls as calls
 use Rattle.receiver.specs.Calls.{took_of, bytes_at}
 use Rattle.receiver.proofs.AnswerCases.{by-lt, Found}

@@ -2,18 +2,18 @@
 -- channels.
 -- Assumes nothing.
 use Prim.Native.Nat.{ℕ, zero, suc, ◌≤◌, ◌<◌}
-use mathlib.Core.Path.{◌≡◌, refl, sym, ◌∙◌, ap}
-use mathlib.Core.Bool.{Bool, true, false, cond, ◌&&◌, ◌||◌}
+use mathlib.Core.Path.{◌≡◌, refl, ◌∙◌}
+use mathlib.Core.Bool.{Bool, true, false, cond}
 use mathlib.Core.List.{List, [], ◌∷◌}
 use native.Mathlib.Omega.{arith}
 use lib.ListN.{length}
-use lib.Dec.{ltb, eqb}
-use borrow.Author.Tests.{ltb-true, ne_eqb}
+use lib.Dec.{ltb}
+use borrow.Author.Tests.{ltb-true}
 use Rattle.base.specs.Limits.{max_ord_chans}
 use Rattle.base.specs.Lists.{any}
 use Rattle.base.proofs.Choices.{by_bool, and_left}
 use Rattle.bare.specs.Frame.{Frame, in_limits}
-use Rattle.bare.specs.Bare.{bump, accept_reliable, seen_before}
+use Rattle.bare.specs.Bare.{accept_reliable, seen_before}
 use Rattle.cells.specs.Cell.{Slot, open_as, is_free, all_there, clash}
 use Rattle.cells.specs.Datagram.{Work, drop_one, fill_up, place, made, rise, remember_in, accept_in, is_held, go_on, cascade, Fate, late, early}
 use Rattle.cells.specs.Datagram.{due, newer, free, fate_of, follows, roomy, readied, whole, joins, kept, piece, keep_in, frame, frames}

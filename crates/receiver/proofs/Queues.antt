@@ -1,29 +1,27 @@
 -- A receiver's own values stay sound.
 -- Assumes nothing.
 use Prim.Native.Nat.{ℕ, zero, suc, ◌+◌, ◌≤◌, ◌<◌}
-use mathlib.Core.Path.{◌≡◌, refl, sym, ◌∙◌, ap, subst}
-use mathlib.Core.Bool.{Bool, true, false, cond, not, ◌&&◌, ◌||◌, false≢true, true≢false, or-true, and-false}
-use mathlib.Core.List.{List, [], ◌∷◌, ◌++◌, Memᴰ}
+use mathlib.Core.Path.{◌≡◌, refl, ◌∙◌}
+use mathlib.Core.Bool.{Bool, true, false, not, ◌&&◌, ◌||◌, or-true, and-false}
+use mathlib.Core.List.{◌++◌}
 use native.Mathlib.Omega.{arith}
 use lib.ListN.{length, take, drop}
 use lib.Dec.{ltb, leb, eqb}
-use borrow.Author.Tests.{ltb-true, ltb-false, leb-true, le-leb, lt-ltb, eqb-true, eq-eqb}
+use borrow.Author.Tests.{ltb-false, le-leb, lt-ltb, eq-eqb}
 use Rattle.base.specs.Limits.{numbers24, max_ord_chans, window_places, max_unsent}
 use Rattle.base.specs.Lists.{any, every}
-use Rattle.base.proofs.Choices.{cases, by_bool, and_left, and_right, and_both, neither}
-use Rattle.base.proofs.Lists.{any-true}
+use Rattle.base.proofs.Choices.{and_left, and_right, and_both}
 use Rattle.reliability.specs.declared.Profile.{Profile}
 use Rattle.reliability.specs.declared.Profile.TheVariants.{Console, Cpp}
 use Rattle.window.specs.declared.ReliableWindow.{ReliableWindow}
 use Rattle.window.specs.Places.{place_set}
-use Rattle.window.specs.Window.{accepted, accept, new_window}
-use Rattle.window.specs.Proper.{Sized, Proper}
+use Rattle.window.specs.Window.{accepted, accept}
+use Rattle.window.specs.Proper.{Proper}
 use Rattle.window.proofs.Inserts.{accept-accepts}
 use Rattle.window.proofs.Laws.{new-proper}
 use Rattle.cells.specs.Sound.{sound_nexts, sound_memories}
 use Rattle.receiver.specs.declared.RecvQueue.{RecvQueue}
-use Rattle.receiver.specs.declared.Channel.{Channel}
-use Rattle.receiver.specs.Receive.{queue_after, channels_after}
+use Rattle.receiver.specs.Receive.{queue_after}
 use Rattle.receiver.specs.Write.{emptied}
 use Rattle.receiver.proofs.Accepting.{accept-proper}
 use Rattle.receiver.proofs.ChannelsAfter.{channels-length}

@@ -1,14 +1,13 @@
 -- Take: document 01, "Take, earliest ready first. 9; 20 none ready; 12 joining buffer shorter than a message of several pieces. A taken
 -- message frees its cells."
-use Rattle.std.specs.Prelude.{ℕ, zero, suc, ◌+◌, ◌*◌, Bool, true, false, cond, ◌&&◌, List, [], ◌∷◌, ◌++◌, ltb, leb, eqb, length, get_or, take, drop}
-use Rattle.std.proofs.Math.Option.{Option, none, some}
+use Rattle.std.specs.Prelude.{ℕ, ◌*◌, cond, List, eqb, length}
 use Rattle.base.specs.Answer.{Answer, refused, gives}
-use Rattle.base.specs.If.{if_true, if_lt, if_le}
+use Rattle.base.specs.If.{if_true, if_lt}
 use Rattle.base.specs.Limits.{cell_bytes}
 use Rattle.base.specs.Lists.{option, find}
 use Rattle.base.specs.Put.{put}
 use Rattle.bare.specs.Frame.{Message}
-use Rattle.cells.specs.Cell.{Cell, Slot, ready_as, at, message_at, freed}
+use Rattle.cells.specs.Cell.{Cell, ready_as, at, message_at, freed}
 use Rattle.cells.specs.Records.{index_of}
 use Rattle.cells.specs.Take.{earliest}
 use Rattle.cells.specs.Store.{slots_of, cells_of}

@@ -1,10 +1,13 @@
 // The receiver: what it keeps beside the cells.
+
+#![tactic(auto)]
+
 use window::ReliableWindow;
 
 // A channel: the order number that is made ready next; and one more than the newest sequence number made ready by kind 1, and by kind 4 in
 // the C++ profile, 0 for none.
 #[repr(C)]
-#[derive(Drop)]
+#[derive(Clone, Copy)]
 pub struct Channel {
     pub next: u32,
     pub newest: u32,
@@ -14,7 +17,7 @@ pub struct Channel {
 // of datagrams not yet acknowledged. newest: one more than the newest sequence number made ready by kind 4 in the console profile, 0 for
 // none. profile: 0 console, 1 C++; no other number is sound.
 #[repr(C)]
-#[derive(Drop)]
+#[derive(Clone, Copy)]
 pub struct RecvQueue {
     pub datagrams: ReliableWindow,
     pub reliables: ReliableWindow,
@@ -29,7 +32,7 @@ pub struct RecvQueue {
 pub const PROFILE_PLACE: usize = 65;
 
 // A receiver's own numbers, where its arrays are lent one by one: the lows of both windows, and how many numbers are unsent.
-#[derive(Drop)]
+#[derive(Clone, Copy)]
 pub struct Heads {
     pub datagrams: u32,
     pub reliables: u32,

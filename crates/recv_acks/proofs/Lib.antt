@@ -3,4 +3,3 @@ pub mod SortCases
 pub mod Sendable
 pub mod WriteCases
 pub mod WriteLaws
-pub mod Calls

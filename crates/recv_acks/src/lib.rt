@@ -1,4 +1,7 @@
 // ACK and NACK written from the receiver: document 01, "Write ACK or NACK".
+
+#![tactic(auto)]
+
 ghost use Rattle.std.specs.Prelude.{◌≡◌};
 ghost use Rattle.receiver.specs.Write.{write_unsent_of, write_missing_of};
 ghost use Rattle.recv_acks.specs.Wrote.{queue_answer, wrote, wrote_output, output_of, writing_of, pending_after};
@@ -8,7 +11,7 @@ use receiver::{Heads, RecvQueue};
 mod sort;
 
 // Refusals: 9, 12.
-#[derive(Drop)]
+#[derive(Clone, Copy)]
 pub enum WriteQueue {
     Written { len: usize },
     Unsound,

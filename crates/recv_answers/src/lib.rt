@@ -1,5 +1,8 @@
 // The receiver's answers in document 01's numbers: a refusal's, or 0 and the values, which are all 0 beside a refusal. The exported calls
 // and the programs tell them alike.
+
+#![tactic(auto)]
+
 ghost use Rattle.std.specs.Prelude.{◌≡◌};
 ghost use Rattle.recv_steps.specs.Outcome.{receive_answer};
 ghost use Rattle.recv_take.specs.Outcome.{take_answer};
@@ -15,7 +18,7 @@ use recv_steps::Receive;
 use recv_take::Take;
 
 #[repr(C)]
-#[derive(Drop)]
+#[derive(Clone, Copy)]
 pub struct QueueReceived {
     pub number: u32,
     pub ready: u32,
@@ -25,7 +28,7 @@ pub struct QueueReceived {
 
 // The message's bytes are the first `len` of the joining buffer where it is joined, else `len` of the store from `start` on.
 #[repr(C)]
-#[derive(Drop)]
+#[derive(Clone, Copy)]
 pub struct QueueTaken {
     pub number: u32,
     pub kind: u8,

@@ -1,11 +1,14 @@
 -- A list of c of which the first n, or all where n is more, are replaced by zs.
-use Rattle.walks.proofs.Walk.{◌≡◌, refl, sym, ◌∙◌, ap, subst, Bool, true, false, ℕ, ◌≤◌, min, min-le_right, arith, List, [], ◌++◌, ltb}
-use Rattle.walks.proofs.Walk.{length, take, length-take-le, take_at, ltb-false}
-use native.Mathlib.Nat.{min-eq_left, min-eq_right, le_of_lt}
-use mathlib.Core.List.{append-nil}
-use lib.ListN.{drop, drop_of_length-le}
-use lib.Seq.{length_front, take_all, drop_at}
-use borrow.Author.Tests.{ltb-true}
+use mathlib.Core.Path.{◌≡◌, refl, sym, ◌∙◌, ap, subst}
+use Prim.Native.Nat.{ℕ, ◌≤◌, min}
+use native.Mathlib.Nat.{min-eq_left, min-eq_right, min-le_right, le_of_lt}
+use native.Mathlib.Omega.{arith}
+use mathlib.Core.Bool.{Bool, true, false}
+use mathlib.Core.List.{List, [], ◌++◌, append-nil}
+use lib.Dec.{ltb}
+use lib.ListN.{length, take, drop, drop_of_length-le}
+use lib.Seq.{length-take-le, length_front, take_all, take_at, drop_at}
+use borrow.Author.Tests.{ltb-true, ltb-false}
 
 module _ {A : Type 0} (n c : ℕ) (l zs : List A) (e : length l ≡ c) (f : length zs ≡ length (take (min n c) l)) where
   -- so many

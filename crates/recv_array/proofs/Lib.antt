@@ -1,5 +1,2 @@
-pub mod Calls
 pub mod First
 pub mod Said
-pub mod Prefix
-pub mod Whole

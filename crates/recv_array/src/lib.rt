@@ -1,5 +1,8 @@
 // The calls for a program that holds its receiver and its records by value: they are passed, lent for the call, and handed back. A call is
 // over the first n records (all, where n is more than there are). A `&mut` of such values stands in these functions alone.
+
+#![tactic(auto)]
+
 ghost use Rattle.std.specs.Prelude.{◌≡◌, min, take, drop};
 ghost use Rattle.receiver.specs.Queue.{new_queue};
 ghost use Rattle.receiver.specs.Receive.{receive_of};
@@ -15,27 +18,27 @@ use recv_queue::{CellRecord, MakeNew, Profile, Receive, RecvQueue, Take, WriteQu
 // How many records a program holds, in use or not.
 pub const HELD: usize = 256;
 
-#[derive(Drop)]
+#[derive(Clone, Copy)]
 pub struct HeldNew {
     pub answer: MakeNew,
     pub queue: RecvQueue,
     pub records: [CellRecord; HELD],
 }
 
-#[derive(Drop)]
+#[derive(Clone, Copy)]
 pub struct HeldReceived {
     pub answer: Receive,
     pub queue: RecvQueue,
     pub records: [CellRecord; HELD],
 }
 
-#[derive(Drop)]
+#[derive(Clone, Copy)]
 pub struct HeldTake {
     pub answer: Take,
     pub records: [CellRecord; HELD],
 }
 
-#[derive(Drop)]
+#[derive(Clone, Copy)]
 pub struct HeldWrote {
     pub answer: WriteQueue,
     pub queue: RecvQueue,

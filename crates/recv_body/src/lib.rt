@@ -1,4 +1,7 @@
 // (A crate of its own only for the gate: a must-fail edit costs a check of its crate.) The bytes of the message that a take gave.
+
+#![tactic(auto)]
+
 ghost use Rattle.std.specs.Prelude.{◌≡◌, min, take, drop};
 ghost use Rattle.recv_body.specs.Body.{taken_body};
 

@@ -6,14 +6,14 @@ use Prim.Native.Nat.{ℕ, zero, suc, ◌+◌, ◌*◌, ◌<◌, ◌≤◌}
 use native.Mathlib.Omega.{arith}
 use native.Mathlib.Nat.{eq-or-lt_of_le}
 use mathlib.Core.Logic.{◌⊎◌, inl, inr}
-use mathlib.Core.List.{List}
+use mathlib.Core.List.{List, [], ◌∷◌}
 use lib.ListN.{length, set, get_or, length-set, get_or-eq_default}
 use lib.Seq.{get_or-set_same, get_or-set_other, ext_get_or}
 use Rattle.base.specs.Limits.{max_ord_chans}
 use Rattle.receiver.specs.declared.Channel.{Channel}
 use Rattle.receiver.specs.declared.RecvQueue.{RecvQueue}
 use Rattle.receiver.specs.Queue.{new_channel}
-use Rattle.receiver.specs.Parts.{channel_with, nexts_in, memory_place, next_at, newest_at, channels_of}
+use Rattle.receiver.specs.Parts.{channel_with, nexts_in, nexts_of, memory_place, next_at, newest_at, channels_of}
 use Rattle.receiver.proofs.ByParts.{SomePlace, place-channel, place-past, place-some, nexts-in-next, nexts-in-newest, nexts-in-own}
 use Rattle.receiver.proofs.ByParts.{nexts-in-profile, nexts-in-long, next-at, newest-at}
 use Rattle.receiver.proofs.ByParts.{channels-of-length, channels-of-at}
@@ -82,6 +82,17 @@ filled-all cs own p ns i c le f = ext_get_or 0 all (nexts_in cs own p) (long ∙
     at j (inr (inr e)) = rw e (profile-at
         ∙ sym (subst (λ (k : ℕ). get_or (nexts_in cs own p) (2 * k + 1) 0 ≡ p) c (nexts-in-profile cs own p)))
 
+-- ---- `nexts_of`: as many numbers as an array of 66 has are those of 32 channels
+nexts-in-count : (cs : List Channel) (own p : ℕ) → length (nexts_in cs own p) ≡ 2 * length cs + 2
+unfolding nexts_in
+nexts-in-count [] own p = refl
+nexts-in-count (x ∷ cs) own p = let e = nexts-in-count cs own p in omega arith
+
+pub channels-long : (q : RecvQueue) (ns : List ℕ) → ns ≡ nexts_of q → length ns ≡ 66 → length q.channels ≡ 32
+unfolding nexts_of
+channels-long q ns e l = let n = nexts-in-count q.channels q.newest q.profile in
+    let m : length ns ≡ length (nexts_in q.channels q.newest q.profile) = ap length e in omega arith
+
 -- ---- `advance_all`: the receiver once its first k channels are advanced
 abbrev pub up_to : ℕ → RecvQueue → List ℕ → RecvQueue
 up_to k q ns = with_channels q (first_at k q.channels ns) q.newest
@@ -105,6 +116,14 @@ up-all q ns = ap (with_channels q (first_at 32 q.channels ns)) (sym newest)
   where
     newest : newest_at ns max_ord_chans ≡ get_or ns 64 0
     newest = newest-at ns max_ord_chans (omega arith) ∙ ap (λ (p : ℕ). get_or ns p 0) (place-past max_ord_chans (omega arith))
+
+-- a receiver h that the loop leaves, k channels of q advanced, with the receiver's own memory moved
+pub up-done : (q : RecvQueue) (ns : List ℕ) (h : RecvQueue) (k n : ℕ) → (k ≤ 32) × (h ≡ up_to k q ns) → 32 ≤ k → n ≡ get_or ns 64 0
+    → with_channels h h.channels n ≡ advanced_all q ns
+up-done q ns h k n i le e = rw (e, i.1, whole) (up-all q ns)
+  where
+    whole : k ≡ 32
+    whole = omega (arith, i.0)
 
 -- ---- the channels once all are advanced
 abbrev numbers_at : List ℕ → ℕ → Channel

@@ -1,6 +1,9 @@
 // A channel's record, advanced in place. Document 01: "thin function on a channel record lent by &mut: next order number moved past ready
 // messages, after the by-value core". Receive works on the nexts and memories as numbers (`nexts_of`); the records are then moved to those
 // that it comes to.
+
+#![tactic(auto)]
+
 ghost use Rattle.std.specs.Prelude.{◌≡◌, ◌<◌, get_or};
 ghost use Rattle.receiver.specs.Parts.{channel_with, nexts_in, nexts_of};
 ghost use Rattle.recv_channel.specs.Advance.{advanced_to, advanced_all};

@@ -1,6 +1,9 @@
 // Receive and take on a lent receiver and rows of words. The core works on copies of the reliable numbers' bits and of the channels' nexts;
 // where it accepts the datagram they are written back, each array where it lies, so a refusal changes nothing of the receiver.
-ghost use Rattle.std.specs.Prelude.{◌≡◌, ◌<◌};
+
+#![tactic(auto)]
+
+ghost use Rattle.std.specs.Prelude.{◌≡◌, ◌<◌, length};
 ghost use Rattle.base.specs.Limits.{numbers24};
 ghost use Rattle.window.specs.Window.{window_of, insert_of};
 ghost use Rattle.row_slots.specs.First.{first_rows, after_rows};
@@ -11,7 +14,7 @@ ghost use Rattle.recv_take.specs.Outcome.{taken_rows, take_rows_of};
 ghost use Rattle.recv_lent.specs.Settled.{is_refusal, next_pending, with_number, settled_of};
 ghost use Rattle.recv_lent.specs.Calls.{received_with, receive_with_of};
 
-use receiver::{Heads, RecvQueue};
+use receiver::{Channel, Heads, RecvQueue};
 use recv_steps::{PassedRows, Receive};
 use recv_take::TakenRows;
 
@@ -20,6 +23,19 @@ fn bits_of(queue: &RecvQueue) -> [u8; 256]
     ensures { result ≡ queue.now.reliables.bits }
 {
     queue.reliables.bits
+}
+
+// A receiver's arrays are as long as its type says, which is known of each once it is lent as a slice.
+fn see_lengths(queue: &RecvQueue)
+    ensures datagrams { length queue.now.datagrams.bits ≡ 256 }
+    ensures reliables { length queue.now.reliables.bits ≡ 256 }
+    ensures channels { length queue.now.channels ≡ 32 }
+    ensures unsent { length queue.now.unsent ≡ 1024 }
+{
+    let _datagrams: &[u8] = &queue.datagrams.bits;
+    let _reliables: &[u8] = &queue.reliables.bits;
+    let _channels: &[Channel] = &queue.channels;
+    let _unsent: &[u32] = &queue.unsent;
 }
 
 // The datagram's number: 24 bits, since a lent slice's elements are known to be bytes once they are read.
@@ -140,6 +156,7 @@ pub fn receive_with(
         store.new
         ≡ receive_with_of queue.old k cells words.old store.old datagram.now }
 {
+    see_lengths(queue);
     let mut bits = bits_of(queue);
     let mut nexts = recv_channel::nexts_of(queue);
     let number = number_of(datagram);
@@ -162,6 +179,7 @@ pub fn take_with(
     ensures { taken_rows result joined.new ≡ take_rows_of queue.now k cells words.now store.now
         joined.old }
 {
+    see_lengths(queue);
     let nexts = recv_channel::nexts_of(queue);
     let h = Heads {
         datagrams: queue.datagrams.low,

@@ -1,4 +1,7 @@
 // The memories of newest sequence numbers, where they stand among the nexts (request 1). Each is the newest number plus 1, and 0 for none.
+
+#![tactic(auto)]
+
 ghost use Rattle.std.specs.Prelude.{◌≡◌, get_or, take};
 ghost use Rattle.bare.specs.Bare.{memory_of, older};
 ghost use Rattle.base.specs.Limits.{many_nexts};

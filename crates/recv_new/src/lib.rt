@@ -1,4 +1,7 @@
 // Make new: a receiver over lent records and a lent store.
+
+#![tactic(auto)]
+
 ghost use Rattle.std.specs.Prelude.{◌≡◌, ◌<◌, ◌≤◌, length, set};
 ghost use Rattle.row_slots.specs.First.{blank};
 ghost use Rattle.receiver.specs.Queue.{new_queue};
@@ -10,7 +13,7 @@ use reliability::Profile;
 use window::ReliableWindow;
 
 // BadLengths is document 01's 9.
-#[derive(Drop)]
+#[derive(Clone, Copy)]
 pub enum MakeNew {
     BadLengths,
     Made,

@@ -1,13 +1,17 @@
 -- Eight records that are all unused can be passed over at once: the turns of `last_used`.
 -- Assumes nothing.
-use Rattle.walks.proofs.Walk.{◌≡◌, refl, sym, ◌∙◌, ap, subst, ℕ, suc, ◌+◌, ◌≤◌, arith, Bool, true, false, not, List, T, ltb, get_or}
-use Rattle.walks.proofs.Walk.{ltb-false}
-use mathlib.Core.Bool.{◌||◌}
-use Rattle.base.proofs.Choices.{cases}
+use mathlib.Core.Path.{◌≡◌, refl, sym, ◌∙◌, ap, subst}
+use Prim.Native.Nat.{ℕ, suc, ◌+◌, ◌<◌, ◌≤◌}
+use native.Mathlib.Omega.{arith}
+use mathlib.Core.Bool.{Bool, true, false, ◌||◌}
+use mathlib.Core.List.{List}
+use lib.Dec.{T, ltb}
+use lib.ListN.{get_or}
+use borrow.Author.Tests.{ltb-false}
 use Rattle.cells.specs.Cell.{Cell}
 use Rattle.row_slots.specs.First.{blank}
 use Rattle.recv_prefix.specs.Needs.{used_in}
-use Rattle.recv_prefix.proofs.Used.{used-less}
+use Rattle.recv_prefix.proofs.Used.{used-found, used-less, used-none}
 use Rattle.recv_queue.specs.Records.{any_used, eight_used}
 
 pub eight_is : (rs : List Cell) (i : ℕ) → any_used (get_or rs i blank).used (get_or rs (i + 1) blank).used (get_or rs (i + 2) blank).used
@@ -48,6 +52,25 @@ eight-none rs i e =
     ∙ (less-at rs i 1 a.1 ∙ (less-at rs i 0 first ∙ ap (used_in rs) z)))))))
 
 -- none of the eight below k is used
-pub eight-less : (rs : List Cell) (i k : ℕ) → k ≡ i + 8 → T (not (eight_used rs i)) → used_in rs i ≡ used_in rs k
-eight-less rs i k e t = cases (eight_used rs i) (λ u. absurd (subst (λ (b : Bool). T (not b)) u t))
-    (λ u. sym (eight-none rs i u) ∙ ap (used_in rs) (sym e))
+pub eight-less : (rs : List Cell) (i k n : ℕ) → k ≡ i + 8 → eight_used rs i ≡ false → used_in rs k ≡ n → used_in rs i ≡ n
+eight-less rs i k n e u so = sym (eight-none rs i u) ∙ (ap (used_in rs) (sym e) ∙ so)
+
+-- ---- the turns of `last_below`
+
+-- record i is used
+pub found-below : (rs : List Cell) (i k n : ℕ) → k ≡ i + 1 → 0 < (get_or rs i blank).used → used_in rs k ≡ n → k ≡ n
+found-below rs i k n e l so =
+    let f : k ≡ suc i = omega arith in
+    f ∙ (sym (used-found rs i l) ∙ (ap (used_in rs) (sym f) ∙ so))
+
+-- it is not
+pub less-below : (rs : List Cell) (i k n : ℕ) → k ≡ i + 1 → (get_or rs i blank).used ≤ 0 → used_in rs k ≡ n → used_in rs i ≡ n
+less-below rs i k n e l so =
+    let f : k ≡ suc i = omega arith in
+    sym (used-less rs i l) ∙ (ap (used_in rs) (sym f) ∙ so)
+
+-- no record is left
+pub none-below : (rs : List Cell) (k n : ℕ) → k ≤ 0 → used_in rs k ≡ n → k ≡ n
+none-below rs k n l so =
+    let z : k ≡ 0 = omega arith in
+    z ∙ (sym (used-none rs) ∙ (ap (used_in rs) (sym z) ∙ so))

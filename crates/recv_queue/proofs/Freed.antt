@@ -1,30 +1,41 @@
 -- What `free_turn` leaves of the records, while its loop goes on and at its end; and the cases of `free_at`.
-use Rattle.walks.proofs.Walk.{◌≡◌, refl, sym, ◌∙◌, ap, subst, ℕ, zero, suc, ◌+◌, ◌<◌, ◌≤◌, arith, Bool, not, List, [], ◌∷◌, ◌++◌, map, T}
-use Rattle.walks.proofs.Walk.{length, set, get_or, take, length-append, length-drop, length-map, drop-cons, take-suc, length-take-le}
-use mathlib.Core.List.{map-append}
-use lib.ListN.{drop}
-use lib.Seq.{set_at, append_snoc, get_or-append-add}
-use Rattle.base.proofs.Choices.{cases}
+use mathlib.Core.Path.{◌≡◌, refl, sym, ◌∙◌, ap}
+use Prim.Native.Nat.{ℕ, zero, suc, ◌+◌, ◌<◌, ◌≤◌}
+use native.Mathlib.Omega.{arith}
+use native.Mathlib.Numerals.{add-one}
+use mathlib.Core.Bool.{Bool, true, false}
+use mathlib.Core.List.{List, [], ◌∷◌, ◌++◌, map, map-append}
+use lib.ListN.{length, set, get_or, take, drop, length-append, length-drop, length-map}
+use lib.Seq.{set_at, append_snoc, get_or-append-add, drop-cons, take-suc, length-take-le}
 use Rattle.cells.specs.Cell.{Cell, bears, ready_as, empty_cell}
 use Rattle.row_slots.specs.First.{blank}
 use Rattle.recv_queue.specs.Records.{record_left_by, freed_to}
 
 -- ---- one record
 
-pub left-unused : (turn : ℕ) (c : Cell) → T (bears (ready_as turn) c) → blank ≡ record_left_by turn c
+left-unused : (turn : ℕ) (c : Cell) → bears (ready_as turn) c ≡ true → blank ≡ record_left_by turn c
 unfolding record_left_by empty_cell
-left-unused turn c t = cases (bears (ready_as turn) c) (λ e. rw e) (λ e. absurd (subst T e t))
+left-unused turn c e = rw e
 
 set_own : (rs : List Cell) (i : ℕ) → i < length rs → set rs i (get_or rs i blank) ≡ rs
 set_own [] i l = absurd (omega arith)
 set_own (c ∷ rs) zero l = refl
 set_own (c ∷ rs) (suc i) l = ap (λ (cs : List Cell). c ∷ cs) (set_own rs i (omega arith))
 
-pub left-same : (turn : ℕ) (rs : List Cell) (i : ℕ) → i < length rs → T (not (bears (ready_as turn) (get_or rs i blank))) → rs
+left-same : (turn : ℕ) (rs : List Cell) (i : ℕ) → i < length rs → bears (ready_as turn) (get_or rs i blank) ≡ false → rs
     ≡ set rs i (record_left_by turn (get_or rs i blank))
 unfolding record_left_by
-left-same turn rs i l t = cases (bears (ready_as turn) (get_or rs i blank)) (λ e. absurd (subst (λ (b : Bool). T (not b)) e t))
-    (λ e. sym (set_own rs i l) ∙ rw e)
+left-same turn rs i l e = sym (set_own rs i l) ∙ rw e
+
+-- the cases of `free_at`, of the record r, and whether it is of the message taken
+pub at-taken : (turn : ℕ) (rs zs : List Cell) (i : ℕ) (r u : Cell) (b : Bool) → r ≡ get_or rs i blank → b ≡ bears (ready_as turn) r → b ≡ true
+    → u ≡ blank → zs ≡ set rs i u → zs ≡ set rs i (record_left_by turn (get_or rs i blank))
+at-taken turn rs zs i r u b is test t e said =
+    said ∙ ap (set rs i) (e ∙ (left-unused turn r (sym test ∙ t) ∙ ap (record_left_by turn) is))
+
+pub at-other : (turn : ℕ) (rs : List Cell) (i : ℕ) (r : Cell) (b : Bool) → i < length rs → r ≡ get_or rs i blank
+    → b ≡ bears (ready_as turn) r → b ≡ false → rs ≡ set rs i (record_left_by turn (get_or rs i blank))
+at-other turn rs i r b l is test t = left-same turn rs i l (ap (bears (ready_as turn)) (sym is) ∙ (sym test ∙ t))
 
 -- ---- all of them
 
@@ -66,6 +77,13 @@ freed-one rs turn i l =
       append_snoc,
     )
 
-pub freed-more : (rs : List Cell) (turn i : ℕ) → i < length rs → set (freed_to rs i turn) i
+freed-more : (rs : List Cell) (turn i : ℕ) → i < length rs → set (freed_to rs i turn) i
     (record_left_by turn (get_or (freed_to rs i turn) i blank)) ≡ freed_to rs (suc i) turn
 freed-more rs turn i l = rw (freed-next rs turn i l) (freed-one rs turn i l)
+
+-- a turn of the loop, from the records l to z
+pub freed-step : (rs l z : List Cell) (turn i : ℕ) → i < length rs → l ≡ freed_to rs i turn
+    → z ≡ set l i (record_left_by turn (get_or l i blank)) → z ≡ freed_to rs (i + 1) turn
+freed-step rs l z turn i h so said =
+    said ∙ (ap (λ (m : List Cell). set m i (record_left_by turn (get_or m i blank))) so
+    ∙ (freed-more rs turn i h ∙ ap (λ (j : ℕ). freed_to rs j turn) (sym (add-one i))))

@@ -6,6 +6,3 @@ pub mod Eights
 pub mod Written
 pub mod Receives
 pub mod Takes
-pub mod Elements
-pub mod Calls
-pub mod Zeros

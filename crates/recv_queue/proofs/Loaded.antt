@@ -1,7 +1,8 @@
 -- What `load` leaves in the words. Its own proof takes the steps; the laws that other proofs cite stand last.
-use mathlib.Core.Path.{◌≡◌, refl, ◌∙◌, ap}
+use mathlib.Core.Path.{◌≡◌, refl, sym, ◌∙◌, ap}
 use Prim.Native.Nat.{ℕ, suc, ◌+◌, ◌*◌, ◌<◌, ◌≤◌}
 use native.Mathlib.Omega.{arith}
+use native.Mathlib.Numerals.{add-one}
 use mathlib.Core.List.{List, [], ◌∷◌, ◌++◌, map, map-append}
 use lib.ListN.{length, get_or, take, drop, length-append, length-drop, length-map, get_or-map}
 use lib.Seq.{sets-eq, take-suc, take_at, drop-append-add, drop-drop, length-take-le, get_or-take}
@@ -32,7 +33,7 @@ loaded-length rs ws n l room = omega (
 )
 
 -- record i is written as row i
-pub loaded-more : (rs : List Cell) (ws : List ℕ) (i : ℕ) → i < length rs → row_words * i + row_words ≤ length ws
+loaded-more : (rs : List Cell) (ws : List ℕ) (i : ℕ) → i < length rs → row_words * i + row_words ≤ length ws
     → put_row (loaded rs i ws) i (stored_row (get_or rs i blank)) ≡ loaded rs (suc i) ws
 unfolding loaded put_row words_of
 loaded-more rs ws i l room =
@@ -49,6 +50,13 @@ loaded-more rs ws i l room =
     rw (take-suc rs i blank l, map-append stored_row (take i rs) (c ∷ [])) (words_append (map stored_row (take i rs)) (stored_row c ∷ []))
     in
     sets-eq (words_in (stored_row c)) (W ++ drop (row_words * i) ws) (row_words * i) fits ∙ rw (e₁, e₂, e₃, e₄)
+
+-- a turn of the loop, from the words l to z
+pub loaded-step : (rs : List Cell) (ws l z : List ℕ) (i : ℕ) (r : Cell) → i < length rs → row_words * i + row_words ≤ length ws
+    → r ≡ get_or rs i blank → l ≡ loaded rs i ws → z ≡ put_row l i (stored_row r) → z ≡ loaded rs (i + 1) ws
+loaded-step rs ws l z i r h room is so said =
+    said ∙ (ap (λ (m : List ℕ). put_row m i (stored_row r)) so ∙ (ap (λ (c : Cell). put_row (loaded rs i ws) i (stored_row c)) is
+    ∙ (loaded-more rs ws i h room ∙ ap (λ (j : ℕ). loaded rs j ws) (sym (add-one i)))))
 
 -- ---- the rows that the words hold
 

@@ -44,6 +44,11 @@ room-read-as n used cells k d p r e f h =
 abbrev pub Enough : RecvQueue → List Cell → List ℕ → List ℕ → ℕ → Type 0
 Enough q rs st d k = k ≡ receive_needs (profile_in q) (last_used rs) (length rs) (length st) d
 
+pub enough_by : (q : RecvQueue) (rs : List Cell) (st d : List ℕ) (k u : ℕ)
+    → k ≡ receive_needs (profile_of q.profile) u (length rs) (length st) d → u ≡ last_used rs → Enough q rs st d k
+unfolding profile_in
+enough_by q rs st d k u is used = is ∙ ap (λ (n : ℕ). receive_needs (profile_of q.profile) n (length rs) (length st) d) used
+
 pub enough-few : (q : RecvQueue) (rs : List Cell) (st d : List ℕ) (k : ℕ) → Enough q rs st d k → (k ≤ length rs) × (k ≤ max_cells)
 enough-few q rs st d k is = receive-few (profile_in q) (last_used rs) (length rs) (length st) d k is (last_within rs)
 
@@ -110,7 +115,7 @@ module _ (q : RecvQueue) (rs : List Cell) (st d : List ℕ) (k : ℕ) (is : Enou
       e ∙ sym (receive-enough q rs st d k is)
 
   -- The call's promise, of what its body does.
-  pub received-in : (ws : List ℕ) (r : Receive) (h : RecvQueue) (w s : List ℕ) → row_words * k ≤ length ws → length w ≡ length ws
+  received-in : (ws : List ℕ) (r : Receive) (h : RecvQueue) (w s : List ℕ) → row_words * k ≤ length ws → length w ≡ length ws
       → CoreSays q (length rs) k (loaded rs k ws) st d r h w s
       → CallSays q rs st d r h (saved rs (rows_written (receive_answer r) k) w) s
   unfolding received_with receive_with_of
@@ -128,3 +133,13 @@ module _ (q : RecvQueue) (rs : List Cell) (st d : List ℕ) (k : ℕ) (is : Enou
       said ∙ ap (λ (cs : List Cell). of (receive_first q (length rs) cs st d)) cells in
       received-of r h w s (first_rows k ls) (after_rows k ls) (omega arith) (ap (λ (x : ReceivedWith). x.answer) e)
       (ap (λ (x : ReceivedWith). x.queue) e) (ap (λ (x : ReceivedWith). x.rows) e) (ap (λ (x : ReceivedWith). x.store) e)
+
+  -- the same, of what the calls in its body return and leave
+  pub received_by : (ws vs : List ℕ) (r : Receive) (h : RecvQueue) (w s : List ℕ) (n : ℕ) (zs : List Cell) → row_words * k ≤ length ws
+      → vs ≡ loaded rs k ws → length w ≡ length ws → CoreSays q (length rs) k vs st d r h w s → n ≡ rows_written (receive_answer r) k
+      → zs ≡ saved rs n w → CallSays q rs st d r h zs s
+  received_by ws vs r h w s n zs room load len core count save =
+      let said : CoreSays q (length rs) k (loaded rs k ws) st d r h w s =
+      subst (λ (v : List ℕ). CoreSays q (length rs) k v st d r h w s) load core in
+      let left : zs ≡ saved rs (rows_written (receive_answer r) k) w = save ∙ ap (λ (m : ℕ). saved rs m w) count in
+      ap (λ (cs : List Cell). received r h cs s) left ∙ received-in ws r h w s room len said

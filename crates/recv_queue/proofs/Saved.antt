@@ -1,7 +1,8 @@
 -- What `save` leaves in the records. Its own proof takes the steps; the law that other proofs cite stands last.
-use mathlib.Core.Path.{◌≡◌, refl, sym, ap}
-use Prim.Native.Nat.{ℕ, suc, ◌*◌, ◌<◌, ◌≤◌}
+use mathlib.Core.Path.{◌≡◌, refl, sym, ◌∙◌, ap}
+use Prim.Native.Nat.{ℕ, suc, ◌+◌, ◌*◌, ◌<◌, ◌≤◌}
 use native.Mathlib.Omega.{arith}
+use native.Mathlib.Numerals.{add-one}
 use mathlib.Core.List.{List, ◌++◌}
 use lib.ListN.{length, set, get_or, drop, length-append, length-drop}
 use lib.Seq.{drop-cons, set_at, append_snoc}
@@ -32,7 +33,7 @@ saved-length rs ws n l = omega (
 )
 
 -- record i is read from row i
-pub saved-more : (rs : List Cell) (ws : List ℕ) (i : ℕ) → i < length rs → set (saved rs i ws) i (cell_of (row_at ws i)) ≡ saved rs (suc i) ws
+saved-more : (rs : List Cell) (ws : List ℕ) (i : ℕ) → i < length rs → set (saved rs i ws) i (cell_of (row_at ws i)) ≡ saved rs (suc i) ws
 unfolding saved listed
 saved-more rs ws i l = rw (
   drop-cons rs i blank l,
@@ -40,6 +41,13 @@ saved-more rs ws i l = rw (
       (listed-length (λ j. cell_of (row_at ws j)) i),
   append_snoc,
 )
+
+-- a turn of the loop, from the records l to z
+pub saved-step : (rs l z : List Cell) (ws : List ℕ) (i : ℕ) (r : Cell) → i < length rs → r ≡ cell_of (row_at ws i) → l ≡ saved rs i ws
+    → z ≡ set l i r → z ≡ saved rs (i + 1) ws
+saved-step rs l z ws i r h is so said =
+    said ∙ (ap (λ (m : List Cell). set m i r) so ∙ (ap (set (saved rs i ws) i) is
+    ∙ (saved-more rs ws i h ∙ ap (λ (j : ℕ). saved rs j ws) (sym (add-one i)))))
 
 -- The first n records are the cells of the words' first n rows.
 pub saved-cells : (rs : List Cell) (ws : List ℕ) (n : ℕ) → row_words * n ≤ length ws → saved rs n ws ≡ first_cells n ws ++ drop n rs

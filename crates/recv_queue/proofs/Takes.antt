@@ -28,6 +28,9 @@ use Rattle.recv_queue.proofs.Loaded.{loaded-cells}
 abbrev pub Enough : List Cell → List ℕ → ℕ → Type 0
 Enough rs st k = k ≡ take_needs (last_used rs) (length rs) (length st)
 
+pub enough_by : (rs : List Cell) (st : List ℕ) (k u : ℕ) → k ≡ take_needs u (length rs) (length st) → u ≡ last_used rs → Enough rs st k
+enough_by rs st k u is used = is ∙ ap (λ (n : ℕ). take_needs n (length rs) (length st)) used
+
 pub enough-few : (rs : List Cell) (st : List ℕ) (k : ℕ) → Enough rs st k → (k ≤ length rs) × (k ≤ max_cells)
 enough-few rs st k is = take-few (last_used rs) (length rs) (length st) k is (last_within rs)
 
@@ -52,7 +55,7 @@ module _ (q : RecvQueue) (rs : List Cell) (st j : List ℕ) (k : ℕ) (is : Enou
   few = (enough-few rs st k is).0
 
   -- The call's promise, of what its body does.
-  pub taken_in : (ws : List ℕ) (r : TakenRows) (u : List ℕ) → row_words * k ≤ length ws → CoreSays q (length rs) k (loaded rs k ws) st j r u
+  taken_in : (ws : List ℕ) (r : TakenRows) (u : List ℕ) → row_words * k ≤ length ws → CoreSays q (length rs) k (loaded rs k ws) st j r u
       → CallSays q rs st j r.answer (freed_to rs (rows_written (take_answer r.answer) k) r.turn) u
   unfolding take_result beside_taken
   taken_in ws r u room said =
@@ -64,3 +67,12 @@ module _ (q : RecvQueue) (rs : List Cell) (st j : List ℕ) (k : ℕ) (is : Enou
       in
       ap (λ (cs : List Cell). take_result r.answer cs u) (freed-is a r.turn rs k)
       ∙ (ap (beside_taken (drop k rs)) first ∙ sym (take-enough q rs st j k is))
+
+  -- the same, of what the calls in its body return and leave
+  pub taken_by : (ws vs : List ℕ) (r : TakenRows) (u : List ℕ) (n : ℕ) (zs : List Cell) (a : Take) → row_words * k ≤ length ws
+      → vs ≡ loaded rs k ws → CoreSays q (length rs) k vs st j r u → n ≡ rows_written (take_answer r.answer) k → zs ≡ freed_to rs n r.turn
+      → a ≡ r.answer → CallSays q rs st j a zs u
+  taken_by ws vs r u n zs a room load core count free answer =
+      let said : CoreSays q (length rs) k (loaded rs k ws) st j r u = subst (λ (w : List ℕ). CoreSays q (length rs) k w st j r u) load core in
+      let left : zs ≡ freed_to rs (rows_written (take_answer r.answer) k) r.turn = free ∙ ap (λ (m : ℕ). freed_to rs m r.turn) count in
+      ap (λ (b : Take). take_result b zs u) answer ∙ (ap (λ (cs : List Cell). take_result r.answer cs u) left ∙ taken_in ws r u room said)

@@ -1,5 +1,8 @@
 // "One record stands beside each cell, in a lent slice of structs": receive and take over such a slice, and the few functions that touch
 // it; the other calls are offered here too. The cores of receive and take work on rows of words.
+
+#![tactic(auto)]
+
 ghost use Rattle.std.specs.Prelude.{◌≡◌, ◌<◌, ◌≤◌, ◌+◌, ◌*◌, length, set, get_or};
 ghost use Rattle.cells.specs.Cell.{bears, ready_as};
 ghost use Rattle.rows.specs.Rows.{row_words, row_at, cell_of};

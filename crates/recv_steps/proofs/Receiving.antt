@@ -32,7 +32,6 @@ use Rattle.receiver.proofs.ByParts.{next-of-parts}
 use Rattle.sound_queue.specs.declared.QueueSound.{QueueSound}
 use Rattle.sound_queue.specs.Sound.{queue_sound_of}
 use Rattle.recv_steps.specs.declared.Receive.{Receive}
-use Rattle.recv_steps.specs.declared.Receive.TheVariants as Receive
 use Rattle.recv_steps.specs.declared.PassedRows.{PassedRows}
 use Rattle.recv_steps.specs.Outcome.{receive_answer, rows_passed, zeros_of, found_in_frames, rows_refused, rows_by_answer, rows_outcome}
 use Rattle.recv_steps.specs.Receives.{refusal, Receives, Judged, Headed, Numbered}

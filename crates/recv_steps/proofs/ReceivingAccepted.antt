@@ -1,11 +1,10 @@
 -- What the frames of a datagram leave, refused or accepted, is what the definition leaves.
 -- Assumes nothing.
-use Prim.Native.Nat.{ℕ, suc, ◌+◌, ◌*◌, ◌≤◌}
+use Prim.Native.Nat.{ℕ, ◌*◌, ◌≤◌}
 use mathlib.Core.Path.{◌≡◌, refl, sym, ◌∙◌, ap}
 use mathlib.Core.Bool.{Bool}
 use mathlib.Core.List.{List, [], ◌∷◌, map}
 use native.Mathlib.Omega.{arith}
-use native.Mathlib.Nat.{add-zero, zero-add}
 use lib.Dec.{eqb}
 use lib.ListN.{length}
 use borrow.Author.Tests.{eq-eqb, ne_eqb}
@@ -25,8 +24,7 @@ use Rattle.row_slots.specs.First.{stored_row}
 use Rattle.row_slots.specs.Slots.{flushed, AllFit}
 use Rattle.row_slots.proofs.Stored.{accepted-store, accepted-records}
 use Rattle.receiver.specs.declared.Heads.{Heads}
-use Rattle.receiver.specs.declared.Channel.{Channel}
-use Rattle.receiver.specs.Parts.{nexts_in, nexts_of, next_at, newest_at, profile_at, profile_for, channels_of, queue_of}
+use Rattle.receiver.specs.Parts.{nexts_in, nexts_of, newest_at, profile_at, profile_for, channels_of, queue_of}
 use Rattle.receiver.proofs.ByParts.{numbers-back, channels-of-length, channels-anew}
 use Rattle.receiver.specs.Queue.{profile_in}
 use Rattle.receiver.specs.Receive.{frames_in, state_of, channels_after, queue_after, accepted_result, receive_of}

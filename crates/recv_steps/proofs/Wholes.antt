@@ -10,7 +10,7 @@ use Rattle.frame.specs.declared.Placed.{Placed}
 use Rattle.bare.specs.Frame.{Frame}
 use Rattle.bare.specs.Bare.{memory_of}
 use Rattle.cells.specs.Cell.{is_free, put_slot, slot_of}
-use Rattle.cells.specs.Datagram.{Work, place, made, remember_in, roomy, Fate, early, due, newer, free, fate_of, follows, readied, whole}
+use Rattle.cells.specs.Datagram.{Work, place, made, remember_in, roomy, Fate, early, due, free, fate_of, follows, readied, whole}
 use Rattle.rows.specs.declared.Row.{Row}
 use Rattle.row_slots.specs.Slots.{slots_in}
 use Rattle.receiver.specs.Receive.{frame_in}

@@ -1,5 +1,8 @@
 // A datagram's frames put through the four steps, on rows.
 // A module uses its parents' functions: the steps stand over the leaves here, and receive over the steps.
+
+#![tactic(auto)]
+
 ghost use Rattle.std.specs.Prelude.{◌≡◌, Bool, ◌+◌, ◌<◌, ◌^◌, ℕ, length, List};
 ghost use Rattle.base.specs.Limits.{max_ord_chans, many_nexts};
 ghost use Rattle.recv_steps.specs.declared.Tally.{Tally};
@@ -24,7 +27,7 @@ mod steps;
 pub use steps::datagram::receive::receive_rows;
 
 // Refusals: 9, 1, 2, 3, 4, 5, 6, 7, 8.
-#[derive(Drop)]
+#[derive(Clone, Copy)]
 pub enum Receive {
     NotSound,
     TooShort,
@@ -43,7 +46,7 @@ pub enum Receive {
 }
 
 // What receive on rows answers: low of the window of reliable numbers, and whether the unsent numbers ascend.
-#[derive(Drop)]
+#[derive(Clone, Copy)]
 pub struct PassedRows {
     pub answer: Receive,
     pub low: u32,
@@ -51,7 +54,7 @@ pub struct PassedRows {
 }
 
 // What a datagram's frames count. turn: that of the next message made ready. full is 1 where a body found no cell.
-#[derive(Drop)]
+#[derive(Clone, Copy)]
 struct Tally {
     turn: u32,
     ready: u32,
@@ -60,7 +63,7 @@ struct Tally {
 }
 
 // What the frames come to: a reliable number above low + 2,048; else, all worked on, the window's low, the counts and the bytes left.
-#[derive(Drop)]
+#[derive(Clone, Copy)]
 enum Framed {
     Beyond,
     Done {
@@ -72,7 +75,7 @@ enum Framed {
 
 // What step 4 does with a message: drop it, hold it, make it ready with the held ones that follow, make it ready and remember its sequence
 // number, or make it ready.
-#[derive(Drop)]
+#[derive(Clone, Copy)]
 enum Course {
     Late,
     Early,

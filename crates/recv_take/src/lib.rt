@@ -1,4 +1,7 @@
 // Take on rows of words: document 01, "Take, earliest ready first".
+
+#![tactic(auto)]
+
 ghost use Rattle.std.specs.Prelude.{◌≡◌, ◌≤◌};
 ghost use Rattle.base.specs.Limits.{max_frags};
 ghost use Rattle.base.specs.Put.{put, Run};
@@ -16,7 +19,7 @@ use receiver::Heads;
 use rows::{ROW, Row};
 
 // Where the body stands: a part of the store, or the front of the joining buffer. Refusals: 9, 20, 12.
-#[derive(Drop)]
+#[derive(Clone, Copy)]
 pub enum Take {
     NotSound,
     NoneReady,
@@ -37,7 +40,7 @@ pub enum Take {
 }
 
 // turn: that of the message given, so that its records can be freed; 0 where none is.
-#[derive(Drop)]
+#[derive(Clone, Copy)]
 pub struct TakenRows {
     pub answer: Take,
     pub turn: u32,

@@ -1,11 +1,14 @@
 // One table, eight rows a profile, gives each kind's fields. Kinds 0 to 7 are those of the Rust's `Reliability`.
+
+#![tactic(auto)]
+
 ghost use Rattle.std.specs.Prelude.{◌≡◌};
 ghost use Rattle.reliability.specs.Kinds.{fields_of, has_reliable, Small};
 ghost use Rattle.reliability.specs.Profiles.{profile_of, profile_number};
 ghost use Rattle.reliability.specs.declared.Profile.TheVariants.{Console, Cpp};
 
 // Whose frames these are: the consoles', as document 01 has them, or those of hosts on RakNet's own C++ (document 02, 2/13).
-#[derive(Drop)]
+#[derive(Clone, Copy)]
 pub enum Profile {
     Console,
     Cpp,
@@ -13,7 +16,7 @@ pub enum Profile {
 
 // What a frame of a kind carries: for each field the place in the header, counted from the frame's first byte, or 0 where the kind lacks
 // it; and how many bytes the header takes, without a piece's.
-#[derive(Drop)]
+#[derive(Clone, Copy)]
 pub struct KindFields {
     pub reliable: usize,
     pub sequence: usize,

@@ -2,7 +2,6 @@
 use Rattle.std.proofs.Common.{◌≡◌, ℕ, ◌+◌, ◌-◌, ◌<◌, ◌≤◌, Bool, true, false, List, [], length, get_or, take, drop, refl, add-one, arith, drop_of_length-le, drop-cons}
 use Rattle.base.specs.Bytes.{be16}
 use Rattle.base.proofs.Ifs.{true-yes, true-no, le_yes, le-no}
-use Rattle.replay.specs.declared.Item.{Item}
 use Rattle.replay.specs.declared.Tally.{Tally}
 use Rattle.replay.specs.Items.{part_of, item_of}
 use Rattle.replay.specs.Sums.{folded}

@@ -1,5 +1,5 @@
 -- "An item is a tag (1 byte), a length (16 bits big-endian) and a payload."
-use Rattle.std.specs.Prelude.{ℕ, ◌+◌, ◌-◌, List, [], length, slice_index, slice_range}
+use Rattle.std.specs.Prelude.{ℕ, ◌+◌, List, [], length, slice_index, slice_range}
 use Rattle.base.specs.If.{if_le}
 use Rattle.base.specs.Bytes.{be16}
 use Rattle.replay.specs.declared.Item.{Item}

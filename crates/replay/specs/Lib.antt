@@ -1,3 +1,4 @@
+pub mod Fronts
 pub mod Items
 pub mod Lines
 pub mod Sums

@@ -1,18 +1,40 @@
 // What the replaying programs share: items read one after another, a tally of stored answers, checksums, and lines of output.
-// No promise can say which bytes are written: a function that writes says what it returns.
-ghost use Rattle.std.specs.Prelude.{◌≡◌, ◌-◌, ◌≤◌, min, length, ◌==◌};
-ghost use Rattle.io.specs.Counts.{IsPrefixLen};
+// No promise can say which bytes are read or written: a function that writes says what it returns. A failed read is an `Err`, and a failed
+// write is passed over.
+
+#![tactic(auto)]
+
+ghost use Rattle.std.specs.Prelude.{◌≡◌, ◌-◌, ◌≤◌, min, length, ◌==◌, IfOk};
+ghost use Rattle.replay.specs.Fronts.{IsPrefixLen};
 ghost use Rattle.replay.specs.Items.{part_of, item_of};
 ghost use Rattle.replay.specs.Sums.{mixed_with, checksum_of, summed_with, sum_of};
 ghost use Rattle.replay.specs.Lines.{given_beside};
 ghost use Rattle.replay.specs.Tallies.{counted_in};
 
-use libc::STDOUT_FILENO;
+use std::io;
+use std::io::Read;
+
+// ---- the input
+
+// Reads until `buf` is full or the input ends, and returns how many bytes it put at the front of `buf`.
+pub fn read_full<R: Read>(input: &mut R, buf: &mut [u8]) -> io::Result<usize>
+    ensures { IfOk result (λ n. IsPrefixLen n buf.new) }
+{
+    let mut done = 0;
+    while done < buf.len() {
+        let n = input.read(&mut buf[done..])?;
+        if n == 0 {
+            break;
+        }
+        done += n;
+    }
+    Ok(done)
+}
 
 // ---- items
 
 // An item is a tag (1 byte), a length (16 bits big-endian) and a payload, from `start` to `end`; the next item stands at `end`.
-#[derive(Drop)]
+#[derive(Clone, Copy)]
 pub struct Item {
     pub tag: u8,
     pub start: usize,
@@ -78,10 +100,24 @@ pub fn within_list(list: &[u32], n: usize) -> usize
     list.len()
 }
 
+// ---- the output: a failed write is passed over, as before
+
+fn put(rt: &impl Print, s: &[u8]) {
+    let _ = rt.write_all(s);
+}
+
+fn put_decimal(rt: &impl Print, n: u64) {
+    let _ = rt.print(n);
+}
+
+fn put_hex(rt: &impl Print, x: u8) {
+    let _ = print!(rt; "{x:02x}");
+}
+
 // ---- the tally
 
 // How many stored answers were compared, and how many of ours were others.
-#[derive(Drop)]
+#[derive(Clone, Copy)]
 pub struct Tally {
     pub answers: u32,
     pub wrong: u32,
@@ -102,14 +138,14 @@ pub fn counted(t: Tally, right: bool) -> Tally
 }
 
 // Prints it; is all right?
-pub fn show_tally(word: &[u8], t: Tally) -> bool
+pub fn show_tally(rt: &impl Print, word: &[u8], t: Tally) -> bool
     ensures { result ≡ (t.wrong == 0) }
 {
-    io::write_all(STDOUT_FILENO, word);
-    io::print_decimal(STDOUT_FILENO, t.answers as u64);
-    io::write_all(STDOUT_FILENO, b" answers, wrong");
-    value(t.wrong as u64);
-    io::write_all(STDOUT_FILENO, b"\n");
+    put(rt, word);
+    put_decimal(rt, t.answers as u64);
+    put(rt, b" answers, wrong");
+    value(rt, t.wrong as u64);
+    put(rt, b"\n");
     t.wrong == 0
 }
 
@@ -163,9 +199,9 @@ const SHOWN: usize = 64;
 
 const SHOWN_LIST: usize = 16;
 
-fn value(n: u64) {
-    io::write_all(STDOUT_FILENO, b" ");
-    io::print_decimal(STDOUT_FILENO, n);
+fn value(rt: &impl Print, n: u64) {
+    put(rt, b" ");
+    put_decimal(rt, n);
 }
 
 // The values beside a number: none beside a refusal's.
@@ -179,91 +215,91 @@ pub fn given(number: u64, values: &[u64]) -> &[u64]
 }
 
 // The line's front; how many values there are.
-fn begin(word: &[u8], number: u64, values: &[u64]) -> usize
+fn begin(rt: &impl Print, word: &[u8], number: u64, values: &[u64]) -> usize
     ensures { result ≡ length values.now }
 {
-    io::write_all(STDOUT_FILENO, word);
-    value(number);
+    put(rt, word);
+    value(rt, number);
     let mut i = 0;
     while i < values.len() {
-        value(values[i]);
+        value(rt, values[i]);
         i += 1;
     }
     i
 }
 
 // A line that says no more.
-pub fn line(word: &[u8], number: u64, values: &[u64]) -> usize
+pub fn line(rt: &impl Print, word: &[u8], number: u64, values: &[u64]) -> usize
     ensures { result ≡ length values.now }
 {
-    let n = begin(word, number, values);
-    io::write_all(STDOUT_FILENO, b"\n");
+    let n = begin(rt, word, number, values);
+    put(rt, b"\n");
     n
 }
 
 // Prints byte i of some, and mixes it into their checksum.
-fn shown(h: u64, i: usize, x: u8) -> u64
+fn shown(rt: &impl Print, h: u64, i: usize, x: u8) -> u64
     ensures { result ≡ mixed_with h x }
 {
     if i < SHOWN {
-        io::print_hex(STDOUT_FILENO, x as u64, 2);
+        put_hex(rt, x);
     }
     mixed(h, x as u32)
 }
 
-fn bytes(s: &[u8]) -> u64
+fn bytes(rt: &impl Print, s: &[u8]) -> u64
     ensures { result ≡ checksum_of s.now }
 {
     let mut h = 0;
     let mut i = 0;
     while i < s.len() {
-        h = shown(h, i, s[i]);
+        h = shown(rt, h, i, s[i]);
         i += 1;
     }
     h
 }
 
 // A line that ends with bytes, of which the first 64 are printed in hexadecimal, and the checksum of them all, which it returns.
-pub fn line_with(word: &[u8], number: u64, values: &[u64], s: &[u8]) -> u64
+pub fn line_with(rt: &impl Print, word: &[u8], number: u64, values: &[u64], s: &[u8]) -> u64
     ensures { result ≡ checksum_of s.now }
 {
-    begin(word, number, values);
-    io::write_all(STDOUT_FILENO, b" ");
-    let h = bytes(s);
-    value(h);
-    io::write_all(STDOUT_FILENO, b"\n");
+    begin(rt, word, number, values);
+    put(rt, b" ");
+    let h = bytes(rt, s);
+    value(rt, h);
+    put(rt, b"\n");
     h
 }
 
 // Prints number i of a list, and mixes it into their checksum.
-fn shown_number(h: u64, i: usize, x: u32) -> u64
+fn shown_number(rt: &impl Print, h: u64, i: usize, x: u32) -> u64
     ensures { result ≡ mixed_with h x }
 {
     if i < SHOWN_LIST {
-        value(x as u64);
+        value(rt, x as u64);
     }
     mixed(h, x)
 }
 
-fn numbers(list: &[u32]) -> u64
+fn numbers(rt: &impl Print, list: &[u32]) -> u64
     ensures { result ≡ checksum_of list.now }
 {
     let mut h = 0;
     let mut i = 0;
     while i < list.len() {
-        h = shown_number(h, i, list[i]);
+        h = shown_number(rt, h, i, list[i]);
         i += 1;
     }
     h
 }
 
 // A line that ends with a list, of which the first 16 numbers are printed, and the checksum of them all, which it returns.
-pub fn line_list(word: &[u8], number: u64, values: &[u64], list: &[u32]) -> u64
+pub fn line_list(rt: &impl Print, word: &[u8], number: u64, values: &[u64], list: &[u32]) -> u64
     ensures { result ≡ checksum_of list.now }
 {
-    begin(word, number, values);
-    let h = numbers(list);
-    value(h);
-    io::write_all(STDOUT_FILENO, b"\n");
+    begin(rt, word, number, values);
+    let h = numbers(rt, list);
+    value(rt, h);
+    put(rt, b"\n");
     h
 }

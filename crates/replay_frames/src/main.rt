@@ -5,10 +5,16 @@
 //
 // The items and the expected output were made by tools/wire.py, which has its own reading and writing, written from the sentences of
 // document 01 and of request 2 and not from this code: the two agree only where both say what the documents say.
+
+#![tactic(auto)]
+
 use exports::SplitPiece;
 use exports_frames::{FrameFound, FrameWritten};
 use frame::{FragmentMeta, Frame};
-use libc::STDIN_FILENO;
+use std::io;
+
+// At most so many bytes of the input are read.
+const INPUT: usize = 65536;
 
 // Tags, each with what its payload holds and in how many bytes.
 // profile (4), place (2), bytes: the frame at the place is read, and the frames from there on
@@ -29,6 +35,9 @@ const LONG: u8 = 5;
 
 const DATA_SEED: u16 = 11029;
 
+// The longest data that an item may ask for: its length has 16 bits.
+const DATA: usize = 65536;
+
 // Makes a body, the data of a split, or the bytes of a long frame: a pattern whose bytes repeat only after 65,536.
 fn fill(out: &mut [u8], seed: u16) {
     let mut x = seed as u32;
@@ -40,7 +49,7 @@ fn fill(out: &mut [u8], seed: u16) {
     }
 }
 
-fn show_frame(found: FrameFound, s: &[u8]) {
+fn show_frame(rt: &impl Print, found: FrameFound, s: &[u8]) {
     let placed = found.placed;
     let f = placed.frame;
     let m = f.meta;
@@ -59,6 +68,7 @@ fn show_frame(found: FrameFound, s: &[u8]) {
         found.next as u64,
     ];
     replay::line_with(
+        rt,
         b"frame",
         0,
         &values,
@@ -66,38 +76,39 @@ fn show_frame(found: FrameFound, s: &[u8]) {
     );
 }
 
-fn read_one(profile: u32, s: &[u8], at: usize) {
+fn read_one(rt: &impl Print, profile: u32, s: &[u8], at: usize) {
     let found = exports_frames::poghduka_read_frame(profile, s, at);
     if found.number == 0 {
-        show_frame(found, s);
+        show_frame(rt, found, s);
     } else {
-        replay::line(b"frame", found.number as u64, &[]);
+        replay::line(rt, b"frame", found.number as u64, &[]);
     }
 }
 
-fn read(profile: u32, s: &[u8], at: usize) {
-    read_one(profile, s, at);
+fn read(rt: &impl Print, profile: u32, s: &[u8], at: usize) {
+    read_one(rt, profile, s, at);
     let found = exports_frames::poghduka_read_frames(profile, s, at);
     let number = found.number as u64;
     let values = [found.count as u64, found.left as u64];
-    replay::line(b"frames", number, replay::given(number, &values));
+    replay::line(rt, b"frames", number, replay::given(number, &values));
 }
 
-fn read_item(p: &[u8]) {
+fn read_item(rt: &impl Print, p: &[u8]) {
     let at = base::be16_at(p, 4) as usize;
-    read(base::be32_at(p, 0), replay::part(p, 6, p.len()), at);
+    read(rt, base::be32_at(p, 0), replay::part(p, 6, p.len()), at);
 }
 
-fn read_long(profile: u32, s: &mut [u8], first: &[u8]) {
+fn read_long(rt: &impl Print, profile: u32, s: &mut [u8], first: &[u8]) {
     fill(s, DATA_SEED);
     base::put_bytes(s, 0, first);
-    read(profile, s, 0);
+    read(rt, profile, s, 0);
 }
 
-fn long_item(p: &[u8]) {
-    let mut data = io::large_buffer();
-    let n = io::count(base::be16_at(p, 4) as isize, &data);
+fn long_item(rt: &impl Print, p: &[u8]) {
+    let mut data = [0u8; DATA];
+    let n = replay::within(&data, base::be16_at(p, 4) as usize);
     read_long(
+        rt,
         base::be32_at(p, 0),
         &mut data[..n],
         replay::part(p, 6, p.len()),
@@ -126,40 +137,40 @@ fn frame_of(p: &[u8]) -> Frame {
     }
 }
 
-fn show_written(written: FrameWritten, out: &[u8]) {
+fn show_written(rt: &impl Print, written: FrameWritten, out: &[u8]) {
     let number = written.number as u64;
     let values = [written.next as u64];
-    replay::line_with(b"write", number, replay::given(number, &values), out);
+    replay::line_with(rt, b"write", number, replay::given(number, &values), out);
 }
 
-fn write(p: &[u8], body: &mut [u8], out: &mut [u8]) {
+fn write(rt: &impl Print, p: &[u8], body: &mut [u8], out: &mut [u8]) {
     fill(body, base::be16_at(p, 35));
     let profile = base::be32_at(p, 0);
     let at = base::be16_at(p, 6) as usize;
     let written = exports_frames::poghduka_write_frame(profile, out, at, frame_of(p), body);
-    show_written(written, out);
+    show_written(rt, written, out);
 }
 
-fn write_item(p: &[u8]) {
-    let mut data = io::large_buffer();
-    let n = io::count(base::be16_at(p, 33) as isize, &data);
+fn write_item(rt: &impl Print, p: &[u8]) {
+    let mut data = [0u8; DATA];
+    let n = replay::within(&data, base::be16_at(p, 33) as usize);
     let mut space = [0xEEu8; 8300];
-    let room = io::count(base::be16_at(p, 4) as isize, &space);
-    write(p, &mut data[..n], &mut space[..room]);
+    let room = replay::within(&space, base::be16_at(p, 4) as usize);
+    write(rt, p, &mut data[..n], &mut space[..room]);
 }
 
-fn write_head(number: u32, out: &mut [u8]) {
+fn write_head(rt: &impl Print, number: u32, out: &mut [u8]) {
     let answer = exports_frames::poghduka_write_head(out, number);
-    replay::line_with(b"head", answer as u64, &[], out);
+    replay::line_with(rt, b"head", answer as u64, &[], out);
 }
 
-fn head_item(p: &[u8]) {
+fn head_item(rt: &impl Print, p: &[u8]) {
     let mut space = [0xEEu8; 8];
-    let room = io::count(base::be16_at(p, 0) as isize, &space);
-    write_head(base::be32_at(p, 2), &mut space[..room]);
+    let room = replay::within(&space, base::be16_at(p, 0) as usize);
+    write_head(rt, base::be32_at(p, 2), &mut space[..room]);
 }
 
-fn show_piece(piece: SplitPiece, body: &[u8]) {
+fn show_piece(rt: &impl Print, piece: SplitPiece, body: &[u8]) {
     let number = piece.number as u64;
     let values = [
         piece.start as u64,
@@ -167,46 +178,48 @@ fn show_piece(piece: SplitPiece, body: &[u8]) {
         piece.count as u64,
         piece.index as u64,
     ];
-    replay::line_with(b"piece", number, replay::given(number, &values), body);
+    replay::line_with(rt, b"piece", number, replay::given(number, &values), body);
 }
 
-fn split(buffer: &mut [u8], mtu: u16, k: u32) {
+fn split(rt: &impl Print, buffer: &mut [u8], mtu: u16, k: u32) {
     fill(buffer, DATA_SEED);
     show_piece(
+        rt,
         exports::poghduka_split_piece(buffer, mtu, k),
         split::split_part(buffer, mtu, k),
     );
 }
 
-fn split_item(p: &[u8]) {
-    let mut data = io::large_buffer();
-    let n = io::count(base::be16_at(p, 0) as isize, &data);
-    split(&mut data[..n], base::be16_at(p, 2), base::be32_at(p, 4));
+fn split_item(rt: &impl Print, p: &[u8]) {
+    let mut data = [0u8; DATA];
+    let n = replay::within(&data, base::be16_at(p, 0) as usize);
+    split(rt, &mut data[..n], base::be16_at(p, 2), base::be32_at(p, 4));
 }
 
 // An unknown tag gives no answer.
-fn replay_item(tag: u8, p: &[u8]) {
+fn replay_item(rt: &impl Print, tag: u8, p: &[u8]) {
     match tag {
-        READ => read_item(p),
-        WRITE => write_item(p),
-        HEAD => head_item(p),
-        SPLIT => split_item(p),
-        LONG => long_item(p),
+        READ => read_item(rt, p),
+        WRITE => write_item(rt, p),
+        HEAD => head_item(rt, p),
+        SPLIT => split_item(rt, p),
+        LONG => long_item(rt, p),
         _ => {}
     }
 }
 
-fn replay(s: &[u8]) {
+fn replay(rt: &impl Print, s: &[u8]) {
     let mut at = 0;
     while at < s.len() {
         let item = replay::item_at(s, at);
-        replay_item(item.tag, replay::part(s, item.start, item.end));
+        replay_item(rt, item.tag, replay::part(s, item.start, item.end));
         at = item.end;
     }
 }
 
-fn main() {
-    let mut input = io::large_buffer();
-    let n = io::read_full(STDIN_FILENO, &mut input);
-    replay(&input[..n]);
+fn main(rt: HostRuntime) -> io::Result<()> {
+    let mut input = [0u8; INPUT];
+    let n = replay::read_full(&mut rt.stdin(), &mut input)?;
+    replay(&rt, &input[..n]);
+    Ok(())
 }

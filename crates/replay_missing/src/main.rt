@@ -3,7 +3,13 @@
 //
 // Items are as crate `replay` has them, every number big-endian. The items and the expected output were made by tools/wire.py, which has
 // its own missing list, written from document 01's sentences.
-use libc::STDIN_FILENO;
+
+#![tactic(auto)]
+
+use std::io;
+
+// At most so many bytes of the input are read.
+const INPUT: usize = 65536;
 
 // low (4), length of the bits (2), length of the list (2), shape (1), place (2), seed (4)
 const WINDOW: u8 = 1;
@@ -94,54 +100,61 @@ fn number_at(list: &[u32], i: usize) -> u32 {
 }
 
 // Both forms on one window, each into a list of its own.
-fn compare(low: u32, bits: &[u8], by_words: &mut [u32], plain: &mut [u32]) {
+fn compare(rt: &impl Print, low: u32, bits: &[u8], by_words: &mut [u32], plain: &mut [u32]) {
     let count = window::missing_in(low, bits, by_words);
     let other = missing_plain::missing_in(low, bits, plain);
     let agree = (count == other) & same(by_words, plain);
     let sum = replay::checksum(by_words);
-    replay::line(b"missing", 0, &[count as u64, agree as u64, sum]);
+    replay::line(rt, b"missing", 0, &[count as u64, agree as u64, sum]);
 }
 
-fn make_and_compare(p: &[u8], bits: &mut [u8], by_words: &mut [u32], plain: &mut [u32]) {
+fn make_and_compare(
+    rt: &impl Print,
+    p: &[u8],
+    bits: &mut [u8],
+    by_words: &mut [u32],
+    plain: &mut [u32],
+) {
     make(
         bits,
         base::byte(p, 8),
         base::be16_at(p, 9),
         base::be32_at(p, 11),
     );
-    compare(base::be32_at(p, 0), bits, by_words, plain);
+    compare(rt, base::be32_at(p, 0), bits, by_words, plain);
 }
 
 // The fronts that the item asks for.
-fn run(p: &[u8], bits: &mut [u8], by_words: &mut [u32], plain: &mut [u32]) {
+fn run(rt: &impl Print, p: &[u8], bits: &mut [u8], by_words: &mut [u32], plain: &mut [u32]) {
     let n = replay::within(bits, base::be16_at(p, 4) as usize);
     let room = base::be16_at(p, 6) as usize;
     let a = replay::within_list(by_words, room);
     let b = replay::within_list(plain, room);
-    make_and_compare(p, &mut bits[..n], &mut by_words[..a], &mut plain[..b]);
+    make_and_compare(rt, p, &mut bits[..n], &mut by_words[..a], &mut plain[..b]);
 }
 
 // An unknown tag gives no answer.
-fn replay_item(tag: u8, p: &[u8]) {
+fn replay_item(rt: &impl Print, tag: u8, p: &[u8]) {
     if tag == WINDOW {
         let mut bits = [0u8; BITS];
         let mut by_words = [base::NUMBERS_24; LIST];
         let mut plain = [base::NUMBERS_24; LIST];
-        run(p, &mut bits, &mut by_words, &mut plain);
+        run(rt, p, &mut bits, &mut by_words, &mut plain);
     }
 }
 
-fn replay(s: &[u8]) {
+fn replay(rt: &impl Print, s: &[u8]) {
     let mut at = 0;
     while at < s.len() {
         let item = replay::item_at(s, at);
-        replay_item(item.tag, replay::part(s, item.start, item.end));
+        replay_item(rt, item.tag, replay::part(s, item.start, item.end));
         at = item.end;
     }
 }
 
-fn main() {
-    let mut input = io::large_buffer();
-    let n = io::read_full(STDIN_FILENO, &mut input);
-    replay(&input[..n]);
+fn main(rt: HostRuntime) -> io::Result<()> {
+    let mut input = [0u8; INPUT];
+    let n = replay::read_full(&mut rt.stdin(), &mut input)?;
+    replay(&rt, &input[..n]);
+    Ok(())
 }

@@ -1,11 +1,17 @@
 // Holds our windows, ACK lists and splits to the original's stored answers, read from standard input, and prints how many there were and
 // how many of ours were others. The answers are those of the unchanged original; oracle/driver/answers.rs made them, and the input's first
 // item says how. Items are as crate `replay` has them.
+
+#![tactic(auto)]
+
 use ack::WriteAck;
-use libc::STDIN_FILENO;
 use replay::Tally;
 use split::Piece;
+use std::io;
 use window::{Insert, ReliableWindow};
+
+// At most so many bytes of the input are read.
+const INPUT: usize = 65536;
 
 // A new window, and four bytes for each answer: a number (24 bits little-endian), then 1 where its insert was accepted, 0 where it was not,
 // and 2 where the number is the window's low.
@@ -20,7 +26,7 @@ const LIST: u8 = b'A';
 // one's (16).
 const SPLIT: u8 = b'S';
 
-#[derive(Drop)]
+#[derive(Clone, Copy)]
 struct Inserts {
     window: ReliableWindow,
     tally: Tally,
@@ -84,7 +90,7 @@ fn fill(list: &mut [u32], p: &[u8]) {
 
 fn list_right(out: &mut [u8], list: &[u32], ack: &[u8]) -> bool {
     match ack::write_list(out, false, list) {
-        WriteAck::Written { len } => check::same(replay::part(out, 0, len), ack),
+        WriteAck::Written { len } => replay::part(out, 0, len) == ack,
         _ => false,
     }
 }
@@ -168,10 +174,13 @@ fn split_right(data: &[u8], p: &[u8]) -> bool {
     )
 }
 
+// The longest data that an item may ask for.
+const DATA: usize = 65536;
+
 // Where the pieces lie doesn't depend on the bytes.
 fn split_item(p: &[u8]) -> bool {
-    let data = io::large_buffer();
-    let n = io::count(base::be32_at(p, 0) as isize, &data);
+    let data = [0u8; DATA];
+    let n = replay::within(&data, base::be32_at(p, 0) as usize);
     split_right(&data[..n], p)
 }
 
@@ -201,10 +210,11 @@ fn replay(s: &[u8], tag: u8) -> Tally {
     t
 }
 
-fn main() {
-    let mut input = io::large_buffer();
-    let n = io::read_full(STDIN_FILENO, &mut input);
-    replay::show_tally(b"windows: ", replay(&input[..n], WINDOW));
-    replay::show_tally(b"lists: ", replay(&input[..n], LIST));
-    replay::show_tally(b"splits: ", replay(&input[..n], SPLIT));
+fn main(rt: HostRuntime) -> io::Result<()> {
+    let mut input = [0u8; INPUT];
+    let n = replay::read_full(&mut rt.stdin(), &mut input)?;
+    replay::show_tally(&rt, b"windows: ", replay(&input[..n], WINDOW));
+    replay::show_tally(&rt, b"lists: ", replay(&input[..n], LIST));
+    replay::show_tally(&rt, b"splits: ", replay(&input[..n], SPLIT));
+    Ok(())
 }

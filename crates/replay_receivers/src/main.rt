@@ -1,10 +1,13 @@
 // Holds whole receivers to the original's stored answers, read from standard input, and prints how many there were and how many of ours
 // were others. The answers are those of the unchanged original; oracle/driver/stored.rs made them, and the input's first item says how.
 // Items are as crate `replay` has them.
-use libc::STDIN_FILENO;
+
+#![tactic(auto)]
+
 use recv_answers::QueueReceived;
 use recv_queue::{CellRecord, Profile, RecvQueue, Take, WriteQueue};
 use replay::Tally;
+use std::io;
 
 // A new receiver of so many cells (16 bits), 1 to 256.
 const NEW: u8 = b'N';
@@ -25,8 +28,10 @@ const INPUT: usize = 300000;
 
 const STORE: usize = base::CELL_BYTES * recv_array::HELD;
 
+const JOINED: usize = 65536;
+
 // The receiver with its records, and the stored answers so far.
-#[derive(Drop)]
+#[derive(Clone, Copy)]
 struct State {
     queue: RecvQueue,
     records: [CellRecord; 256],
@@ -99,7 +104,7 @@ fn take(x: State, store: &[u8], joined: &mut [u8], p: &[u8]) -> State {
 
 fn written_right(answer: WriteQueue, out: &[u8], p: &[u8]) -> bool {
     let told = recv_answers::write_told(answer);
-    (told.number == 0) & check::same(replay::part(out, 0, told.len), p)
+    (told.number == 0) & (replay::part(out, 0, told.len) == p)
 }
 
 fn unsent(x: State, out: &mut [u8], p: &[u8]) -> State {
@@ -163,11 +168,12 @@ fn run(s: &[u8], whole: &mut [u8], joined: &mut [u8]) -> Tally {
     tally
 }
 
-fn main() {
+fn main(rt: HostRuntime) -> io::Result<()> {
     let mut input = [0u8; INPUT];
     let mut store = [0u8; STORE];
-    let mut joined = io::large_buffer();
-    let n = io::read_full(STDIN_FILENO, &mut input);
+    let mut joined = [0u8; JOINED];
+    let n = replay::read_full(&mut rt.stdin(), &mut input)?;
     let tally = run(&input[..n], &mut store, &mut joined);
-    replay::show_tally(b"receivers: ", tally);
+    replay::show_tally(&rt, b"receivers: ", tally);
+    Ok(())
 }

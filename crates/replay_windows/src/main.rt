@@ -4,8 +4,14 @@
 //
 // The items and the expected output were made by tools/wire.py, which has its own window, written from document 01's sentences and not from
 // this code: the two agree only where both say what document 01 says.
-use libc::STDIN_FILENO;
+
+#![tactic(auto)]
+
+use std::io;
 use window::ReliableWindow;
+
+// At most so many bytes of the input are read.
+const INPUT: usize = 65536;
 
 // Tags, each with what its payload holds and in how many bytes.
 const NEW: u8 = 1;
@@ -19,25 +25,25 @@ const INSERT: u8 = 3;
 const MISSING: u8 = 4;
 
 // The answer and low.
-fn show_low(word: &[u8], number: u32, low: u32) {
-    replay::line(word, number as u64, &[low as u64]);
+fn show_low(rt: &impl Print, word: &[u8], number: u32, low: u32) {
+    replay::line(rt, word, number as u64, &[low as u64]);
 }
 
-fn new_window() -> ReliableWindow {
+fn new_window(rt: &impl Print) -> ReliableWindow {
     let w = ReliableWindow::new();
-    show_low(b"new", 0, w.low);
+    show_low(rt, b"new", 0, w.low);
     w
 }
 
-fn window_at(low: u32) -> ReliableWindow {
-    show_low(b"at", 0, low);
+fn window_at(rt: &impl Print, low: u32) -> ReliableWindow {
+    show_low(rt, b"at", 0, low);
     ReliableWindow {
         low,
         bits: [0; 256],
     }
 }
 
-fn insert_run(w: ReliableWindow, first: u32, count: u16) -> ReliableWindow {
+fn insert_run(rt: &impl Print, w: ReliableWindow, first: u32, count: u16) -> ReliableWindow {
     let mut window = w;
     let mut number = 0;
     let mut n = first;
@@ -50,45 +56,46 @@ fn insert_run(w: ReliableWindow, first: u32, count: u16) -> ReliableWindow {
         n = std::num::wrapping_add_u32(n, 1);
         left -= 1;
     }
-    show_low(b"insert", number, window.low);
+    show_low(rt, b"insert", number, window.low);
     window
 }
 
 // The whole list is printed, so that a number stored past the missing ones shows.
-fn show_missing(w: ReliableWindow, list: &mut [u32]) {
+fn show_missing(rt: &impl Print, w: ReliableWindow, list: &mut [u32]) {
     let count = w.missing(list);
-    replay::line_list(b"missing", 0, &[count as u64], list);
+    replay::line_list(rt, b"missing", 0, &[count as u64], list);
 }
 
-fn missing(w: ReliableWindow) {
+fn missing(rt: &impl Print, w: ReliableWindow) {
     let mut list = [base::NUMBERS_24; 2048];
-    show_missing(w, &mut list);
+    show_missing(rt, w, &mut list);
 }
 
 // An unknown tag gives no answer.
-fn replay_item(w: ReliableWindow, tag: u8, p: &[u8]) -> ReliableWindow {
+fn replay_item(rt: &impl Print, w: ReliableWindow, tag: u8, p: &[u8]) -> ReliableWindow {
     match tag {
-        NEW => return new_window(),
-        AT => return window_at(base::be32_at(p, 0)),
-        INSERT => return insert_run(w, base::be32_at(p, 0), base::be16_at(p, 4)),
-        MISSING => missing(w),
+        NEW => return new_window(rt),
+        AT => return window_at(rt, base::be32_at(p, 0)),
+        INSERT => return insert_run(rt, w, base::be32_at(p, 0), base::be16_at(p, 4)),
+        MISSING => missing(rt, w),
         _ => {}
     }
     w
 }
 
-fn replay(s: &[u8]) {
+fn replay(rt: &impl Print, s: &[u8]) {
     let mut window = ReliableWindow::new();
     let mut at = 0;
     while at < s.len() {
         let item = replay::item_at(s, at);
-        window = replay_item(window, item.tag, replay::part(s, item.start, item.end));
+        window = replay_item(rt, window, item.tag, replay::part(s, item.start, item.end));
         at = item.end;
     }
 }
 
-fn main() {
-    let mut input = io::large_buffer();
-    let n = io::read_full(STDIN_FILENO, &mut input);
-    replay(&input[..n]);
+fn main(rt: HostRuntime) -> io::Result<()> {
+    let mut input = [0u8; INPUT];
+    let n = replay::read_full(&mut rt.stdin(), &mut input)?;
+    replay(&rt, &input[..n]);
+    Ok(())
 }

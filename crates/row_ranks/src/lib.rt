@@ -3,6 +3,9 @@
 // where that is 0. Else a rank is counted over the turns as they were, so these are copied first, one for each ready message. Copy and
 // marks are local arrays for as many rows as document 01 has cells. More rows are left as they are: a count of them all need not fit a
 // turn.
+
+#![tactic(auto)]
+
 ghost use Rattle.std.specs.Prelude.{◌≡◌, true, cond, ◌++◌, ◌-◌, ◌<◌, ◌≤◌, length, drop, set};
 ghost use Rattle.base.specs.Limits.{max_cells};
 ghost use Rattle.base.specs.Lists.{count_of};
@@ -21,7 +24,7 @@ const FEW_ROWS: usize = 64;
 
 // How many first cells of ready messages there are, and of all ready cells the least and the greatest turn (the greatest is the less where
 // none is ready).
-#[derive(Drop)]
+#[derive(Clone, Copy)]
 struct Turns {
     firsts: u32,
     least: u32,

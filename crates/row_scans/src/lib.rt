@@ -1,5 +1,8 @@
 // (A crate of its own only for the gate: a must-fail edit costs a check of its crate.) Scans of the rows: the first, any or how many of the
 // cells' records that pass a test.
+
+#![tactic(auto)]
+
 ghost use Rattle.std.specs.Prelude.{◌≡◌};
 ghost use Rattle.base.specs.Lists.{any, count_of};
 ghost use Rattle.cells.specs.Cell.{open_as, held_as, ready_as, bears, at};

@@ -1,4 +1,7 @@
 // What rows of numbers mean: slots, with bodies in the store or in the datagram that is worked on; and how many rows stand in words.
+
+#![tactic(auto)]
+
 ghost use Rattle.std.specs.Prelude.{◌≡◌};
 ghost use Rattle.row_slots.specs.First.{rows_in};
 

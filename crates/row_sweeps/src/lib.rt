@@ -1,5 +1,8 @@
 // (A crate of its own only for the gate: a must-fail edit costs a check of its crate.) Sweeps over the rows: the rows whose records pass a
 // test are changed, and all others stay and are not written.
+
+#![tactic(auto)]
+
 ghost use Rattle.std.specs.Prelude.{◌≡◌, set};
 ghost use Rattle.base.specs.Lists.{any};
 ghost use Rattle.cells.specs.Cell.{open_as, held_as, bears, ready_use};

@@ -1,5 +1,8 @@
 // (A crate of its own only for the gate: a must-fail edit costs a check of its crate.) Tests of the record that a row stands for. `&` and
 // not `&&`: a test has no branch.
+
+#![tactic(auto)]
+
 ghost use Rattle.std.specs.Prelude.{◌≡◌};
 ghost use Rattle.cells.specs.Cell.{open_as, held_as, ready_as, bears, at};
 ghost use Rattle.cells.specs.Records.{clashes, first_cell};

@@ -1,5 +1,8 @@
 // Rows of eleven numbers, one for each cell: its record, and where its body stands. The receiver works on a private copy of the records as
 // rows.
+
+#![tactic(auto)]
+
 ghost use Rattle.std.specs.Prelude.{◌≡◌, ◌<◌, ◌≤◌, get_or, set};
 ghost use Rattle.rows.specs.Rows.{row_at, row_count, rows_of, mark_row, blank_row};
 ghost use Rattle.rows.specs.Whole.{whole_row, rest};
@@ -9,7 +12,7 @@ pub const ROW: usize = 11;
 
 // A cell's record as numbers of one width. place: 0 where the body stands in the store, else one more than its place in the datagram that
 // is worked on.
-#[derive(Drop)]
+#[derive(Clone, Copy)]
 pub struct Row {
     pub used: u32,
     pub kind: u32,

@@ -13,9 +13,9 @@ module _ (cells bytes : ℕ) where
   unfolding lengths
   no_cells l = rw (lt-leb 1 cells l)
 
-  pub many-cells : 1 ≤ cells → max_cells < cells → false ≡ lengths cells bytes
+  pub many_cells : 1 ≤ cells → max_cells < cells → false ≡ lengths cells bytes
   unfolding lengths
-  many-cells h l = rw (le-leb 1 cells h, lt-leb cells max_cells l)
+  many_cells h l = rw (le-leb 1 cells h, lt-leb cells max_cells l)
 
   pub some_cells : 1 ≤ cells → cells ≤ max_cells → eqb bytes (cell_bytes * cells) ≡ lengths cells bytes
   unfolding lengths

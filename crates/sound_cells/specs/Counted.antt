@@ -1,7 +1,7 @@
 -- "Sound" of cells, asked by counting: a message's cells are all there exactly when they are as many as its count says
 -- (proofs/Counting.antt).
 use Rattle.std.specs.Prelude.{ℕ, Bool, cond, not, ◌&&◌, ◌||◌, List, ltb, eqb}
-use Rattle.base.specs.Lists.{every, count_of}
+use Rattle.base.specs.Lists.{count_of}
 use Rattle.cells.specs.Cell.{Cell, bears, at, held_use, open_use, unused_use}
 use Rattle.cells.specs.Sound.{key_of, limits, agree}
 use Rattle.sound_cells.specs.declared.Tally.{Tally}

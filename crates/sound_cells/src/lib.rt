@@ -1,4 +1,7 @@
 // Whether the cells' records are sound (document 01, "Calls and their numbers", 9).
+
+#![tactic(auto)]
+
 ghost use Rattle.std.specs.Prelude.{◌≡◌, ◌≤◌, ◌<◌, cond, not, ◌&&◌, get_or};
 ghost use Rattle.base.specs.Limits.{max_ord_chans};
 ghost use Rattle.cells.specs.Sound.{limits, agree, sound_cells};
@@ -96,7 +99,7 @@ fn one_if(b: bool) -> usize
 }
 
 // How many cells are of a cell's message, how many of them have its index, and how many do not agree with it.
-#[derive(Drop)]
+#[derive(Clone, Copy)]
 struct Tally {
     mates: usize,
     twins: usize,

@@ -60,7 +60,7 @@ fn mark(key: u64) -> u64
 }
 
 // For each use, a word with a bit of each key that occurred. By value: a word is read and written without a test of its place.
-#[derive(Drop)]
+#[derive(Clone, Copy)]
 struct Seen {
     opened: u64,
     held: u64,

@@ -1,4 +1,7 @@
 // The rules on the receiver's own values: document 01, 9, "Sound".
+
+#![tactic(auto)]
+
 ghost use Rattle.std.specs.Prelude.{◌≡◌, true, false, ◌&&◌, ◌||◌, not, ◌+◌, ◌<◌, ◌≤◌, ltb, eqb, length, take};
 ghost use Rattle.base.specs.Limits.{numbers24, window_places};
 ghost use Rattle.base.specs.Lists.{any, every};
@@ -14,7 +17,7 @@ ghost use Rattle.sound_queue.specs.Sound.{told, queue_sound_of, nexts_within, jo
 use receiver::Heads;
 
 // sound: the rules hold. ascending: they do, and the unsent numbers ascend.
-#[derive(Drop)]
+#[derive(Clone, Copy)]
 pub struct QueueSound {
     pub sound: bool,
     pub ascending: bool,

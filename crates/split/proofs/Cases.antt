@@ -1,19 +1,15 @@
 -- What `split_piece` and `split_part` return, with the facts as the code finds them: r, s, l and t are what its calls returned.
 -- Assumes nothing.
 use mathlib.Core.Path.{◌≡◌, sym, refl}
-use mathlib.Core.List.{List, [], ◌∷◌}
-use mathlib.Core.Logic.{inl, inr}
+use mathlib.Core.List.{List, []}
 use Prim.Native.Nat.{ℕ, ◌+◌, ◌-◌, ◌*◌, ◌<◌, ◌≤◌, min}
 use native.Mathlib.Omega.{arith}
 use lib.ListN.{length, take, drop}
-use types.Run.{OneOf}
-use denote.Enum.Declared.{tag_of}
 use Rattle.base.specs.Limits.{min_mtu, max_mtu, max_frags}
 use Rattle.base.proofs.Ifs.{lt_yes, lt_no, le-no}
 use Rattle.split.specs.declared.Piece.{Piece}
 use Rattle.split.specs.declared.Piece.TheVariants.{Part, BadMtu, FitsOneChunk, TooManyPieces, BeyondLast}
 use Rattle.split.specs.Split.{chunk, chunks_of, split_piece_of, bytes_of, part_of, Splits, piece_answer}
-use Rattle.split.specs.contracts.Piece.{the_type}
 use Rattle.split.proofs.Laws.{piece-given, piece-beyond, Within, piece-within}
 
 module _ (n mtu k : ℕ) (least : min_mtu ≤ mtu) (most : mtu ≤ max_mtu) (over : chunk mtu < n) (r : ℕ) (counted : r ≡ chunks_of n (chunk mtu))
@@ -35,11 +31,6 @@ module _ (n mtu k : ℕ) (least : min_mtu ≤ mtu) (most : mtu ≤ max_mtu) (ove
     given few h s b l e = rw (piece-given n mtu (splits few) k (omega arith), e, b.0, counted)
 
 -- the arm `_` of a `match` knows its cases by their places in the enum, and `Part` has place 0
-not-zero : OneOf (1 ∷ 2 ∷ 3 ∷ 4 ∷ []) 0 → ⊥
-not-zero (inl e) = omega arith
-not-zero (inr (inl e)) = omega arith
-not-zero (inr (inr (inl e))) = omega arith
-not-zero (inr (inr (inr e))) = omega arith
 
 module _ (s : List ℕ) (mtu k : ℕ) (p : Piece) (answered : piece_answer p ≡ split_piece_of (length s) mtu k) where
   pub end-within : (a l c i : ℕ) → p ≡ Part a l c i → a + l ≤ length s
@@ -50,12 +41,12 @@ module _ (s : List ℕ) (mtu k : ℕ) (p : Piece) (answered : piece_answer p ≡
   unfolding piece_answer part_of bytes_of
   part-given a l c i e t h = rw (← answered, e) h
 
-  pub part_none : OneOf (1 ∷ 2 ∷ 3 ∷ 4 ∷ []) (tag_of the_type p) → [] ≡ part_of s mtu k
+  pub part_none : ((a l c i : ℕ) → p ≡ Part a l c i → ⊥) → [] ≡ part_of s mtu k
   unfolding part_of piece_answer bytes_of
   part_none h = rw (← answered) (none p h)
     where
-      none : (q : Piece) → OneOf (1 ∷ 2 ∷ 3 ∷ 4 ∷ []) (tag_of the_type q) → [] ≡ bytes_of s (piece_answer q)
-      none (Part a l c i) t = absurd (not-zero t)
+      none : (q : Piece) → ((a l c i : ℕ) → q ≡ Part a l c i → ⊥) → [] ≡ bytes_of s (piece_answer q)
+      none (Part a l c i) t = absurd (t a l c i refl)
       none BadMtu t = refl
       none FitsOneChunk t = refl
       none TooManyPieces t = refl

@@ -2,7 +2,7 @@
 -- Assumes nothing.
 use lib.ListN.{length, take}
 use mathlib.Core.List.{List, [], ◌∷◌}
-use mathlib.Core.Path.{◌≡◌, ◌∙◌, sym, ap, refl}
+use mathlib.Core.Path.{◌≡◌, sym, ap}
 use Prim.Native.Nat.{ℕ, suc, ◌+◌, ◌-◌, ◌*◌, ◌/◌, ◌<◌, ◌≤◌, zero, min}
 use native.Mathlib.Nat.{add-div_right, le-div_iff_mul-le, lt-div-mul-add, suc-mul, zero-min, min-zero, suc-min-suc}
 use native.Mathlib.Omega.{arith}

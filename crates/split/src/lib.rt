@@ -1,10 +1,13 @@
 // Data too long for one frame is split into pieces of mtu - 60 bytes, the last one as long as what is left: `FragmentQueue::split` of the
 // Rust's queue/mod.rs, asked for one piece at a time. An enum cannot hold a reference, so the answer comes from two functions:
 // `split_piece` says what piece k is, and `split_part` hands out its bytes.
+
+#![tactic(auto)]
+
 ghost use Rattle.std.specs.Prelude.{◌≡◌, ◌+◌, ◌*◌, ◌≤◌, ◌<◌, min, length, take, drop};
 ghost use Rattle.split.specs.Split.{chunks_of, piece_answer, split_piece_of, part_of};
 
-#[derive(Drop)]
+#[derive(Clone, Copy)]
 pub enum Piece {
     // The body is buffer[start..start + len]; the frame's piece fields are count and index.
     Part {

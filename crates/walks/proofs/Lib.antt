@@ -1,10 +1,3 @@
-pub mod Order
-pub mod Begin
-pub mod Again
 pub mod Ways
 pub mod Counting
-pub mod Slices
-pub mod Parts
-pub mod Behind
-pub mod Receiver
 pub mod Walk

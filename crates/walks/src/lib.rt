@@ -1,1 +1,3 @@
-// Steps that proofs by hand share (proofs/): a walk's context in order, a loop that counts, and what is lent for a call. No code.
+// Steps that proofs by hand share (proofs/): what a walk owes of its parameters, a loop that counts, and the names that lemmas use. No code.
+
+#![tactic(auto)]

@@ -15,7 +15,7 @@ use Rattle.base.proofs.IfCases.{le-both}
 use Rattle.base.proofs.Puts.{run_none}
 use Rattle.base.specs.Numbers.{following}
 use Rattle.window.specs.Places.{place_set, set_place, clear_place}
-use Rattle.window.specs.Window.{window_of, accepted, advance, accept, give}
+use Rattle.window.specs.Window.{window_of, advance, accept, give}
 use Rattle.window.specs.Missing.{least, highest, missing_of, searched, missing}
 use Rattle.window.specs.declared.ReliableWindow.{ReliableWindow}
 

@@ -1,5 +1,8 @@
 // The window of accepted numbers: low, the smallest number never accepted, and 2,048 places above it. A number's place is a bit of the
 // 256 bytes; places go round, so that none moves when low does. The functions work on lent bits; the window by value has them as methods.
+
+#![tactic(auto)]
+
 ghost use Rattle.std.specs.Prelude.{◌≡◌, true, false, ◌∷◌, [], ◌<◌, ◌≤◌, ◌+◌, ◌^◌};
 ghost use Rattle.base.specs.Limits.{numbers24, window_places};
 ghost use Rattle.base.specs.Put.{Run};
@@ -14,14 +17,14 @@ pub use words::missing_in;
 mod words;
 
 #[repr(C)]
-#[derive(Drop)]
+#[derive(Clone, Copy)]
 pub struct ReliableWindow {
     pub low: u32,
     pub bits: [u8; 256],
 }
 
 // TooLarge is document 01's 13, Old its 4 and Beyond its 5.
-#[derive(Drop)]
+#[derive(Clone, Copy)]
 pub enum Insert {
     Accepted,
     TooLarge,
@@ -30,14 +33,14 @@ pub enum Insert {
 }
 
 // An enum can't hold an array, so the window stands beside it.
-#[derive(Drop)]
+#[derive(Clone, Copy)]
 pub struct Inserted {
     pub answer: Insert,
     pub window: ReliableWindow,
 }
 
 // What an insert into lent bits answers, and the window's low number afterwards.
-#[derive(Drop)]
+#[derive(Clone, Copy)]
 pub struct InsertedLow {
     pub answer: Insert,
     pub low: u32,

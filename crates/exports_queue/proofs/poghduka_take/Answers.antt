@@ -1,0 +1,5 @@
+use Rattle.exports_queue.proofs.Told.{taken-numbers}
+use Rattle.exports_queue.proofs.poghduka_take.Goals as goal
+
+pub returns : goal.returns
+returns c = taken-numbers _ _ _ _ _ c.take-answer.ensures c.take_told.ensures

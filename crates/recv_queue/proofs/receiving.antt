@@ -1,5 +1,0 @@
-mod Core
-mod CallsReceiveIn
-mod Sizes
-mod Sized
-mod CallsReceiveMore

@@ -1,5 +1,0 @@
-mod Core
-mod CallsTakeIn
-mod Sizes
-mod Sized
-mod CallsTakeMore

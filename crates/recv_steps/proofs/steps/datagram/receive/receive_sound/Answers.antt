@@ -1,0 +1,15 @@
+use Rattle.recv_steps.proofs.Receiving.{too_short, too_long, not-datagram, is-headed}
+use borrow.Author.Rules.{rules}
+use Rattle.recv_steps.proofs.steps.datagram.receive.receive_sound.Goals as goal
+
+pub returns-then-datagram-lt-MIN_DATAGRAM : goal.returns-then-datagram-lt-MIN_DATAGRAM
+returns-then-datagram-lt-MIN_DATAGRAM c = search (rules, too_short)
+
+pub returns-then-datagram-gt-MAX_DATAGRAM : goal.returns-then-datagram-gt-MAX_DATAGRAM
+returns-then-datagram-gt-MAX_DATAGRAM c = search (rules, too_long)
+
+pub receive_number-requires : goal.receive_number-requires
+receive_number-requires c = search (rules, is-headed)
+
+pub returns : goal.returns
+returns c = search (rules, not-datagram)
