@@ -1,8 +1,8 @@
 #!/bin/sh
 # usage: bindings/compare.sh [RECORDING ..]
 #
-# Builds the static libraries (libraries.sh) and the program `trace` (`rt check trace`), then with gcc and rustc the C and the Rust programs
-# of this folder, all under target/bindings.
+# Builds the static libraries (libraries.sh) and the program `trace` (`rt run` in crates/trace), then with gcc and rustc the C and the Rust
+# programs of this folder, all under target/bindings.
 # fields.c and fields.rs make every call and must both print fields.txt. The examples of README.md must print the same. replay.c and
 # replay.rs must print, byte for byte, what `trace` prints on each recording (crates/trace/stdin where none is named).
 set -eu
@@ -10,10 +10,12 @@ HERE=$(cd "$(dirname "$0")" && pwd)
 ROOT=$(dirname "$HERE")
 LIBS="$ROOT/target/staticlib"
 B="$ROOT/target/bindings"
-[ $# -gt 0 ] || set -- "$ROOT/crates/trace/stdin"
+TRACE="$ROOT/crates/trace"
+[ $# -gt 0 ] || set -- "$TRACE/stdin"
 
 "$HERE/libraries.sh"
-(cd "$ROOT" && rt check trace) > "$B/trace.log" 2>&1 || { tail -n 20 "$B/trace.log"; exit 1; }
+(cd "$TRACE" && rt run < stdin) > "$B/stored.txt" 2> "$B/trace.log" || { tail -n 20 "$B/trace.log"; exit 1; }
+cmp "$TRACE/stdout" "$B/stored.txt"
 cp "$HERE"/*.c "$HERE"/*.rs "$B"
 sed -n '/^```c$/,/^```$/p' "$HERE/README.md" | sed '/^```/d' > "$B/example.c"
 sed -n '/^```rust$/,/^```$/p' "$HERE/README.md" | sed '/^```/d' > "$B/example.rs"
@@ -34,7 +36,7 @@ cmp "$B/example_c.txt" "$B/example_rust.txt"
 echo "examples: C and Rust print the same: $(paste -s -d ';' "$B/example_c.txt")"
 
 for recording; do
-  "$ROOT/target/bin/trace" < "$recording" > "$B/trace.txt"
+  "$TRACE/out/trace" < "$recording" > "$B/trace.txt"
   for language in c rust; do
     "$B/replay_$language" < "$recording" > "$B/replay_$language.txt"
     cmp "$B/trace.txt" "$B/replay_$language.txt"

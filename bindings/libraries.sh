@@ -1,13 +1,19 @@
 #!/bin/sh
-# Builds our three static libraries (`rt staticlib`: proves and compiles) into target/staticlib, where one is missing or older than the
-# code.
+# usage: bindings/libraries.sh [NAME ..]
+#
+# Builds static libraries (`rt lib` in the crate's folder: proves and compiles) into target/staticlib/libNAME.a, where one is missing or older
+# than the code: exports, exports_frames and exports_queue where none is named. What a library of ours exports stands in a crate of its own,
+# NAME_c.
 set -eu
 cd "$(dirname "$0")/.."
-mkdir -p target/bindings
-for c in exports exports_frames exports_queue; do
+[ $# -gt 0 ] || set -- exports exports_frames exports_queue
+mkdir -p target/bindings target/staticlib
+for c; do
   a=target/staticlib/lib$c.a
-  [ -f $a ] && [ -z "$(find crates -name '*.rt' -newer $a | head -n 1)" ] && continue
-  rt staticlib $c > target/bindings/$c.log 2>&1 || { tail -n 20 target/bindings/$c.log; exit 1; }
-  touch $a
+  [ -f $a ] && [ -z "$(find crates -name out -prune -o -name '*.rt' -newer $a -print | head -n 1)" ] && continue
+  crate=$c
+  [ -d "crates/${c}_c" ] && crate=${c}_c
+  (cd "crates/$crate" && rt lib) > "target/bindings/$c.log" 2>&1 || { tail -n 20 "target/bindings/$c.log"; exit 1; }
+  cp "crates/$crate/out/lib$crate.a" "$a"
   echo "built $a"
 done

@@ -2,7 +2,7 @@
 //! `exports_frames` and `exports`; slices in and out, no heap, no `std`. Take this file into a program as `mod poghduka;` and link:
 //!
 //! ```text
-//! rt staticlib exports_queue && rt staticlib exports_frames && rt staticlib exports
+//! bindings/libraries.sh
 //! rustc main.rs -L native=target/staticlib -l static=exports_queue -l static=exports_frames -l static=exports
 //! ```
 //!

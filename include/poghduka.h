@@ -2,10 +2,11 @@
  *
  * Three static libraries have them. Each stands alone, and needs memcpy and memset:
  *
- *     rt staticlib exports_queue     the receiver: make_new, receive, take, write_unsent, write_missing
- *     rt staticlib exports_frames    frames and a datagram's head: read_frames, read_frame, write_frame, write_head
- *     rt staticlib exports           windows, ACKs and splits: window_*, write_list, read_ack_*, split_piece
+ *     exports_queue     the receiver: make_new, receive, take, write_unsent, write_missing
+ *     exports_frames    frames and a datagram's head: read_frames, read_frame, write_frame, write_head
+ *     exports           windows, ACKs and splits: window_*, write_list, read_ack_*, split_piece
  *
+ *     bindings/libraries.sh       proves and compiles them, into target/staticlib
  *     cc -std=c11 -Iinclude main.c -Ltarget/staticlib -lexports_queue -lexports_frames -lexports
  *
  * What is proved: every call returns on every input, and what it returns and leaves in lent memory equals a definition of the protocol.

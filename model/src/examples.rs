@@ -39,7 +39,7 @@ fn use_number(used: Use) -> u8 {
 
 fn slot(c: &Cell) -> String {
     if *c == Cell::default() {
-        return "emptySlot".to_string();
+        return "empty_slot".to_string();
     }
     let Cell { id, index, kind, channel, count, sequence, order, turn, .. } = c;
     format!("slot {} {id} {index} {kind} {channel} {count} {sequence} {order} {turn} {}", use_number(c.used), arg(&c.body))
@@ -177,8 +177,8 @@ fn cells_example(rng: &mut Rng, name: &str) -> String {
     }
     let line = format!("line.seen {} {}", arg(&counts), arg(bare.line.iter().map(message)));
     format!(
-        "pub {name} :\n    (runAs {profile:?} {cells} ({})\n    ≡ {})\n    × (line.runAs {profile:?} ({})\n    ≡ {line})\n\
-         unfolding run runAs line.runAs\n{name} = (refl, refl)\n",
+        "pub {name} :\n    (run_as {profile:?} {cells} ({})\n    ≡ {})\n    × (line.run_as {profile:?} ({})\n    ≡ {line})\n\
+         unfolding run run_as line.run_as\n{name} = (refl, refl)\n",
         lines(&calls),
         lines(&seen),
         lines(&fed)
@@ -242,10 +242,10 @@ fn bytes_call(rng: &mut Rng, small: &mut Small, r: &mut Receiver) -> (String, St
     match rng.below(10) {
         0..=2 => {
             let answer = r.take(room).map(|m| format!("{} {} {} {}", m.kind, m.channel, m.order, arg(&m.body)));
-            (format!("take-with {zeros}"), told("took", answer))
+            (format!("take_with {zeros}"), told("took", answer))
         }
-        3 => (format!("write-unsent {zeros}"), told("wrote", r.write_unsent(room).map(|b| hex(&b)))),
-        4 if r.datagrams.missing().len() <= MISSING => (format!("write-missing {zeros}"), told("wrote", r.write_missing(room).map(|b| hex(&b)))),
+        3 => (format!("write_unsent {zeros}"), told("wrote", r.write_unsent(room).map(|b| hex(&b)))),
+        4 if r.datagrams.missing().len() <= MISSING => (format!("write_missing {zeros}"), told("wrote", r.write_missing(room).map(|b| hex(&b)))),
         _ => {
             let d = small_datagram(rng, small, r);
             let answer = r.receive(&d).map(|report| format!("{} {} {}", report.ready, report.dropped, report.left));
@@ -311,10 +311,10 @@ fn sound_example(rng: &mut Rng, name: &str) -> String {
             spoil(rng, &mut cells);
         }
         let verdict = if sound_cells(&[next; 256], &cells) { "true" } else { "false" };
-        states.push(format!("(soundAt {next} {} ≡ {verdict})", arg(cells.iter().map(slot))));
+        states.push(format!("(sound_at {next} {} ≡ {verdict})", arg(cells.iter().map(slot))));
     }
     let proofs = vec!["refl"; states.len()].join(", ");
-    format!("pub {name} :\n    {}\nunfolding run soundAt\n{name} = ({proofs})\n", states.join("\n    × "))
+    format!("pub {name} :\n    {}\nunfolding run sound_at\n{name} = ({proofs})\n", states.join("\n    × "))
 }
 
 /// A new receiver's own values with some of them changed: sound or not.
@@ -338,43 +338,43 @@ fn values_example(rng: &mut Rng, name: &str) -> String {
         let lows = format!("{} {}", r.datagrams.low, r.reliables.low);
         let at = format!("{channel} {} {}", r.next[channel], stored(r.newest[channel]));
         let own = format!("{} {}", stored(r.newest[MEMORIES - 1]), r.profile);
-        states.push(format!("(soundValues {lows} {at} {own} {} ≡ {verdict})", arg(&r.unsent)));
+        states.push(format!("(sound_values {lows} {at} {own} {} ≡ {verdict})", arg(&r.unsent)));
     }
     let proofs = vec!["refl"; states.len()].join(", ");
-    format!("pub {name} :\n    {}\nunfolding run soundValues\n{name} = ({proofs})\n", states.join("\n    × "))
+    format!("pub {name} :\n    {}\nunfolding run sound_values\n{name} = ({proofs})\n", states.join("\n    × "))
 }
 
-const CELLS_HEAD: &str = "use mathlib.Core.Path.{_≡_, refl}
-use mathlib.Core.List.{List, [], _∷_}
-use Rattle·reliability.specs.declared.Profile.the-variants.{Console, Cpp}
-use Rattle·bare.proofs.Shown as line
-use Rattle·bare.proofs.Shown.{msg}
-use Rattle·cells.specs.Cell.{emptySlot}
-use Rattle·cells.proofs.Shown.{slot, receive, take, gave, took, refused, saw, run, runAs}
-use Rattle·examples·proofs.proofs.Shown.{whole, part}
+const CELLS_HEAD: &str = "use mathlib.Core.Path.{◌≡◌, refl}
+use mathlib.Core.List.{[], ◌∷◌}
+use Rattle.reliability.specs.declared.Profile.TheVariants.{Console, Cpp}
+use Rattle.bare.proofs.Shown as line
+use Rattle.bare.proofs.Shown.{msg}
+use Rattle.cells.specs.Cell.{empty_slot}
+use Rattle.cells.proofs.Shown.{slot, receive, take, gave, took, refused, saw, run, run_as}
+use Rattle.examples.proofs.Shown.{whole, part}
 ";
 
-const BYTES_HEAD: &str = "use mathlib.Core.Path.{_≡_, refl}
-use mathlib.Core.List.{List, [], _∷_}
+const BYTES_HEAD: &str = "use mathlib.Core.Path.{◌≡◌, refl}
+use mathlib.Core.List.{[], ◌∷◌}
 use lib.ListN.{replicate}
-use Rattle·reliability.specs.declared.Profile.the-variants.{Console, Cpp}
-use Rattle·cells.specs.Cell.{emptySlot}
-use Rattle·cells.proofs.Shown.{slot}
-use Rattle·receiver.specs.Calls.{receive, take-with, write-unsent, write-missing}
-use Rattle·examples·proofs.proofs.Shown.{run, saw, gave, took, wrote, no}
+use Rattle.reliability.specs.declared.Profile.TheVariants.{Console, Cpp}
+use Rattle.cells.specs.Cell.{empty_slot}
+use Rattle.cells.proofs.Shown.{slot}
+use Rattle.receiver.specs.Calls.{receive, take_with, write_unsent, write_missing}
+use Rattle.examples.proofs.Shown.{run, saw, gave, took, wrote, no}
 ";
 
-const SOUND_HEAD: &str = "use mathlib.Core.Path.{_≡_, refl}
+const SOUND_HEAD: &str = "use mathlib.Core.Path.{◌≡◌, refl}
 use mathlib.Core.Bool.{true, false}
-use mathlib.Core.List.{List, [], _∷_}
-use Rattle·cells.specs.Cell.{emptySlot}
-use Rattle·cells.proofs.Shown.{slot, run, soundAt}
+use mathlib.Core.List.{[], ◌∷◌}
+use Rattle.cells.specs.Cell.{empty_slot}
+use Rattle.cells.proofs.Shown.{slot, run, sound_at}
 ";
 
-const VALUES_HEAD: &str = "use mathlib.Core.Path.{_≡_, refl}
+const VALUES_HEAD: &str = "use mathlib.Core.Path.{◌≡◌, refl}
 use mathlib.Core.Bool.{true, false}
-use mathlib.Core.List.{List, [], _∷_}
-use Rattle·examples·proofs.proofs.Shown.{run, soundValues}
+use mathlib.Core.List.{[], ◌∷◌}
+use Rattle.examples.proofs.Shown.{run, sound_values}
 ";
 
 /// A file of n examples: `cells`, `bytes`, `sound` or `values`.
