@@ -28,7 +28,7 @@ module _ (n : ℕ) (rs l : List Cell) (e : length rs ≡ held_cells) (f : length
   abbrev new : List Cell
   new = l ++ drop (min n held_cells) rs
 
-  made_held : (p : Profile) (q : RecvQueue) (st : List ℕ) (a : MakeNew) (h : RecvQueue) → made_new a h l
+  pub made_held : (p : Profile) (q : RecvQueue) (st : List ℕ) (a : MakeNew) (h : RecvQueue) → made_new a h l
       ≡ make_new_of p q (take (min n held_cells) rs) st
       → (held_new (made_with a h new) n ≡ make_new_of p q (take n rs) st) × (drop n new ≡ drop n rs)
   unfolding held_new
@@ -36,7 +36,7 @@ module _ (n : ℕ) (rs l : List Cell) (e : length rs ≡ held_cells) (f : length
       let g = first n held_cells rs l e f in
       (ap (λ (k : List Cell). made_new a h k) g.1 ∙ said ∙ ap (λ (k : List Cell). make_new_of p q k st) (sym g.0), g.2)
 
-  received-held : (q : RecvQueue) (st dg : List ℕ) (a : Receive) (h : RecvQueue) (u : List ℕ) → received a h l u
+  pub received-held : (q : RecvQueue) (st dg : List ℕ) (a : Receive) (h : RecvQueue) (u : List ℕ) → received a h l u
       ≡ receive_of q (take (min n held_cells) rs) st dg
       → (held_received (held_received_with a h new) n u ≡ receive_of q (take n rs) st dg) × (drop n new ≡ drop n rs)
   unfolding held_received
@@ -44,7 +44,7 @@ module _ (n : ℕ) (rs l : List Cell) (e : length rs ≡ held_cells) (f : length
       let g = first n held_cells rs l e f in
       (ap (λ (k : List Cell). received a h k u) g.1 ∙ said ∙ ap (λ (k : List Cell). receive_of q k st dg) (sym g.0), g.2)
 
-  taken-held : (q : RecvQueue) (st js : List ℕ) (a : Take) (u : List ℕ) → take_result a l u ≡ take_of q (take (min n held_cells) rs) st js
+  pub taken-held : (q : RecvQueue) (st js : List ℕ) (a : Take) (u : List ℕ) → take_result a l u ≡ take_of q (take (min n held_cells) rs) st js
       → (held_taken (taken_with a new) n u ≡ take_of q (take n rs) st js) × (drop n new ≡ drop n rs)
   unfolding held_taken
   taken-held q st js a u said =

@@ -13,7 +13,7 @@ use Rattle.recv_queue.specs.Records.{record_left_by, freed_to}
 
 -- ---- one record
 
-left-unused : (turn : ℕ) (c : Cell) → bears (ready_as turn) c ≡ true → blank ≡ record_left_by turn c
+pub left-unused : (turn : ℕ) (c : Cell) → bears (ready_as turn) c ≡ true → blank ≡ record_left_by turn c
 unfolding record_left_by empty_cell
 left-unused turn c e = rw e
 
@@ -22,7 +22,7 @@ set_own [] i l = absurd (omega arith)
 set_own (c ∷ rs) zero l = refl
 set_own (c ∷ rs) (suc i) l = ap (λ (cs : List Cell). c ∷ cs) (set_own rs i (omega arith))
 
-left-same : (turn : ℕ) (rs : List Cell) (i : ℕ) → i < length rs → bears (ready_as turn) (get_or rs i blank) ≡ false → rs
+pub left-same : (turn : ℕ) (rs : List Cell) (i : ℕ) → i < length rs → bears (ready_as turn) (get_or rs i blank) ≡ false → rs
     ≡ set rs i (record_left_by turn (get_or rs i blank))
 unfolding record_left_by
 left-same turn rs i l e = sym (set_own rs i l) ∙ rw e
@@ -77,7 +77,7 @@ freed-one rs turn i l =
       append_snoc,
     )
 
-freed-more : (rs : List Cell) (turn i : ℕ) → i < length rs → set (freed_to rs i turn) i
+pub freed-more : (rs : List Cell) (turn i : ℕ) → i < length rs → set (freed_to rs i turn) i
     (record_left_by turn (get_or (freed_to rs i turn) i blank)) ≡ freed_to rs (suc i) turn
 freed-more rs turn i l = rw (freed-next rs turn i l) (freed-one rs turn i l)
 

@@ -33,7 +33,7 @@ loaded-length rs ws n l room = omega (
 )
 
 -- record i is written as row i
-loaded-more : (rs : List Cell) (ws : List ℕ) (i : ℕ) → i < length rs → row_words * i + row_words ≤ length ws
+pub loaded-more : (rs : List Cell) (ws : List ℕ) (i : ℕ) → i < length rs → row_words * i + row_words ≤ length ws
     → put_row (loaded rs i ws) i (stored_row (get_or rs i blank)) ≡ loaded rs (suc i) ws
 unfolding loaded put_row words_of
 loaded-more rs ws i l room =

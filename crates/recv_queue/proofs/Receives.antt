@@ -115,7 +115,7 @@ module _ (q : RecvQueue) (rs : List Cell) (st d : List ℕ) (k : ℕ) (is : Enou
       e ∙ sym (receive-enough q rs st d k is)
 
   -- The call's promise, of what its body does.
-  received-in : (ws : List ℕ) (r : Receive) (h : RecvQueue) (w s : List ℕ) → row_words * k ≤ length ws → length w ≡ length ws
+  pub received-in : (ws : List ℕ) (r : Receive) (h : RecvQueue) (w s : List ℕ) → row_words * k ≤ length ws → length w ≡ length ws
       → CoreSays q (length rs) k (loaded rs k ws) st d r h w s
       → CallSays q rs st d r h (saved rs (rows_written (receive_answer r) k) w) s
   unfolding received_with receive_with_of

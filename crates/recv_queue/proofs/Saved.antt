@@ -33,7 +33,7 @@ saved-length rs ws n l = omega (
 )
 
 -- record i is read from row i
-saved-more : (rs : List Cell) (ws : List ℕ) (i : ℕ) → i < length rs → set (saved rs i ws) i (cell_of (row_at ws i)) ≡ saved rs (suc i) ws
+pub saved-more : (rs : List Cell) (ws : List ℕ) (i : ℕ) → i < length rs → set (saved rs i ws) i (cell_of (row_at ws i)) ≡ saved rs (suc i) ws
 unfolding saved listed
 saved-more rs ws i l = rw (
   drop-cons rs i blank l,

@@ -55,7 +55,7 @@ module _ (q : RecvQueue) (rs : List Cell) (st j : List ℕ) (k : ℕ) (is : Enou
   few = (enough-few rs st k is).0
 
   -- The call's promise, of what its body does.
-  taken_in : (ws : List ℕ) (r : TakenRows) (u : List ℕ) → row_words * k ≤ length ws → CoreSays q (length rs) k (loaded rs k ws) st j r u
+  pub taken_in : (ws : List ℕ) (r : TakenRows) (u : List ℕ) → row_words * k ≤ length ws → CoreSays q (length rs) k (loaded rs k ws) st j r u
       → CallSays q rs st j r.answer (freed_to rs (rows_written (take_answer r.answer) k) r.turn) u
   unfolding take_result beside_taken
   taken_in ws r u room said =

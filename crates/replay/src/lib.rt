@@ -4,32 +4,16 @@
 
 #![tactic(auto)]
 
-ghost use Rattle.std.specs.Prelude.{◌≡◌, ◌-◌, ◌≤◌, min, length, ◌==◌, IfOk};
+ghost use Rattle.std.specs.Prelude.{◌≡◌, ◌-◌, ◌≤◌, min, length, ◌==◌};
 ghost use Rattle.replay.specs.Fronts.{IsPrefixLen};
 ghost use Rattle.replay.specs.Items.{part_of, item_of};
 ghost use Rattle.replay.specs.Sums.{mixed_with, checksum_of, summed_with, sum_of};
 ghost use Rattle.replay.specs.Lines.{given_beside};
 ghost use Rattle.replay.specs.Tallies.{counted_in};
 
-use std::io;
-use std::io::Read;
+pub use input::read_full;
 
-// ---- the input
-
-// Reads until `buf` is full or the input ends, and returns how many bytes it put at the front of `buf`.
-pub fn read_full<R: Read>(input: &mut R, buf: &mut [u8]) -> io::Result<usize>
-    ensures { IfOk result (λ n. IsPrefixLen n buf.new) }
-{
-    let mut done = 0;
-    while done < buf.len() {
-        let n = input.read(&mut buf[done..])?;
-        if n == 0 {
-            break;
-        }
-        done += n;
-    }
-    Ok(done)
-}
+mod input;
 
 // ---- items
 
