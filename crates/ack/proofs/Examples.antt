@@ -8,7 +8,7 @@ use Rattle.base.specs.If.{if_true, if_lt, if_le, if_eq}
 use Rattle.base.specs.Bytes.{be16, le24, be16_bytes, le24_bytes}
 use Rattle.base.specs.Put.{and_then}
 use Rattle.ack.specs.Records.{range, first_of, last_of, record_bytes, records_bytes, grow, runs}
-use Rattle.ack.specs.Read.{cursor, header_of, read_header_of, read_single, read_range, read_record_of, next}
+use Rattle.ack.specs.Read.{cursor, read_header_of, read_single, read_range, read_record_of, next}
 use Rattle.ack.specs.Write.{id_of, ack_header_bytes, list_bytes, some_over, too_large, ascending, by_list_case, write_list_of}
 
 -- NACK of no number
@@ -34,5 +34,5 @@ pub reading :
     × (read_record_of (0x02 ∷ []) (cursor 0 1) ≡ refused 10)
     × (read_record_of (0x00 ∷ 0x05 ∷ 0x00 ∷ 0x00 ∷ 0x04 ∷ 0x00 ∷ 0x00 ∷ []) (cursor 0 1) ≡ refused 11)
     × (read_record_of (0x00 ∷ 0x05 ∷ 0x00 ∷ 0x00 ∷ 0x05 ∷ 0x00 ∷ 0x00 ∷ []) (cursor 0 1) ≡ gives (next (range 5 5) (cursor 7 0)))
-unfolding read_header_of header_of read_record_of read_single read_range be16 le24 if_true if_lt if_le if_eq
+unfolding read_header_of read_record_of read_single read_range be16 le24 if_true if_lt if_le if_eq
 reading = (refl, refl, refl, refl, refl, refl)

@@ -1,4 +1,3 @@
-pub mod ReadCases
 pub mod Grown
 pub mod RunLaws
 pub mod PassCases

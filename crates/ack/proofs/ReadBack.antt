@@ -4,6 +4,7 @@ use mathlib.Core.Path.{◌≡◌, ◌∙◌, sym, ap, refl}
 use mathlib.Core.Bool.{Bool, true, false}
 use mathlib.Core.List.{List, [], ◌∷◌, ◌++◌, append_assoc}
 use mathlib.Core.Logic.{⊎_elim}
+use Rattle.std.specs.Prelude.{Option}
 use Prim.Native.Nat.{ℕ, suc, ◌+◌, ◌-◌, ◌<◌, ◌≤◌}
 use native.Mathlib.Nat.{le_refl}
 use native.Mathlib.Omega.{arith}
@@ -18,8 +19,9 @@ use Rattle.base.proofs.Digits.{digits16, digits24, byte-first, le24-shift}
 use Rattle.ack.specs.declared.Record.{Record}
 use Rattle.ack.specs.declared.Record.TheVariants.{Single, Range}
 use Rattle.ack.specs.declared.AckCursor.{AckCursor}
+use Rattle.ack.specs.declared.Step.{Step}
 use Rattle.ack.specs.Records.{single, range, single_size, range_size, last_of, record_bytes, records_bytes, runs, ProperRecord, AllProper}
-use Rattle.ack.specs.Read.{ack_header_size, cursor, header_of, read_header_of, Step, next, none_left, read_single, read_range, read_record_of}
+use Rattle.ack.specs.Read.{ack_header_size, cursor, read_header_of, next, none_left, read_single, read_range, read_record_of}
 use Rattle.ack.specs.Read.{Reading, read_on, read_all}
 use Rattle.ack.specs.Write.{id_of, ack_header_bytes, list_bytes, some_over}
 use Rattle.base.proofs.IfCases.{le-cases}
@@ -70,17 +72,17 @@ AllBelow : List Record → Type 0
 AllBelow [] = Unit
 AllBelow (r ∷ rs) = (last_of r < numbers24) × AllBelow rs
 
-read-further : (s : List ℕ) (k : ℕ) (c d : AckCursor) (r : Record) (z : Reading) → read_record_of s c ≡ gives (next r d) → read_all k s d ≡ z
-    → read_all (suc k) s c ≡ record { records = r ∷ z.records; stop = z.stop }
+read-further : (s : List ℕ) (k : ℕ) (c d : AckCursor) (r : Record) (z : Reading) → read_record_of s c ≡ gives (next r d)
+    → read_all k s d ≡ z → read_all (suc k) s c ≡ record { records = r ∷ z.records; stop = z.stop }
 unfolding read_all read_on
 read-further s k c d r z e f =
-    ap (λ (a : Answer Step). read_on a (λ d. read_all k s d)) e
+    ap (λ (a : Answer (Option Step)). read_on a (λ d. read_all k s d)) e
     ∙ ap (λ (y : Reading). record { records = r ∷ y.records; stop = y.stop }) f
 
 read-records : (rs : List Record) (u t : List ℕ) → AllProper rs → AllBelow rs
     → read_all (length rs) (u ++ (records_bytes rs ++ t)) (cursor (length u) (length rs)) ≡ record { records = rs; stop = gives none_left }
 unfolding read_all read_record_of records_bytes AllProper AllBelow and_then
-read-records [] u t p b = ap (λ (a : Answer Step). record { records = []; stop = a }) (sym (eq_yes _ _ _ _ _ refl refl))
+read-records [] u t p b = ap (λ (a : Answer (Option Step)). record { records = []; stop = a }) (sym (eq_yes _ _ _ _ _ refl refl))
 read-records (r ∷ rs) u t p b =
     let rest = records_bytes rs ++ t in
     let e : u ++ ((record_bytes r ++ records_bytes rs) ++ t) ≡ u ++ (record_bytes r ++ rest) =
@@ -120,7 +122,7 @@ runs-length (x ∷ l) = let h = grown-length (grown x (runs l)) in let k = runs-
 -- ---- the header
 read-header : (nack : Bool) (n : ℕ) (t : List ℕ) → n < 65536 → read_header_of (ack_header_bytes nack n ++ t)
     ≡ gives (record { nack = nack; records = cursor ack_header_size n })
-unfolding read_header_of header_of ack_header_bytes id_of if_true be16_bytes be16
+unfolding read_header_of ack_header_bytes id_of if_true be16_bytes be16
 read-header false n t h = sym (lt_no _ _ _ _ _ (omega arith) (eq_yes _ _ _ _ _ refl (rw (digits16 n h))))
 read-header true n t h = sym (lt_no _ _ _ _ _ (omega arith) (eq_no _ _ _ _ _ (omega arith) (eq_yes _ _ _ _ _ refl (rw (digits16 n h)))))
 

@@ -5,8 +5,6 @@ use Rattle.base.specs.Answer.{Answer, refused, gives}
 use Rattle.base.specs.Bytes.{be16_bytes}
 use Rattle.base.specs.Limits.{numbers24, max_list}
 use Rattle.base.specs.Put.{put, and_then}
-use Rattle.ack.specs.declared.WriteAck.{WriteAck}
-use Rattle.ack.specs.declared.WriteAck.TheVariants.{Written, TooLarge, NotAscending, NoRoom}
 use Rattle.ack.specs.Records.{runs, records_bytes}
 use Rattle.ack.specs.Read.{ack_id, nack_id}
 
@@ -46,10 +44,3 @@ write_list_of room nack l = by_list_case room nack l (refused 13) (refused 14) (
 -- the output afterwards
 unfoldable pub written_of : List ℕ → Bool → List ℕ → List ℕ
 written_of out nack l = by_list_case (length out) nack l out out out (put out 0 (list_bytes nack l))
-
--- document 01's number or value for each answer of the code
-abbrev pub write_answer : WriteAck → Answer ℕ
-write_answer (Written len) = gives len
-write_answer TooLarge = refused 13
-write_answer NotAscending = refused 14
-write_answer NoRoom = refused 12

@@ -17,21 +17,21 @@ use Rattle.base.specs.If.{if_true, if_lt}
 use Rattle.base.proofs.Ifs.{lt_yes, lt_no}
 use Rattle.base.specs.Put.{put, and_then, after, Run}
 
-pub put-none : (l : List ℕ) (p : ℕ) → put l p [] ≡ l
+pub put-none : {A : Type 0} (l : List A) (p : ℕ) → put l p [] ≡ l
 unfolding put
 put-none l p = refl
 
-pub put_one : (l : List ℕ) (p b : ℕ) → put l p (b ∷ []) ≡ set l p b
+pub put_one : {A : Type 0} (l : List A) (p : ℕ) (b : A) → put l p (b ∷ []) ≡ set l p b
 unfolding put
 put_one l p b = refl
 
-pub length-put : (l : List ℕ) (p : ℕ) (bs : List ℕ) → length (put l p bs) ≡ length l
+pub length-put : {A : Type 0} (l : List A) (p : ℕ) (bs : List A) → length (put l p bs) ≡ length l
 unfolding put
 length-put l p [] = refl
 length-put l p (b ∷ bs) = length-put (set l p b) (suc p) bs ∙ length-set l p b
 
 -- past the end nothing is stored, and the place stays
-pub put-past : (l : List ℕ) (p : ℕ) (bs : List ℕ) → length l ≤ p → put l p bs ≡ l
+pub put-past : {A : Type 0} (l : List A) (p : ℕ) (bs : List A) → length l ≤ p → put l p bs ≡ l
 unfolding put
 put-past l p [] h = refl
 put-past l p (b ∷ bs) h = rw (set_out l p b h) (put-past l (suc p) bs (omega arith))
@@ -55,7 +55,7 @@ after-add n p zero k = rw zero-add
 after-add n p (suc j) k = rw suc-add (after-add n (if_lt p n (suc p) p) j k)
 
 -- two runs, one after the other
-pub put-append : (l : List ℕ) (p : ℕ) (xs bs : List ℕ) → put (put l p xs) (after (length l) p (length xs)) bs ≡ put l p (xs ++ bs)
+pub put-append : {A : Type 0} (l : List A) (p : ℕ) (xs bs : List A) → put (put l p xs) (after (length l) p (length xs)) bs ≡ put l p (xs ++ bs)
 unfolding put after
 put-append l p [] bs = refl
 put-append l p (a ∷ xs) bs = go (ltb p (length l)) refl (put-append (set l p a) (suc p) xs bs)
@@ -112,20 +112,20 @@ put_back l at bs h =
     rw (d, append-nil) (sym (rw (take-append-drop, n, add-zero) at e))
 
 -- a run within the list: what stands before it, the run, and what stands after it
-put-sets : (bs l : List ℕ) (p : ℕ) → put l p bs ≡ sets l p bs
+put-sets : {A : Type 0} (bs l : List A) (p : ℕ) → put l p bs ≡ sets l p bs
 unfolding put
 put-sets [] l p = refl
 put-sets (b ∷ bs) l p = put-sets bs (set l p b) (suc p)
 
-pub put-split : (l : List ℕ) (p : ℕ) (bs : List ℕ) → p + length bs ≤ length l → put l p bs ≡ take p l ++ (bs ++ drop (p + length bs) l)
+pub put-split : {A : Type 0} (l : List A) (p : ℕ) (bs : List A) → p + length bs ≤ length l → put l p bs ≡ take p l ++ (bs ++ drop (p + length bs) l)
 put-split l p bs h = put-sets bs l p ∙ sets-eq bs l p h ∙ append_assoc (take p l) bs (drop (p + length bs) l)
 
 -- ---- runs, as `search` uses them: facts as the code finds them
-pub run_none : (p : ℕ) (bs l : List ℕ) → bs ≡ [] → Run p bs l p l
+pub run_none : {A : Type 0} (p : ℕ) (bs l : List A) → bs ≡ [] → Run p bs l p l
 unfolding after
 run_none p bs l e = record { next = rw e; is = rw e (sym (put-none l p)) }
 
-pub run-then : (p : ℕ) (xs ys l : List ℕ) (q : ℕ) (L : List ℕ) (r : ℕ) (M : List ℕ) → Run p xs l q L → Run q ys L r M
+pub run-then : {A : Type 0} (p : ℕ) (xs ys l : List A) (q : ℕ) (L : List A) (r : ℕ) (M : List A) → Run p xs l q L → Run q ys L r M
     → Run p (and_then xs ys) l r M
 unfolding and_then
 run-then p xs ys l q L r M a b =
@@ -135,37 +135,25 @@ run-then p xs ys l q L r M a b =
       is = b.is ∙ rw (a.is, a.next) (put-append l p xs ys);
     }
 
-pub run-cons : (p a : ℕ) (bs l : List ℕ) (q : ℕ) (L : List ℕ) (r : ℕ) (M : List ℕ) → Run p (a ∷ []) l q L → Run q bs L r M
+pub run-cons : {A : Type 0} (p : ℕ) (a : A) (bs l : List A) (q : ℕ) (L : List A) (r : ℕ) (M : List A) → Run p (a ∷ []) l q L → Run q bs L r M
     → Run p (a ∷ bs) l r M
 unfolding and_then
 run-cons p a bs l q L r M x y = run-then p (a ∷ []) bs l q L r M x y
 
 -- past the end nothing is stored
-pub run_past : (p : ℕ) (bs l : List ℕ) → length l ≤ p → Run p bs l p l
+pub run_past : {A : Type 0} (p : ℕ) (bs l : List A) → length l ≤ p → Run p bs l p l
 run_past p bs l h = record { next = sym (after-past (length l) p (length bs) h); is = sym (put-past l p bs h) }
 
--- one byte, where there is room and past the end
-pub byte-in : (l : List ℕ) (p b : ℕ) → p < length l → Run p (b ∷ []) l (p + 1) (set l p b)
+-- one element, where there is room and past the end
+pub byte-in : {A : Type 0} (l : List A) (p : ℕ) (b : A) → p < length l → Run p (b ∷ []) l (p + 1) (set l p b)
 unfolding after
 byte-in l p b h = record { next = lt_yes p (length l) (p + 1) (suc p) p h (add-one p); is = sym (put_one l p b) }
 
-pub byte_past : (l : List ℕ) (p b : ℕ) → length l ≤ p → Run p (b ∷ []) l p l
+pub byte_past : {A : Type 0} (l : List A) (p : ℕ) (b : A) → length l ≤ p → Run p (b ∷ []) l p l
 byte_past l p b h = run_past p (b ∷ []) l h
 
--- one element more of a list that is copied over another
-pub copy_step : (i : ℕ) (from to : List ℕ) → i < length from → length to ≡ length from → take i to ≡ take i from
-    → take (i + 1) (set to i (get_or from i 0)) ≡ take (i + 1) from
-copy_step i from to h n e =
-    let k : i < length to = omega arith in
-    rw (add-one, take-suc-set to i (get_or from i 0) k, take-suc from i 0 h, e)
-
-pub copy-end : (i : ℕ) (from to : List ℕ) → length from ≤ i → length to ≡ length from → take i to ≡ take i from → to ≡ from
-copy-end i from to h n e =
-    let k : length to ≤ i = omega arith in
-    rw (take_all i to k, take_all i from h) at e
-
 -- a body, as much of it as there is room for, in place of a part of the list
-module _ (p m : ℕ) (body l : List ℕ) (h : p < length l) (e : m ≡ min (length l - p) (length body)) where
+module _ {A : Type 0} (p m : ℕ) (body l : List A) (h : p < length l) (e : m ≡ min (length l - p) (length body)) where
   part-long : length (take m body) ≡ m
   part-long = length-take-le m body (omega arith)
 
@@ -199,13 +187,19 @@ module _ (p m : ℕ) (body l : List ℕ) (h : p < length l) (e : m ≡ min (leng
   pub part_same : length (take (p + m - p) (drop p l)) ≡ length (take m body)
   part_same = rw part-long (simp (length-take, length-drop) (omega arith))
 
-  pub part-run : (part : List ℕ) → part ≡ take m body → Run p body l (p + m) (take p l ++ (part ++ drop (p + m - p) (drop p l)))
+  pub part-run : (part : List A) → part ≡ take m body → Run p body l (p + m) (take p l ++ (part ++ drop (p + m - p) (drop p l)))
   part-run part i =
       let s : put l p (take m body) ≡ take p l ++ (take m body ++ drop (p + length (take m body)) l) =
       put-split l p (take m body) (rw part-long (omega arith)) in
       let d : p + (p + m - p) ≡ p + m = omega arith in
       record { next = sym part-next; is = rw (i, drop-drop, d) (sym (part-put ∙ (rw part-long at s))) }
 
+-- all of it, where there is room
+pub whole-run : {A : Type 0} (p : ℕ) (body l part : List A) → p < length l → length body ≤ length l - p → part ≡ body
+    → Run p body l (p + length body) (take p l ++ (part ++ drop (p + length body - p) (drop p l)))
+whole-run p body l part h i e =
+    part-run p (length body) body l h (omega arith) part (e ∙ sym (take_all (length body) body (omega arith)))
+
 -- a run leaves the length
-pub run_long : (p : ℕ) (bs l : List ℕ) (q : ℕ) (m : List ℕ) → Run p bs l q m → length m ≡ length l
+pub run_long : {A : Type 0} (p : ℕ) (bs l : List A) (q : ℕ) (m : List A) → Run p bs l q m → length m ≡ length l
 run_long p bs l q m a = ap length a.is ∙ length-put l p bs

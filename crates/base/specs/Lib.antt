@@ -1,5 +1,6 @@
 pub mod If
 pub mod Answer
+pub mod Refusals
 pub mod Limits
 pub mod Numbers
 pub mod Put

@@ -1,10 +1,14 @@
-// What the other crates share: document 01's limits, and numbers read from bytes and written as bytes.
+// What the other crates share: document 01's limits and refusals, and numbers read from bytes and written as bytes.
 
 #![tactic(auto)]
 
-ghost use Rattle.std.specs.Prelude.{◌≡◌, ◌∷◌, [], min, get_or, length};
+ghost use Rattle.std.specs.Prelude.{◌≡◌, ◌∷◌, [], get_or};
 ghost use Rattle.base.specs.Bytes.{be16, be32, le24, be16_bytes, be32_bytes, le24_bytes};
 ghost use Rattle.base.specs.Put.{Run};
+
+pub use refusal::Refusal;
+
+mod refusal;
 
 // Document 01's limits. The definitions' own are in specs/Limits.antt.
 pub const NUMBERS_24: u32 = 16777216;
@@ -45,35 +49,14 @@ pub const MAX_UNSENT: u32 = 1024;
 pub fn byte(s: &[u8], p: usize) -> u8
     ensures { result ≡ get_or s.now p 0 }
 {
-    if p < s.len() {
-        return s[p];
-    }
-    0
-}
-
-fn wide16(x: u8) -> u16
-    ensures { result ≡ x }
-{
-    x as u16
-}
-
-fn wide32(x: u8) -> u32
-    ensures { result ≡ x }
-{
-    x as u32
-}
-
-fn long32(x: u16) -> u32
-    ensures { result ≡ x }
-{
-    x as u32
+    s.get(p).copied().unwrap_or(0)
 }
 
 pub fn be16_at(s: &[u8], p: usize) -> u16
     ensures { result ≡ be16 s.now p }
 {
     if p < s.len() {
-        return wide16(byte(s, p)) * 256 + wide16(byte(s, p + 1));
+        return u16::from_be_bytes([byte(s, p), byte(s, p + 1)]);
     }
     0
 }
@@ -82,7 +65,7 @@ pub fn be32_at(s: &[u8], p: usize) -> u32
     ensures { result ≡ be32 s.now p }
 {
     if p < s.len() {
-        return long32(be16_at(s, p)) * 65536 + long32(be16_at(s, p + 2));
+        return u32::from(be16_at(s, p)) * 65536 + u32::from(be16_at(s, p + 2));
     }
     0
 }
@@ -91,75 +74,58 @@ pub fn le24_at(s: &[u8], p: usize) -> u32
     ensures { result ≡ le24 s.now p }
 {
     if p < s.len() {
-        return wide32(byte(s, p)) + wide32(byte(s, p + 1)) * 256 + wide32(byte(s, p + 2)) * 65536;
+        return u32::from_le_bytes([byte(s, p), byte(s, p + 1), byte(s, p + 2), 0]);
     }
     0
 }
 
-// Each writer stores its bytes from place p on, as far as the slice goes, and returns the place after them.
-pub fn put8(out: &mut [u8], p: usize, b: u8) -> usize
-    ensures { Run p (b ∷ []) out.old result out.new }
+// Each writer stores its elements from place p on, as far as the slice goes, and returns the place after them.
+pub fn put_all<T: Copy>(out: &mut [T], p: usize, xs: &[T]) -> usize
+    ensures { Run p xs.now out.old result out.new }
+{
+    if out.len() <= p {
+        return p;
+    }
+    // Where all fits the copy is as long as the caller's array: a few moves, where that length is known when it is compiled.
+    let room = out.len() - p;
+    if xs.len() <= room {
+        out[p..p + xs.len()].copy_from_slice(xs);
+        return p + xs.len();
+    }
+    out[p..p + room].copy_from_slice(&xs[..room]);
+    p + room
+}
+
+pub fn put<T: Copy>(out: &mut [T], p: usize, x: T) -> usize
+    ensures { Run p (x ∷ []) out.old result out.new }
 {
     if p < out.len() {
-        out[p] = b;
+        out[p] = x;
         return p + 1;
     }
     p
 }
 
+// Two or three bytes go one by one: as a slice for `put_all` they are copied by a call, and a list takes up to three times as long.
 pub fn put16(out: &mut [u8], p: usize, x: u32) -> usize
     ensures { Run p (be16_bytes x) out.old result out.new }
 {
-    let a = put8(out, p, (x / 256 % 256) as u8);
-    put8(out, a, (x % 256) as u8)
+    let [_, _, high, low] = x.to_be_bytes();
+    let a = put(out, p, high);
+    put(out, a, low)
 }
 
 pub fn put24(out: &mut [u8], p: usize, x: u32) -> usize
     ensures { Run p (le24_bytes x) out.old result out.new }
 {
-    let a = put8(out, p, (x % 256) as u8);
-    let b = put8(out, a, (x / 256 % 256) as u8);
-    put8(out, b, (x / 65536 % 256) as u8)
+    let [low, middle, high, _] = x.to_le_bytes();
+    let a = put(out, p, low);
+    let b = put(out, a, middle);
+    put(out, b, high)
 }
 
 pub fn put32(out: &mut [u8], p: usize, x: u32) -> usize
     ensures { Run p (be32_bytes x) out.old result out.new }
 {
-    let a = put16(out, p, x / 65536);
-    put16(out, a, x)
-}
-
-// A body, as far as the output goes.
-pub fn put_bytes(out: &mut [u8], p: usize, body: &[u8]) -> usize
-    ensures { Run p body.now out.old result out.new }
-{
-    let n = out.len();
-    if n <= p {
-        return p;
-    }
-    let m = lesser(n - p, body.len());
-    let q = p + m;
-    copy_all(&mut out[p..q], &body[..m]);
-    q
-}
-
-fn lesser(a: usize, b: usize) -> usize
-    ensures { result ≡ min a b }
-{
-    if a < b {
-        return a;
-    }
-    b
-}
-
-// One slice over another of its length. A loop without a branch, as this one, is compiled to moves of many bytes at a time.
-fn copy_all(to: &mut [u8], from: &[u8])
-    requires { length to.old ≡ length from.now }
-    ensures { to.new ≡ from.now }
-{
-    let mut i = 0;
-    while i < from.len() {
-        to[i] = from[i];
-        i += 1;
-    }
+    put_all(out, p, &x.to_be_bytes())
 }

@@ -9,8 +9,9 @@
 
 #![tactic(auto)]
 
-use recv_answers::QueueReceived;
-use recv_queue::{CellRecord, Profile, RecvQueue, Take, WriteQueue};
+use base::Refusal;
+use recv_array::Receiver;
+use recv_queue::{Profile, Received, Taken};
 use std::io;
 use std::io::Read;
 
@@ -19,256 +20,160 @@ const STORE: usize = base::CELL_BYTES * recv_array::HELD;
 // A call's number has 16 bits.
 const BUFFER: usize = 65535;
 
-// The receiver and its cells' records.
-#[derive(Clone, Copy)]
-struct Receiver {
-    queue: RecvQueue,
-    records: [CellRecord; 256],
-}
-
-fn with_cells(queue: RecvQueue, records: [CellRecord; 256]) -> Receiver {
-    Receiver { queue, records }
-}
-
-fn show_received(rt: &impl Print, told: QueueReceived) {
-    let number = told.number as u64;
-    let values = [told.ready as u64, told.dropped as u64, told.left as u64];
-    replay::line(rt, b"r", number, replay::given(number, &values));
-}
-
-fn receive(
-    rt: &impl Print,
-    x: Receiver,
-    cells: usize,
-    store: &mut [u8],
-    datagram: &[u8],
-) -> Receiver {
-    let queue = x.queue;
-    let records = x.records;
-    let r = recv_array::receive_held(queue, records, cells, store, datagram);
-    let answer = r.answer;
-    let q = r.queue;
-    let rs = r.records;
-    show_received(rt, recv_answers::receive_told(answer));
-    with_cells(q, rs)
-}
-
-fn show_take<'a>(rt: &impl Print, answer: Take, store: &'a [u8], joined: &'a [u8]) {
-    let body = recv_queue::body(store, joined, answer);
-    let told = recv_answers::take_told(answer);
-    let number = told.number as u64;
-    let sum = replay::sum(body);
-    let values = [
-        told.len as u64,
-        sum,
-        told.kind as u64,
-        told.channel as u64,
-        told.order as u64,
-    ];
-    replay::line(rt, b"t", number, replay::given(number, &values));
-}
-
-fn take(rt: &impl Print, x: Receiver, cells: usize, store: &[u8], joined: &mut [u8]) -> Receiver {
-    let queue = x.queue;
-    let records = x.records;
-    let r = recv_array::take_held(queue, records, cells, store, joined);
-    let answer = r.answer;
-    let rs = r.records;
-    show_take(rt, answer, store, joined);
-    with_cells(queue, rs)
-}
-
-fn show_write(rt: &impl Print, letter: &[u8], answer: WriteQueue, out: &[u8]) {
-    let told = recv_answers::write_told(answer);
-    let number = told.number as u64;
-    let sum = replay::sum(replay::part(out, 0, told.len));
-    replay::line(
-        rt,
-        letter,
-        number,
-        replay::given(number, &[told.len as u64, sum]),
-    );
-}
-
-fn write_unsent(rt: &impl Print, x: Receiver, out: &mut [u8]) -> Receiver {
-    let queue = x.queue;
-    let records = x.records;
-    let r = recv_array::write_unsent_held(queue, out);
-    let answer = r.answer;
-    let q = r.queue;
-    show_write(rt, b"u", answer, out);
-    with_cells(q, records)
-}
-
-fn write_missing(rt: &impl Print, x: Receiver, out: &mut [u8]) -> Receiver {
-    let queue = x.queue;
-    let records = x.records;
-    let answer = recv_array::write_missing_held(queue, out);
-    show_write(rt, b"m", answer, out);
-    with_cells(queue, records)
-}
-
-fn profile_of(n: usize) -> Profile {
-    if n == 1 {
-        return Profile::Cpp;
-    }
-    Profile::Console
-}
-
-fn make_new(rt: &impl Print, cells: usize, n: usize, store: &[u8]) -> Receiver {
-    let made = recv_array::new_held(cells, store, profile_of(n));
-    let answer = made.answer;
-    let queue = made.queue;
-    let records = made.records;
-    replay::line(rt, b"n", recv_answers::new_number(answer) as u64, &[]);
-    with_cells(queue, records)
-}
-
 // ---- the input
 
-// The last call's first byte.
-const NEW: u8 = 4;
-
-// What stands for the first byte of a call where the input ends.
-const END: u8 = 255;
-
-// A call's first byte, and its number.
 #[derive(Clone, Copy)]
-struct Call {
-    what: u8,
-    n: usize,
+enum Call {
+    Receive,
+    Take,
+    WriteUnsent,
+    WriteMissing,
+    New(Profile),
 }
 
-fn call_of(what: u8, n: usize) -> Call {
-    Call { what, n }
+// What a call's first byte and its number ask for; nothing where they end the list.
+fn call_of(first: u8, number: u16) -> Option<Call> {
+    match first {
+        0 => Some(Call::Receive),
+        1 => Some(Call::Take),
+        2 => Some(Call::WriteUnsent),
+        3 => Some(Call::WriteMissing),
+        4 => Profile::try_from(u32::from(number)).ok().map(Call::New),
+        _ => None,
+    }
 }
 
-// A datagram follows its call; the other calls write over what stands there. The call's first byte, or END where the datagram is cut or
-// the profile is none.
-fn filled<R: Read>(stdin: &mut R, what: u8, bytes: &mut [u8]) -> io::Result<u8> {
-    let n = bytes.len();
-    if (what == NEW) & (base::PROFILES as usize <= n) {
-        return Ok(END);
-    }
-    if what != 0 {
-        return Ok(what);
-    }
-    if replay::read_full(stdin, bytes)? < n {
-        return Ok(END);
-    }
-    Ok(what)
-}
-
-// The next call's n bytes are the front of the buffer.
-fn read_call<R: Read>(stdin: &mut R, buffer: &mut [u8]) -> io::Result<Call> {
+// The next call, and how many bytes of the buffer are its own; none where the input ends. A datagram follows its call; the other calls
+// write over what stands there.
+fn read_call<R: Read>(stdin: &mut R, buffer: &mut [u8]) -> io::Result<Option<(Call, usize)>> {
     let mut head = [0u8; 3];
-    if replay::read_full(stdin, &mut head)? < 3 {
-        return Ok(call_of(END, 0));
+    if replay::read_full(stdin, &mut head)? < head.len() {
+        return Ok(None);
     }
-    let n = replay::within(buffer, base::be16_at(&head, 1) as usize);
-    let what = filled(stdin, head[0], &mut buffer[..n])?;
-    Ok(call_of(what, n))
+    let number = base::be16_at(&head, 1);
+    let Some(call) = call_of(head[0], number) else {
+        return Ok(None);
+    };
+    let n = replay::within(buffer, usize::from(number));
+    if let Call::Receive = call
+        && replay::read_full(stdin, &mut buffer[..n])? < n
+    {
+        return Ok(None);
+    }
+    Ok(Some((call, n)))
 }
 
-// The number of cells, or 0 where the input has none.
-fn read_cells<R: Read>(stdin: &mut R) -> io::Result<usize> {
+// The number of cells, if the input has one.
+fn read_cells<R: Read>(stdin: &mut R) -> io::Result<Option<u16>> {
     let mut head = [0u8; 2];
-    if replay::read_full(stdin, &mut head)? < 2 {
-        return Ok(0);
+    let n = replay::read_full(stdin, &mut head)?;
+    Ok((n == head.len()).then_some(base::be16_at(&head, 0)))
+}
+
+// ---- the calls
+
+fn received_values(r: Received) -> [u64; 3] {
+    [u64::from(r.ready), u64::from(r.dropped), r.left as u64]
+}
+
+fn taken_values(taken: Taken, body: &[u8]) -> [u64; 5] {
+    let (Taken::InStore {
+        kind,
+        channel,
+        order,
+        ..
     }
-    Ok(base::be16_at(&head, 0) as usize)
+    | Taken::Joined {
+        kind,
+        channel,
+        order,
+        ..
+    }) = taken;
+    [
+        body.len() as u64,
+        replay::sum(body),
+        u64::from(kind),
+        u64::from(channel),
+        u64::from(order),
+    ]
 }
 
-fn answered(
-    rt: &impl Print,
-    x: Receiver,
-    cells: usize,
-    what: u8,
-    store: &mut [u8],
-    bytes: &mut [u8],
-) -> Receiver {
-    match what {
-        0 => receive(rt, x, cells, store, bytes),
-        1 => take(rt, x, cells, store, bytes),
-        2 => write_unsent(rt, x, bytes),
-        3 => write_missing(rt, x, bytes),
-        _ => make_new(rt, cells, bytes.len(), store),
+fn written_values(len: usize, out: &[u8]) -> [u64; 2] {
+    [len as u64, replay::sum(replay::part(out, 0, len))]
+}
+
+// A line of an answer: 0 and its values, or a refusal's number.
+fn answered<const N: usize>(rt: &impl Print, word: &[u8], answer: Result<[u64; N], Refusal>) {
+    match answer {
+        Ok(values) => {
+            replay::line(rt, word, 0, &values);
+        }
+        Err(refusal) => {
+            replay::refused(rt, word, refusal);
+        }
     }
 }
 
-fn one_call(
-    rt: &impl Print,
-    x: Receiver,
-    cells: usize,
-    call: Call,
-    store: &mut [u8],
-    buffer: &mut [u8],
-) -> Receiver {
-    let n = replay::within(buffer, call.n);
-    answered(rt, x, cells, call.what, store, &mut buffer[..n])
+// One call, over its own bytes.
+fn replay_call(rt: &impl Print, x: &mut Receiver, store: &mut [u8], call: Call, bytes: &mut [u8]) {
+    match call {
+        Call::Receive => {
+            let answer = x.receive(store, bytes);
+            answered(rt, b"r", answer.map(received_values));
+        }
+        Call::Take => {
+            let answer = x.take(store, bytes);
+            let body = recv_queue::body(store, bytes, answer);
+            answered(rt, b"t", answer.map(|taken| taken_values(taken, body)));
+        }
+        Call::WriteUnsent => {
+            let answer = x.write_unsent(bytes);
+            answered(rt, b"u", answer.map(|len| written_values(len, bytes)));
+        }
+        Call::WriteMissing => {
+            let answer = x.write_missing(bytes);
+            answered(rt, b"m", answer.map(|len| written_values(len, bytes)));
+        }
+        Call::New(profile) => {
+            let (made, answer) = Receiver::new(x.cells, store, profile);
+            *x = made;
+            answered(rt, b"n", answer.map(|()| []));
+        }
+    }
 }
 
-// The count of turns is far above what any input has: a call takes three bytes or more.
-fn run<R: Read>(
+// The calls of the input, over a store of just so many cells.
+fn replay<R: Read>(
     rt: &impl Print,
     stdin: &mut R,
-    x: Receiver,
     cells: usize,
     store: &mut [u8],
     buffer: &mut [u8],
 ) -> io::Result<()> {
-    let mut now = x;
-    let mut left: u64 = 18446744073709551615;
-    while 0 < left {
-        let call = read_call(stdin, buffer)?;
-        if NEW < call.what {
+    let (mut x, made) = Receiver::new(cells, store, Profile::Console);
+    if let Err(refusal) = made {
+        replay::refused(rt, b"-", refusal);
+        return Ok(());
+    }
+    // Far more turns than any input has: a call takes three bytes or more.
+    for _ in 0..u64::MAX {
+        let Some((call, n)) = read_call(stdin, buffer)? else {
             return Ok(());
-        }
-        now = one_call(rt, now, cells, call, store, buffer);
-        left -= 1;
+        };
+        let n = replay::within(buffer, n);
+        replay_call(rt, &mut x, store, call, &mut buffer[..n]);
     }
     Ok(())
 }
 
-fn start<R: Read>(
-    rt: &impl Print,
-    stdin: &mut R,
-    cells: usize,
-    store: &mut [u8],
-    buffer: &mut [u8],
-) -> io::Result<()> {
-    let made = recv_array::new_held(cells, store, Profile::Console);
-    let answer = made.answer;
-    let queue = made.queue;
-    let records = made.records;
-    let number = recv_answers::new_number(answer);
-    if number != 0 {
-        replay::line(rt, b"-", number as u64, &[]);
-        return Ok(());
-    }
-    run(rt, stdin, with_cells(queue, records), cells, store, buffer)
-}
-
-// The receiver's store is the front of the whole, as long as its cells are.
-fn start_within<R: Read>(
-    rt: &impl Print,
-    stdin: &mut R,
-    cells: usize,
-    whole: &mut [u8],
-    buffer: &mut [u8],
-) -> io::Result<()> {
-    if whole.len() / base::CELL_BYTES < cells {
-        replay::line(rt, b"-", 9, &[]);
-        return Ok(());
-    }
-    let n = replay::within(whole, base::CELL_BYTES * cells);
-    start(rt, stdin, cells, &mut whole[..n], buffer)
-}
-
 fn main(rt: HostRuntime) -> io::Result<()> {
-    let mut store = [0u8; STORE];
+    let mut whole = [0u8; STORE];
     let mut buffer = [0u8; BUFFER];
     let mut stdin = rt.stdin();
-    let cells = read_cells(&mut stdin)?;
-    start_within(&rt, &mut stdin, cells, &mut store, &mut buffer)
+    let cells = usize::from(read_cells(&mut stdin)?.unwrap_or(0));
+    if let Some(store) = whole.get_mut(..base::CELL_BYTES * cells) {
+        return replay(&rt, &mut stdin, cells, store, &mut buffer);
+    }
+    replay::refused(&rt, b"-", Refusal::NotSound);
+    Ok(())
 }

@@ -1,14 +1,16 @@
 -- What the exported functions return: the number of the refusal, or 0 where nothing is refused, and the values beside it, which are 0 on a
 -- refusal.
-use Rattle.std.specs.Prelude.{ℕ, Bool, true, false}
+use Rattle.std.specs.Prelude.{ℕ, Bool, true, false, Option, Some, None}
 use Rattle.base.specs.Answer.{Answer, refused, gives}
 use Rattle.window.specs.Window.{Insertion}
 use Rattle.ack.specs.declared.Record.{Record}
 use Rattle.ack.specs.declared.Record.TheVariants.{Single, Range}
 use Rattle.ack.specs.declared.AckCursor.{AckCursor}
 use Rattle.ack.specs.Records.{first_of, last_of}
-use Rattle.ack.specs.Read.{Header, Step, next, none_left, cursor}
-use Rattle.split.specs.Split.{Fragment}
+use Rattle.ack.specs.declared.Header.{Header}
+use Rattle.ack.specs.declared.Step.{Step}
+use Rattle.ack.specs.Read.{cursor}
+use Rattle.split.specs.declared.Fragment.{Fragment}
 use Rattle.exports.specs.declared.WindowInsert.{WindowInsert}
 use Rattle.exports.specs.declared.AckWritten.{AckWritten}
 use Rattle.exports.specs.declared.AckHeaderFound.{AckHeaderFound}
@@ -45,10 +47,10 @@ abbrev pub found_told : Record → AckCursor → AckRecordFound
 found_told r c = record { number = 0; found = true; range = is_range r; first = first_of r; last = last_of r; records = c }
 
 -- where no record is left, nothing is refused and nothing is found
-abbrev pub record_told : Answer Step → AckRecordFound
+abbrev pub record_told : Answer (Option Step) → AckRecordFound
 record_told (refused number) = no_record number
-record_told (gives (next r c)) = found_told r c
-record_told (gives none_left) = no_record 0
+record_told (gives (Some step)) = found_told step.«record» step.records
+record_told (gives None) = no_record 0
 
 abbrev pub no_piece : ℕ → SplitPiece
 no_piece number = record { number = number; start = 0; len = 0; count = 0; index = 0 }

@@ -1,22 +1,23 @@
 // Windows, ACKs and splits for programs in other languages, under plain names: the static library `exports_c` hands them on, and links into
-// Rust or C. Such a function can't answer an enum. It answers document 01's refusal number, or 0 where nothing is refused, and the values
+// Rust or C. Such a function can't answer a Result. It answers document 01's refusal number, or 0 where nothing is refused, and the values
 // beside it, which are 0 on a refusal. Each promise says by the called function's own definition what all the numbers are.
 
 #![tactic(auto)]
 
 ghost use Rattle.std.specs.Prelude.{◌≡◌, length};
 ghost use Rattle.base.specs.Put.{Run};
-ghost use Rattle.window.specs.Window.{new_window, insert_of, insert_answer};
+ghost use Rattle.base.specs.Refusals.{answer};
+ghost use Rattle.window.specs.Window.{new_window, insert_of};
 ghost use Rattle.window.specs.Missing as Missing;
-ghost use Rattle.ack.specs.Read.{read_header_of, header_answer, read_record_of, step_answer};
-ghost use Rattle.ack.specs.Write.{write_list_of, written_of, write_answer};
-ghost use Rattle.split.specs.Split.{split_piece_of, piece_answer};
-ghost use Rattle.exports.specs.Numbers.{number_of, insert_told, ack_told, no_header, header_told, no_record, found_told, record_told};
-ghost use Rattle.exports.specs.Numbers.{no_piece, piece_told};
+ghost use Rattle.ack.specs.Read.{read_header_of, read_record_of};
+ghost use Rattle.ack.specs.Write.{write_list_of, written_of};
+ghost use Rattle.split.specs.Split.{split_piece_of};
+ghost use Rattle.exports.specs.Numbers.{insert_told, ack_told, header_told, found_told, record_told, piece_told};
 
-use ack::{AckCursor, AckHeader, AckStep, Record, WriteAck};
-use split::Piece;
-use window::{Insert, ReliableWindow};
+use ack::{AckCursor, Header, Record, Step};
+use base::Refusal;
+use split::Fragment;
+use window::ReliableWindow;
 
 #[repr(C)]
 #[derive(Clone, Copy)]
@@ -27,24 +28,56 @@ pub struct WindowInsert {
 
 // How many bytes were written.
 #[repr(C)]
-#[derive(Clone, Copy)]
+#[derive(Clone, Copy, Default)]
 pub struct AckWritten {
     pub number: u32,
     pub len: usize,
 }
 
+impl From<Result<usize, Refusal>> for AckWritten {
+    ghost from_gives = { λ r x. x ≡ ack_told (answer r) };
+
+    fn from(r: Result<usize, Refusal>) -> AckWritten {
+        match r {
+            Ok(len) => AckWritten { number: 0, len },
+            Err(e) => AckWritten {
+                number: e.into(),
+                ..AckWritten::default()
+            },
+        }
+    }
+}
+
 // The cursor stands at the first record.
 #[repr(C)]
-#[derive(Clone, Copy)]
+#[derive(Clone, Copy, Default)]
 pub struct AckHeaderFound {
     pub number: u32,
     pub nack: bool,
     pub records: AckCursor,
 }
 
+impl From<Result<Header, Refusal>> for AckHeaderFound {
+    ghost from_gives = { λ r x. x ≡ header_told (answer r) };
+
+    fn from(r: Result<Header, Refusal>) -> AckHeaderFound {
+        match r {
+            Ok(Header { nack, records }) => AckHeaderFound {
+                number: 0,
+                nack,
+                records,
+            },
+            Err(e) => AckHeaderFound {
+                number: e.into(),
+                ..AckHeaderFound::default()
+            },
+        }
+    }
+}
+
 // A record and the cursor after it; nothing is found where no record is left. A Single's number is first and last.
 #[repr(C)]
-#[derive(Clone, Copy)]
+#[derive(Clone, Copy, Default)]
 pub struct AckRecordFound {
     pub number: u32,
     pub found: bool,
@@ -54,9 +87,44 @@ pub struct AckRecordFound {
     pub records: AckCursor,
 }
 
+impl From<Step> for AckRecordFound {
+    ghost from_gives = { λ s x. x ≡ found_told s.«record» s.records };
+
+    #[tactic(auto, unfolding(ack::specs::Records::first_of, ack::specs::Records::last_of))]
+    fn from(s: Step) -> AckRecordFound {
+        let (range, first, last) = match s.record {
+            Record::Single(x) => (false, x.sequence, x.sequence),
+            Record::Range(x) => (true, x.start, x.end),
+        };
+        AckRecordFound {
+            number: 0,
+            found: true,
+            range,
+            first,
+            last,
+            records: s.records,
+        }
+    }
+}
+
+impl From<Result<Option<Step>, Refusal>> for AckRecordFound {
+    ghost from_gives = { λ r x. x ≡ record_told (answer r) };
+
+    fn from(r: Result<Option<Step>, Refusal>) -> AckRecordFound {
+        match r {
+            Ok(Some(step)) => step.into(),
+            Ok(None) => AckRecordFound::default(),
+            Err(e) => AckRecordFound {
+                number: e.into(),
+                ..AckRecordFound::default()
+            },
+        }
+    }
+}
+
 // The piece's bytes are those from `start` on, `len` of them.
 #[repr(C)]
-#[derive(Clone, Copy)]
+#[derive(Clone, Copy, Default)]
 pub struct SplitPiece {
     pub number: u32,
     pub start: usize,
@@ -65,23 +133,44 @@ pub struct SplitPiece {
     pub index: u32,
 }
 
+impl From<Result<Fragment, Refusal>> for SplitPiece {
+    ghost from_gives = { λ r x. x ≡ piece_told (answer r) };
+
+    fn from(r: Result<Fragment, Refusal>) -> SplitPiece {
+        match r {
+            Ok(
+                Fragment {
+                    start,
+                    len,
+                    count,
+                    index,
+                },
+            ) => SplitPiece {
+                number: 0,
+                start,
+                len,
+                count,
+                index,
+            },
+            Err(e) => SplitPiece {
+                number: e.into(),
+                ..SplitPiece::default()
+            },
+        }
+    }
+}
+
 pub fn poghduka_window_new() -> ReliableWindow
     ensures { result ≡ new_window }
 {
     ReliableWindow::new()
 }
 
-pub fn poghduka_window_insert(w: ReliableWindow, n: u32) -> WindowInsert
+pub fn poghduka_window_insert(mut w: ReliableWindow, n: u32) -> WindowInsert
     ensures { result ≡ insert_told (insert_of w n) }
 {
-    let r = w.insert(n);
-    let answer = r.answer;
-    let number = insert_number(answer);
-    let window = r.window;
-    WindowInsert {
-        number: number,
-        window: window,
-    }
+    let number = w.insert(n).err().map_or(0, u32::from);
+    WindowInsert { number, window: w }
 }
 
 pub fn poghduka_window_missing(w: ReliableWindow, list: &mut [u32]) -> usize
@@ -94,157 +183,25 @@ pub fn poghduka_write_list(out: &mut [u8], nack: bool, numbers: &[u32]) -> AckWr
     ensures value { result ≡ ack_told (write_list_of (length out.old) nack numbers.now) }
     ensures out_after { out.new ≡ written_of out.old nack numbers.now }
 {
-    ack_written(ack::write_list(out, nack, numbers))
+    ack::write_list(out, nack, numbers).into()
 }
 
 pub fn poghduka_read_ack_header(s: &[u8]) -> AckHeaderFound
     ensures { result ≡ header_told (read_header_of s.now) }
 {
-    header_told(ack::read_header(s))
+    ack::read_header(s).into()
 }
 
 // The record that the cursor stands at.
 pub fn poghduka_read_ack_record(s: &[u8], records: AckCursor) -> AckRecordFound
     ensures { result ≡ record_told (read_record_of s.now records) }
 {
-    record_told(ack::read_record(s, records))
+    ack::read_record(s, records).into()
 }
 
 // Piece k of the split of the buffer at this mtu.
 pub fn poghduka_split_piece(buffer: &[u8], mtu: u16, k: u32) -> SplitPiece
     ensures { result ≡ piece_told (split_piece_of (length buffer.now) mtu k) }
 {
-    piece_numbers(split::split_piece(buffer, mtu, k))
-}
-
-fn insert_number(answer: Insert) -> u32
-    ensures { result ≡ number_of (insert_answer answer) }
-{
-    match answer {
-        Insert::Accepted => 0,
-        Insert::TooLarge => 13,
-        Insert::Old => 4,
-        Insert::Beyond => 5,
-    }
-}
-
-fn ack_written(answer: WriteAck) -> AckWritten
-    ensures { result ≡ ack_told (write_answer answer) }
-{
-    match answer {
-        WriteAck::Written { len } => AckWritten {
-            number: 0,
-            len: len,
-        },
-        WriteAck::TooLarge => AckWritten { number: 13, len: 0 },
-        WriteAck::NotAscending => AckWritten { number: 14, len: 0 },
-        WriteAck::NoRoom => AckWritten { number: 12, len: 0 },
-    }
-}
-
-fn no_header(number: u32) -> AckHeaderFound
-    ensures { result ≡ no_header number }
-{
-    AckHeaderFound {
-        number: number,
-        nack: false,
-        records: AckCursor { at: 0, left: 0 },
-    }
-}
-
-fn header_told(answer: AckHeader) -> AckHeaderFound
-    ensures { result ≡ header_told (header_answer answer) }
-{
-    match answer {
-        AckHeader::Found { nack, records } => AckHeaderFound {
-            number: 0,
-            nack: nack,
-            records: records,
-        },
-        AckHeader::Cut => no_header(1),
-        AckHeader::NotAck => no_header(3),
-    }
-}
-
-fn no_record(number: u32) -> AckRecordFound
-    ensures { result ≡ no_record number }
-{
-    AckRecordFound {
-        number: number,
-        found: false,
-        range: false,
-        first: 0,
-        last: 0,
-        records: AckCursor { at: 0, left: 0 },
-    }
-}
-
-fn record_found(r: Record, records: AckCursor) -> AckRecordFound
-    ensures { result ≡ found_told r records }
-{
-    match r {
-        Record::Single(x) => AckRecordFound {
-            number: 0,
-            found: true,
-            range: false,
-            first: x.sequence,
-            last: x.sequence,
-            records: records,
-        },
-        Record::Range(x) => AckRecordFound {
-            number: 0,
-            found: true,
-            range: true,
-            first: x.start,
-            last: x.end,
-            records: records,
-        },
-    }
-}
-
-fn record_told(answer: AckStep) -> AckRecordFound
-    ensures { result ≡ record_told (step_answer answer) }
-{
-    match answer {
-        AckStep::Next { record, records } => record_found(record, records),
-        AckStep::End => no_record(0),
-        AckStep::Cut => no_record(1),
-        AckStep::UnknownType => no_record(10),
-        AckStep::Reversed => no_record(11),
-    }
-}
-
-fn no_piece(number: u32) -> SplitPiece
-    ensures { result ≡ no_piece number }
-{
-    SplitPiece {
-        number: number,
-        start: 0,
-        len: 0,
-        count: 0,
-        index: 0,
-    }
-}
-
-fn piece_numbers(piece: Piece) -> SplitPiece
-    ensures { result ≡ piece_told (piece_answer piece) }
-{
-    match piece {
-        Piece::Part {
-            start,
-            len,
-            count,
-            index,
-        } => SplitPiece {
-            number: 0,
-            start: start,
-            len: len,
-            count: count,
-            index: index,
-        },
-        Piece::BadMtu => no_piece(16),
-        Piece::FitsOneChunk => no_piece(17),
-        Piece::TooManyPieces => no_piece(18),
-        Piece::BeyondLast => no_piece(19),
-    }
+    split::split_piece(buffer, mtu, k).into()
 }

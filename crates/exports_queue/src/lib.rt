@@ -8,12 +8,28 @@ ghost use Rattle.std.specs.Prelude.{◌≡◌};
 ghost use Rattle.receiver.specs.Receive.{receive_of};
 ghost use Rattle.receiver.specs.Take.{take_of};
 ghost use Rattle.receiver.specs.Write.{write_unsent_of, write_missing_of};
+ghost use Rattle.recv_new.specs.New.{made_new};
 ghost use Rattle.exports_queue.specs.Receiver.{make_numbered_of, new_numbers, new_numbers_of, receive_numbers, receive_numbers_of};
 ghost use Rattle.exports_queue.specs.Receiver.{take_numbers, take_numbers_of, write_numbers, write_numbers_of};
 
+use base::Refusal;
 use exports::AckWritten;
 use recv_answers::{QueueReceived, QueueTaken};
-use recv_queue::{CellRecord, RecvQueue};
+use recv_queue::{CellRecord, Profile, RecvQueue};
+
+// Make new, for the profile of a number.
+fn make_numbered(
+    queue: &mut RecvQueue,
+    records: &mut [CellRecord],
+    store: &[u8],
+    profile: u32,
+) -> Result<(), Refusal>
+    ensures { made_new result queue.new records.new
+        ≡ make_numbered_of profile queue.old records.old store.now }
+{
+    let p = Profile::try_from(profile)?;
+    recv_queue::make_new(queue, records, store, p)
+}
 
 #[unsafe(no_mangle)]
 pub extern "C" fn poghduka_make_new(
@@ -25,12 +41,7 @@ pub extern "C" fn poghduka_make_new(
     ensures { new_numbers result queue.new records.new
         ≡ new_numbers_of (make_numbered_of profile queue.old records.old store.now) }
 {
-    if profile < base::PROFILES {
-        let p = reliability::profile_of(profile);
-        let answer = recv_queue::make_new(queue, records, store, p);
-        return recv_answers::new_number(answer);
-    }
-    9
+    recv_answers::new_number(make_numbered(queue, records, store, profile))
 }
 
 #[unsafe(no_mangle)]
@@ -43,8 +54,7 @@ pub extern "C" fn poghduka_receive(
     ensures { receive_numbers result queue.new records.new store.new
         ≡ receive_numbers_of (receive_of queue.old records.old store.old datagram.now) }
 {
-    let answer = recv_queue::receive(queue, records, store, datagram);
-    recv_answers::receive_told(answer)
+    recv_queue::receive(queue, records, store, datagram).into()
 }
 
 #[unsafe(no_mangle)]
@@ -57,8 +67,7 @@ pub extern "C" fn poghduka_take(
     ensures { take_numbers result records.new joined.new
         ≡ take_numbers_of (take_of queue.now records.old store.now joined.old) }
 {
-    let answer = recv_queue::take(queue, records, store, joined);
-    recv_answers::take_told(answer)
+    recv_queue::take(queue, records, store, joined).into()
 }
 
 #[unsafe(no_mangle)]
@@ -66,8 +75,7 @@ pub extern "C" fn poghduka_write_unsent(queue: &mut RecvQueue, out: &mut [u8]) -
     ensures { write_numbers result queue.new out.new
         ≡ write_numbers_of (write_unsent_of queue.old out.old) }
 {
-    let answer = recv_queue::write_unsent(queue, out);
-    recv_answers::write_told(answer)
+    recv_queue::write_unsent(queue, out).into()
 }
 
 #[unsafe(no_mangle)]
@@ -75,6 +83,5 @@ pub extern "C" fn poghduka_write_missing(queue: &RecvQueue, out: &mut [u8]) -> A
     ensures { write_numbers result queue.now out.new
         ≡ write_numbers_of (write_missing_of queue.now out.old) }
 {
-    let answer = recv_queue::write_missing(queue, out);
-    recv_answers::write_told(answer)
+    recv_queue::write_missing(queue, out).into()
 }

@@ -5,10 +5,10 @@ use mathlib.Core.List.{List}
 use Prim.Native.Nat.{ℕ, ◌+◌, ◌-◌, ◌<◌, ◌≤◌}
 use native.Mathlib.Omega.{arith}
 use lib.ListN.{length}
+use Rattle.std.specs.Prelude.{Option, Some, None}
 use Rattle.reliability.specs.declared.Profile.{Profile}
 use Rattle.frame.specs.declared.FramesRead.{FramesRead}
 use Rattle.frame.specs.declared.Span.{Span}
-use Rattle.frame.specs.declared.Span.TheVariants.{Fits, Cut}
 use Rattle.frame.specs.Read.{placed_at, span_of}
 use Rattle.frame.specs.Frames.{frames_of, end_of, read_frames_of}
 use Rattle.frame.proofs.FramesOf.{frames-more, end_more, frames-cut, end-cut}
@@ -24,9 +24,9 @@ pub record Passed (p : Profile) (s : List ℕ) (at place count : ℕ) : Type 0 w
 pub passed_none : (p : Profile) (s : List ℕ) (at : ℕ) → Passed p s at at 0
 passed_none p s at = record { behind = omega arith; few = omega arith; frames = omega arith; end = refl }
 
-module _ (p : Profile) (s : List ℕ) (at place count : ℕ) (r : Span) (e : r ≡ span_of p s place) where
+module _ (p : Profile) (s : List ℕ) (at place count : ℕ) (r : Option Span) (e : r ≡ span_of p s place) where
   -- the first frame that does not fit: that many frames, and the bytes from it on are left
-  pub passed-all : r ≡ Cut → Passed p s at place count → (left : ℕ) → left ≡ length s - place
+  pub passed-all : r ≡ None → Passed p s at place count → (left : ℕ) → left ≡ length s - place
       → ◌≡◌ {A = FramesRead} (record { count = count; left = left }) (read_frames_of p s at)
   unfolding read_frames_of
   passed-all i a left l =
@@ -35,16 +35,16 @@ module _ (p : Profile) (s : List ℕ) (at place count : ℕ) (r : Span) (e : r �
       let f : left ≡ length s - end_of p s at = l ∙ rw (a.end, end-cut p s place 1 c) in
       λ j. record { count = n j; left = f j }
 
-  module _ (start next : ℕ) (i : r ≡ Fits start next) where
-    pub passed-more : Passed p s at place count → Passed p s at next (count + 1)
+  module _ (x : Span) (i : r ≡ Some x) where
+    pub passed-more : Passed p s at place count → Passed p s at x.next (count + 1)
     passed-more a =
-        let w = one-spanned p s place r e start next i in
+        let w = one-spanned p s place r e x i in
         record {
           behind = omega arith;
           few = omega arith;
-          frames = omega (arith, ap length (frames-more p s place (placed_at p s place) next w.gives));
-          end = a.end ∙ end_more p s place (placed_at p s place) next w.gives;
+          frames = omega (arith, ap length (frames-more p s place (placed_at p s place) x.next w.gives));
+          end = a.end ∙ end_more p s place (placed_at p s place) x.next w.gives;
         }
 
-    pub passed-less : length s - next < length s - place
-    passed-less = let w = one-spanned p s place r e start next i in omega arith
+    pub passed-less : length s - x.next < length s - place
+    passed-less = let w = one-spanned p s place r e x i in omega arith

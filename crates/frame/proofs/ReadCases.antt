@@ -1,31 +1,41 @@
 -- The cases of reading a frame, each with the facts as the code finds them.
 -- Assumes nothing.
 use mathlib.Core.Path.{◌≡◌, ◌∙◌, sym, ap, refl}
-use mathlib.Core.Bool.{true}
+use mathlib.Core.Bool.{Bool, true, false}
 use mathlib.Core.List.{List}
 use Prim.Native.Nat.{ℕ, ◌+◌, ◌-◌, ◌/◌, ◌<◌, ◌≤◌}
-use native.Mathlib.Decide.{dec_lt}
+use native.Mathlib.Decide.{ℕ_discrete, dec_lt}
 use native.Mathlib.Omega.{arith}
 use lib.ListN.{length, get_or}
+use Rattle.std.specs.Prelude.{Option, Some, None, Result, Ok, Err}
+use Rattle.std.proofs.lemmas.Option.{none-some}
 use Rattle.base.specs.Answer.{refused, gives}
+use Rattle.base.specs.Refusals.{number_of, answer}
+use Rattle.base.specs.declared.refusal.Refusal.{Refusal}
+use Rattle.base.specs.declared.refusal.Refusal.TheVariants.{Cut}
 use Rattle.base.specs.Bytes.{be16}
-use Rattle.base.specs.If.{if_true}
-use Rattle.base.proofs.Ifs.{lt_yes, lt_no}
+use Rattle.base.specs.If.{if_true, if_eq}
+use Rattle.base.proofs.Ifs.{true-yes, true-no, lt_yes, lt_no, eq_yes, eq_no}
 use Rattle.reliability.specs.Kinds.{fields_of}
 use Rattle.reliability.specs.declared.KindFields.{KindFields}
 use Rattle.reliability.specs.declared.Profile.{Profile}
 use Rattle.reliability.specs.declared.Profile.TheVariants.{Console, Cpp}
 use Rattle.reliability.proofs.Laws.{Inside}
 use Rattle.frame.specs.Read.{kind_of, is_piece, number_at, channel_at, meta_at, meta_size, header_size, body_length, frame_at}
-use Rattle.frame.specs.Read.{ends_at, placed_at, read_frame_of, read_answer, span_of}
+use Rattle.frame.specs.Read.{ends_at, placed_at, read_frame_of, span_of}
 use Rattle.frame.specs.declared.FragmentMeta.{FragmentMeta}
 use Rattle.frame.specs.declared.Frame.{Frame}
 use Rattle.frame.specs.declared.Placed.{Placed}
-use Rattle.frame.specs.declared.ReadFrame.{ReadFrame}
-use Rattle.frame.specs.declared.ReadFrame.TheVariants.{Whole, Cut}
 use Rattle.frame.specs.declared.Span.{Span}
-use Rattle.frame.specs.declared.Span.TheVariants as span
-use Rattle.frame.proofs.Reading.{start-after, header-least, row_inside}
+use Rattle.frame.proofs.Reading.{start-after, header-least, row_inside, read-cut}
+
+-- ---- a header's bytes
+module _ (p : Profile) (kind : ℕ) (piece : Bool) (k : KindFields) (e : k ≡ fields_of p kind) where
+  pub piece-size : piece ≡ true → k.header + meta_size ≡ header_size piece (fields_of p kind).header
+  piece-size t = true-yes _ _ _ _ t (rw e)
+
+  pub whole-size : piece ≡ false → k.header ≡ header_size piece (fields_of p kind).header
+  whole-size t = true-no _ _ _ _ t (rw e)
 
 -- ---- a body's bytes
 module _ (p : Profile) (bits n : ℕ) where
@@ -38,33 +48,38 @@ module _ (p : Profile) (bits n : ℕ) where
   cpp-length e i = i ∙ sym (ap (λ q. body_length q bits) e)
 
 -- ---- the span
+abbrev pub spanned : ℕ → ℕ → Span
+spanned start next = record { start = start; next = next }
+
+abbrev pub placed : Frame → ℕ → ℕ → Placed
+placed f start len = record { frame = f; start = start; len = len }
+
 module _ (p : Profile) (s : List ℕ) (at : ℕ) where
   -- no room for flags and length
-  pub short : length s < 3 → span.Cut ≡ span_of p s at
-  unfolding span_of
-  short h = lt_yes _ _ _ _ _ (omega (arith, start-after p s at)) refl
-
-  pub beyond : length s - 3 < at → span.Cut ≡ span_of p s at
+  pub beyond : length s < at → None ≡ span_of p s at
   unfolding span_of
   beyond h = lt_yes _ _ _ _ _ (omega (arith, start-after p s at)) refl
 
-  module _ (k : KindFields) (h bits n : ℕ) (a : k ≡ fields_of p (kind_of (get_or s at 0)))
-      (b : h ≡ header_size (is_piece (get_or s at 0)) k.header)
+  pub short : (room : ℕ) → room ≡ length s - at → room < 3 → None ≡ span_of p s at
+  unfolding span_of
+  short room e h = lt_yes _ _ _ _ _ (omega (arith, start-after p s at)) refl
+
+  module _ (h bits n : ℕ) (b : h ≡ header_size (is_piece (get_or s at 0)) (fields_of p (kind_of (get_or s at 0))).header)
       (c : bits ≡ be16 s (at + 1)) (d : n ≡ body_length p bits) where
     starts : at + h ≡ (placed_at p s at).start
     unfolding placed_at
-    starts = rw (b, a)
+    starts = rw b
 
     long : n ≡ (placed_at p s at).len
     unfolding placed_at
     long = rw (d, c)
 
     -- the frame reaches past the end
-    pub cut : length s < at + h + n → span.Cut ≡ span_of p s at
+    pub cut : length s < at + h + n → None ≡ span_of p s at
     unfolding span_of
     cut i = lt_yes _ _ _ _ _ (omega (arith, starts, long)) refl
 
-    pub fits : at + h + n ≤ length s → span.Fits (at + h) (at + h + n) ≡ span_of p s at
+    pub fits : at + h + n ≤ length s → Some (spanned (at + h) (at + h + n)) ≡ span_of p s at
     unfolding span_of
     fits i = lt_no _ _ _ _ _ (omega (arith, starts, long)) (rw (starts, long))
 
@@ -77,63 +92,74 @@ pub record Spanned (p : Profile) (s : List ℕ) (at start next : ℕ) : Type 0 w
   pub within : next ≤ length s
   pub gives : read_frame_of p s at ≡ gives (placed_at p s at, next)
 
-module _ (p : Profile) (s : List ℕ) (at : ℕ) (r : Span) (e : r ≡ span_of p s at) where
-  pub none-spanned : r ≡ span.Cut → read_frame_of p s at ≡ refused 1
+module _ (p : Profile) (s : List ℕ) (at : ℕ) (r : Option Span) (e : r ≡ span_of p s at) where
+  pub none-spanned : r ≡ None → read_frame_of p s at ≡ refused 1
   unfolding span_of read_frame_of
   none-spanned i = go (dec_lt (length s) (ends_at (placed_at p s at)))
     where
       go : Dec (length s < ends_at (placed_at p s at)) → read_frame_of p s at ≡ refused 1
       go (yes h) = sym (lt_yes _ _ _ _ _ h refl)
       go (no h) =
-          let f : span.Cut ≡ span.Fits (placed_at p s at).start (ends_at (placed_at p s at)) =
+          let f : None ≡ Some (spanned (placed_at p s at).start (ends_at (placed_at p s at))) =
           sym i ∙ e ∙ sym (lt_no _ _ _ _ _ (omega arith) refl) in
-          let z : ◌≡◌ {A = ℕ} 0 1 = cc in
-          absurd (omega arith)
+          absurd (none-some _ f)
 
-  pub one-spanned : (start next : ℕ) → r ≡ span.Fits start next → Spanned p s at start next
-  unfolding span_of read_frame_of
-  one-spanned start next i = go (dec_lt (length s) (ends_at (placed_at p s at)))
-    where
-      go : Dec (length s < ends_at (placed_at p s at)) → Spanned p s at start next
-      go (yes h) =
-          let f : span.Fits start next ≡ span.Cut = sym i ∙ e ∙ sym (lt_yes _ _ _ _ _ h refl) in
-          let z : ◌≡◌ {A = ℕ} 0 1 = cc in
-          absurd (omega arith)
-      go (no h) =
-          let f : span.Fits start next ≡ span.Fits (placed_at p s at).start (ends_at (placed_at p s at)) =
-          sym i ∙ e ∙ sym (lt_no _ _ _ _ _ (omega arith) refl) in
-          let x : start ≡ (placed_at p s at).start = cc in
-          let y : next ≡ ends_at (placed_at p s at) = cc in
-          record {
-            starts = x;
-            ends = y;
-            flags = omega (arith, start-after p s at);
-            within = omega arith;
-            gives = sym (lt_no _ _ _ _ _ (omega arith) (rw y));
-          }
+  -- the answer where no frame fits
+  pub none-read : r ≡ None → (m : Refusal) → Cut ≡ m → refused (number_of m) ≡ read_frame_of p s at
+  none-read i m c = rw (← c) (sym (none-spanned i))
 
-  -- Where the frame fits, so does its header.
-  pub header-in : (start next : ℕ) → r ≡ span.Fits start next → (at < length s) × ((placed_at p s at).start ≤ length s)
-  header-in start next i = let w = one-spanned start next i in (omega arith, omega arith)
+  module _ (x : Span) (i : r ≡ Some x) where
+    pub one-spanned : Spanned p s at x.start x.next
+    unfolding span_of read_frame_of
+    one-spanned = go (dec_lt (length s) (ends_at (placed_at p s at)))
+      where
+        go : Dec (length s < ends_at (placed_at p s at)) → Spanned p s at x.start x.next
+        go (yes h) =
+            let f : Some x ≡ None = sym i ∙ e ∙ sym (lt_yes _ _ _ _ _ h refl) in
+            absurd (none-some _ (sym f))
+        go (no h) =
+            let f : Some x ≡ Some (spanned (placed_at p s at).start (ends_at (placed_at p s at))) =
+            sym i ∙ e ∙ sym (lt_no _ _ _ _ _ (omega arith) refl) in
+            let g : x ≡ spanned (placed_at p s at).start (ends_at (placed_at p s at)) = cc in
+            let n : x.next ≡ ends_at (placed_at p s at) = ap (λ (v : Span). v.next) g in
+            record {
+              starts = ap (λ (v : Span). v.start) g;
+              ends = n;
+              flags = omega (arith, start-after p s at, ap (λ (v : Span). v.start) g);
+              within = omega arith;
+              gives = sym (lt_no _ _ _ _ _ (omega arith) (rw n));
+            }
 
-  pub body-after : (start next : ℕ) → r ≡ span.Fits start next → start ≤ next
-  body-after start next i = let w = one-spanned start next i in omega arith
+    -- Where the frame fits, so does its header.
+    pub header-in : (at < length s) × ((placed_at p s at).start ≤ length s)
+    header-in = let w = one-spanned in (omega arith, omega arith)
 
-  pub none_read : r ≡ span.Cut → read_answer Cut ≡ read_frame_of p s at
-  unfolding read_answer
-  none_read i = sym (none-spanned i)
+    pub body-after : x.start ≤ x.next
+    body-after = let w = one-spanned in omega arith
 
-  pub one-read : (start next : ℕ) → r ≡ span.Fits start next → (f : Frame) → f ≡ frame_at p s at
-      → read_answer (Whole (record { frame = f; start = start; len = next - start }) next) ≡ read_frame_of p s at
-  unfolding read_answer placed_at
-  one-read start next i f g =
-      let w = one-spanned start next i in
-      let n : next - start ≡ (placed_at p s at).len = omega arith in
-      let x : ◌≡◌ {A = Placed} (record { frame = f; start = start; len = next - start }) (placed_at p s at) =
-      λ j. record { frame = g j; start = w.starts j; len = n j } in
-      rw x (sym w.gives)
+    -- the frame itself, from the header that was read
+    pub one-read : (f : Frame) → f ≡ frame_at p s at
+        → gives (placed f x.start (x.next - x.start), x.next) ≡ read_frame_of p s at
+    unfolding placed_at
+    one-read f g =
+        let w = one-spanned in
+        let n : x.next - x.start ≡ (placed_at p s at).len = omega arith in
+        let v : placed f x.start (x.next - x.start) ≡ placed_at p s at = λ j. record { frame = g j; start = w.starts j; len = n j } in
+        rw v (sym w.gives)
 
 -- ---- the fields of a header that fits
+-- 0 where the kind lacks it, else what was read
+pub carried : (off r v : ℕ) → (off ≡ 0 → r ≡ 0) → ((off ≡ 0 → ⊥) → r ≡ v) → r ≡ if_eq off 0 0 v
+carried off r v lacks has = go (ℕ_discrete off 0)
+  where
+    go : Dec (off ≡ 0) → r ≡ if_eq off 0 0 v
+    go (yes e) = eq_yes _ _ _ _ _ e (lacks e)
+    go (no n) = eq_no _ _ _ _ _ n (has n)
+
+-- the numbers of a frame that is no piece
+pub no-meta : (piece : Bool) (s : List ℕ) (p : ℕ) (m : FragmentMeta) → piece ≡ false → m.count ≡ 0 → m.id ≡ 0 → m.index ≡ 0 → m ≡ meta_at piece s p
+no-meta piece s p m e c i x = true-no _ _ _ _ e (λ j. record { count = c j; id = i j; index = x j })
+
 module _ (p : Profile) (s : List ℕ) (at : ℕ) (h : (placed_at p s at).start ≤ length s) (k : KindFields)
     (e : k ≡ fields_of p (kind_of (get_or s at 0))) where
   header-fits : at + header_size (is_piece (get_or s at 0)) k.header ≤ length s
@@ -187,13 +213,11 @@ module _ (p : Profile) (s : List ℕ) (at : ℕ) (h : (placed_at p s at).start �
       })
 
 -- ---- what the code's answer says, for a caller that takes it apart by `match`
-module _ (p : Profile) (s : List ℕ) (at : ℕ) (r : ReadFrame) (e : read_answer r ≡ read_frame_of p s at) where
-  -- `Cut`: no frame fits there.
-  pub told-cut : r ≡ Cut → read_frame_of p s at ≡ refused 1
-  unfolding read_answer
-  told-cut i = sym e ∙ rw i
+module _ (p : Profile) (s : List ℕ) (at : ℕ) (r : Result (Placed × ℕ) Refusal) (e : answer r ≡ read_frame_of p s at) where
+  -- `Err`: no frame fits there.
+  pub told-cut : (m : Refusal) → r ≡ Err m → read_frame_of p s at ≡ refused 1
+  told-cut m i = read-cut p s at (number_of m) (sym e ∙ rw i)
 
-  -- `Whole`: the frame, and the place after it.
-  pub told-whole : (x : Placed) (next : ℕ) → r ≡ Whole x next → read_frame_of p s at ≡ gives (x, next)
-  unfolding read_answer
+  -- `Ok`: the frame, and the place after it.
+  pub told-whole : (x : Placed) (next : ℕ) → r ≡ Ok (x, next) → read_frame_of p s at ≡ gives (x, next)
   told-whole x next i = sym e ∙ rw i

@@ -1,6 +1,6 @@
 -- A frame read: document 01, "Bytes", paragraph "Frame", and the call "Read frame"; under a profile (document 02, request 2).
 -- Past the end of the slice a byte reads as 0. No frame that is given depends on it: one that reaches past the end is cut.
-use Rattle.std.specs.Prelude.{ℕ, ◌+◌, ◌/◌, ◌%◌, Bool, List, get_or, length, take, drop, eqb}
+use Rattle.std.specs.Prelude.{ℕ, ◌+◌, ◌/◌, ◌%◌, Bool, List, get_or, length, take, drop, eqb, Option, Some, None}
 use Rattle.base.specs.Answer.{Answer, refused, gives}
 use Rattle.base.specs.Bytes.{be16, be32, le24}
 use Rattle.base.specs.If.{if_true, if_lt, if_eq}
@@ -12,10 +12,7 @@ use Rattle.reliability.specs.declared.Profile.TheVariants.{Console, Cpp}
 use Rattle.frame.specs.declared.FragmentMeta.{FragmentMeta}
 use Rattle.frame.specs.declared.Frame.{Frame}
 use Rattle.frame.specs.declared.Placed.{Placed}
-use Rattle.frame.specs.declared.ReadFrame.{ReadFrame}
-use Rattle.frame.specs.declared.ReadFrame.TheVariants.{Whole, Cut}
 use Rattle.frame.specs.declared.Span.{Span}
-use Rattle.frame.specs.declared.Span.TheVariants as span
 
 -- "Kinds 0 to 7"
 abbrev pub max_kind : ℕ
@@ -97,11 +94,7 @@ ends_at p = p.start + p.len
 unfoldable pub read_frame_of : Profile → List ℕ → ℕ → Answer (Placed × ℕ)
 read_frame_of p s at = if_lt (length s) (ends_at (placed_at p s at)) (refused 1) (gives (placed_at p s at, ends_at (placed_at p s at)))
 
--- the code's answer in document 01's numbers and values
-unfoldable pub read_answer : ReadFrame → Answer (Placed × ℕ)
-read_answer (Whole p next) = gives (p, next)
-read_answer Cut = refused 1
-
 -- where the frame's body starts and the place after the frame, where header and body fit
-unfoldable pub span_of : Profile → List ℕ → ℕ → Span
-span_of p s at = if_lt (length s) (ends_at (placed_at p s at)) span.Cut (span.Fits (placed_at p s at).start (ends_at (placed_at p s at)))
+unfoldable pub span_of : Profile → List ℕ → ℕ → Option Span
+span_of p s at = if_lt (length s) (ends_at (placed_at p s at)) None
+    (Some (record { start = (placed_at p s at).start; next = ends_at (placed_at p s at) }))

@@ -2,8 +2,9 @@
 
 #![tactic(auto)]
 
-ghost use Rattle.std.specs.Prelude.{◌≡◌, ◌+◌, ◌/◌, ◌<◌, ◌≤◌, length};
+ghost use Rattle.std.specs.Prelude.{◌≡◌, ◌+◌, ◌<◌, ◌≤◌, length};
 ghost use Rattle.base.specs.Bytes.{be16, be32, le24};
+ghost use Rattle.reliability.specs.Kinds.{fields_of};
 ghost use Rattle.frame.specs.Read.{header_size, body_length, longest_body, span_of};
 
 use reliability::Profile;
@@ -18,11 +19,11 @@ pub use read::read_frame;
 const START_SIZE: usize = 3;
 
 // The bytes of a piece's count, id and index.
-pub const META_SIZE: usize = 10;
+const META_SIZE: usize = 10;
 
 // Where a piece stands in its message. The Rust's field `size` is document 01's count.
 #[repr(C)]
-#[derive(Clone, Copy)]
+#[derive(Clone, Copy, Debug, Default, PartialEq, Eq)]
 pub struct FragmentMeta {
     pub count: u32,
     pub id: u16,
@@ -30,8 +31,9 @@ pub struct FragmentMeta {
 }
 
 // What a frame's header says; a field that the kind, or a frame that is no piece, lacks is 0.
+// Other languages lay this struct out: so the kind is a number, and `piece` stands beside `meta`.
 #[repr(C)]
-#[derive(Clone, Copy)]
+#[derive(Clone, Copy, Debug, Default, PartialEq, Eq)]
 pub struct Frame {
     pub kind: u8,
     pub reliable: u32,
@@ -44,135 +46,86 @@ pub struct Frame {
 
 // A frame, and where its body stands in the slice.
 #[repr(C)]
-#[derive(Clone, Copy)]
+#[derive(Clone, Copy, Debug, Default, PartialEq, Eq)]
 pub struct Placed {
     pub frame: Frame,
     pub start: usize,
     pub len: usize,
 }
 
-// `Cut` is document 01's 1.
-#[derive(Clone, Copy)]
-pub enum ReadFrame {
-    Whole { placed: Placed, next: usize },
-    Cut,
-}
-
 // How many frames were read, and the bytes left from the first that does not fit.
-#[derive(Clone, Copy)]
+#[derive(Clone, Copy, Debug, PartialEq, Eq)]
 pub struct FramesRead {
     pub count: usize,
     pub left: usize,
 }
 
-// Where the body of a frame starts, and the place after the frame; or Cut where it does not fit.
+// Where the body of a frame starts, and the place after the frame.
 #[derive(Clone, Copy)]
-enum Span {
-    Fits { start: usize, next: usize },
-    Cut,
+struct Span {
+    start: usize,
+    next: usize,
 }
 
 // ---- numbers that are known to stand in the slice, read without a test
-
-fn wide16(x: u8) -> u16
-    ensures { (result ≡ x) × (result < 256) }
-{
-    x as u16
-}
-
-fn wide32(x: u8) -> u32
-    ensures { (result ≡ x) × (result < 256) }
-{
-    x as u32
-}
-
-fn long32(x: u16) -> u32
-    ensures { result ≡ x }
-{
-    x as u32
-}
 
 fn read16(s: &[u8], at: usize) -> u16
     requires { at + 2 ≤ length s.now }
     ensures { result ≡ be16 s.now at }
 {
-    wide16(s[at]) * 256 + wide16(s[at + 1])
+    u16::from_be_bytes([s[at], s[at + 1]])
 }
 
 fn read32(s: &[u8], at: usize) -> u32
     requires { at + 4 ≤ length s.now }
     ensures { result ≡ be32 s.now at }
 {
-    long32(read16(s, at)) * 65536 + long32(read16(s, at + 2))
+    u32::from_be_bytes([s[at], s[at + 1], s[at + 2], s[at + 3]])
 }
 
 fn read24(s: &[u8], at: usize) -> u32
     requires { at + 3 ≤ length s.now }
     ensures { result ≡ le24 s.now at }
 {
-    wide32(s[at]) + wide32(s[at + 1]) * 256 + wide32(s[at + 2]) * 65536
+    u32::from_le_bytes([s[at], s[at + 1], s[at + 2], 0])
 }
 
 // ---- how far a frame reaches: flags and length alone say it
 
-// The span of the frame whose flags stand at `at`.
-fn span_at(p: Profile, s: &[u8], at: usize) -> Span
-    ensures { result ≡ span_of p s.now at }
-{
-    let n = s.len();
-    if n < START_SIZE {
-        return Span::Cut;
-    }
-    if n - START_SIZE < at {
-        return Span::Cut;
-    }
-    let flags = s[at];
-    let k = reliability::fields(p, flags / 32);
-    let start = at + header_size(flags / 16 % 2 == 1, k.header);
-    let next = start + body_len(p, read16(s, at + 1));
-    if next <= n {
-        return Span::Fits {
-            start: start,
-            next: next,
-        };
-    }
-    Span::Cut
-}
-
-// The header's bytes: those of the kind's row, and a piece's ten. (Bounds such as these two say only that no sum wraps.)
-fn header_size(piece: bool, header: usize) -> usize
-    requires { header < 100 }
-    ensures is { result ≡ header_size piece header }
+// The header's bytes: those of the kind's row, and a piece's ten. (Bounds such as this say only that no sum wraps.)
+pub fn header_size(p: Profile, kind: u8, piece: bool) -> usize
+    ensures is { result ≡ header_size piece (fields_of p kind).header }
     ensures small { result < 110 }
 {
-    if piece {
-        return header + META_SIZE;
+    let header = reliability::fields(p, kind).header;
+    if piece { header + META_SIZE } else { header }
+}
+
+// The span of the frame whose flags stand at `at`; none where it does not fit.
+fn span_at(p: Profile, s: &[u8], at: usize) -> Option<Span>
+    ensures { result ≡ span_of p s.now at }
+{
+    let room = s.len().checked_sub(at)?;
+    if room < START_SIZE {
+        return None;
     }
-    header
+    let flags = s[at];
+    let start = at + header_size(p, flags / 32, flags / 16 % 2 == 1);
+    let next = start + body_len(p, read16(s, at + 1));
+    if next <= s.len() {
+        return Some(Span { start, next });
+    }
+    None
 }
 
 // The bytes of a body whose length in bits is given.
+// `div_ceil` was tried: `read_frames` takes 8 % more time by it.
 fn body_len(p: Profile, bits: u16) -> usize
     ensures is { result ≡ body_length p bits }
     ensures small { result ≤ longest_body }
 {
     match p {
-        Profile::Console => rounded_down(bits),
-        Profile::Cpp => rounded_up(bits),
+        Profile::Console => usize::from(bits) / 8,
+        Profile::Cpp => (usize::from(bits) + 7) / 8,
     }
-}
-
-fn rounded_down(bits: u16) -> usize
-    ensures is { result ≡ bits / 8 }
-    ensures small { result ≤ longest_body }
-{
-    (bits / 8) as usize
-}
-
-// Seven bits more may not fit 16 bits.
-fn rounded_up(bits: u16) -> usize
-    ensures is { result ≡ (bits + 7) / 8 }
-    ensures small { result ≤ longest_body }
-{
-    ((long32(bits) + 7) / 8) as usize
 }

@@ -1,29 +1,24 @@
 // A frame read from a slice: first whether it fits, then the fields of its header, which are read without a test.
-ghost use Rattle.std.specs.Prelude.{◌≡◌, true, ◌+◌, ◌<◌, ◌≤◌, length};
-ghost use Rattle.frame.specs.Read.{number_at, channel_at, meta_at, meta_size, frame_at, placed_at, read_frame_of, read_answer};
+ghost use Rattle.std.specs.Prelude.{◌≡◌, true, ◌+◌, ◌^◌, ◌<◌, ◌≤◌, length};
+ghost use Rattle.base.specs.Refusals.{answer};
+ghost use Rattle.frame.specs.Read.{meta_at, meta_size, frame_at, placed_at, read_frame_of};
 
-use super::{FragmentMeta, Frame, Placed, ReadFrame, Span};
+use super::{FragmentMeta, Frame, Placed, Span};
+use base::Refusal;
 use reliability::Profile;
 
 // The frame at `at` and the place after it, or Cut where it does not fit.
-pub fn read_frame(p: Profile, s: &[u8], at: usize) -> ReadFrame
-    ensures { read_answer result ≡ read_frame_of p s.now at }
+pub fn read_frame(p: Profile, s: &[u8], at: usize) -> Result<(Placed, usize), Refusal>
+    ensures { answer result ≡ read_frame_of p s.now at }
 {
-    match super::span_at(p, s, at) {
-        Span::Cut => ReadFrame::Cut,
-        Span::Fits { start, next } => {
-            let f = frame_at(p, s, at);
-            let len = next - start;
-            ReadFrame::Whole {
-                placed: Placed {
-                    frame: f,
-                    start: start,
-                    len: len,
-                },
-                next: next,
-            }
-        }
-    }
+    let Span { start, next } = super::span_at(p, s, at).ok_or(Refusal::Cut)?;
+    let frame = frame_at(p, s, at);
+    let placed = Placed {
+        frame,
+        start,
+        len: next - start,
+    };
+    Ok((placed, next))
 }
 
 // The header whose flags stand at `at`. It fits.
@@ -36,35 +31,27 @@ fn frame_at(p: Profile, s: &[u8], at: usize) -> Frame
     let piece = flags / 16 % 2 == 1;
     let k = reliability::fields(p, kind);
     Frame {
-        kind: kind,
-        reliable: number(s, at, k.reliable),
-        sequence: number(s, at, k.sequence),
-        order: number(s, at, k.order),
-        channel: channel(s, at, k.channel),
-        piece: piece,
+        kind,
+        reliable: field(k.reliable, at, |i| super::read24(s, i)),
+        sequence: field(k.sequence, at, |i| super::read24(s, i)),
+        order: field(k.order, at, |i| super::read24(s, i)),
+        channel: field(k.channel, at, |i| s[i]),
+        piece,
         meta: meta_at(piece, s, at + k.header),
     }
 }
 
-// A number of the header: 0 where the kind lacks it.
-fn number(s: &[u8], at: usize, off: usize) -> u32
-    requires { at + off + 3 ≤ length s.now }
-    ensures { result ≡ number_at s.now at off }
+// A field of the header that starts at `at`: 0 where the kind lacks it.
+fn field<T: Default, F: FnOnce(usize) -> T>(off: usize, at: usize, read: F) -> T
+    requires fits { at + off < 2 ^ 64 }
+    requires reads { F.pre read (at + off) }
+    ensures lacks { off ≡ 0 → T.is_default result }
+    ensures has { (off ≡ 0 → ⊥) → F.post read (at + off) result }
 {
     if off == 0 {
-        return 0;
+        return T::default();
     }
-    super::read24(s, at + off)
-}
-
-fn channel(s: &[u8], at: usize, off: usize) -> u8
-    requires { at + off < length s.now }
-    ensures { result ≡ channel_at s.now at off }
-{
-    if off == 0 {
-        return 0;
-    }
-    s[at + off]
+    read(at + off)
 }
 
 // Count, id and index of a piece, from `at` on.
@@ -79,9 +66,5 @@ fn meta_at(piece: bool, s: &[u8], at: usize) -> FragmentMeta
             index: super::read32(s, at + 6),
         };
     }
-    FragmentMeta {
-        count: 0,
-        id: 0,
-        index: 0,
-    }
+    FragmentMeta::default()
 }

@@ -4,13 +4,13 @@ use mathlib.Core.Path.{◌≡◌, ◌∙◌, refl}
 use mathlib.Core.List.{List, [], ◌∷◌}
 use Prim.Native.Nat.{ℕ, ◌<◌, ◌≤◌}
 use lib.ListN.{length}
+use Rattle.base.specs.Answer.{refused, gives}
 use Rattle.base.specs.Bytes.{le24_bytes}
 use Rattle.base.specs.Limits.{numbers24}
 use Rattle.base.specs.Put.{Run}
 use Rattle.base.proofs.Ifs.{le_yes, le-no, lt_yes, lt_no}
 use Rattle.base.proofs.Puts.{run-cons}
-use Rattle.frame_write.specs.declared.WriteHead.TheVariants.{Written, TooLarge, NoRoom}
-use Rattle.frame_write.specs.Head.{head_id, head_size, head_bytes, by_head, write_head_of, head_written_of, head_answer}
+use Rattle.frame_write.specs.Head.{head_id, head_size, head_bytes, by_head, write_head_of, head_written_of}
 
 -- ---- the call's three cases, for the answer and for the output alike
 module _ {A : Type 0} (room number : ℕ) (x y z : A) where
@@ -27,16 +27,16 @@ module _ {A : Type 0} (room number : ℕ) (x y z : A) where
   has_room h r = le-no _ _ _ _ _ h (lt_no _ _ _ _ _ r refl)
 
 module _ (l : List ℕ) (number : ℕ) where
-  pub answer-large : numbers24 ≤ number → head_answer TooLarge ≡ write_head_of (length l) number
-  unfolding head_answer write_head_of
+  pub answer-large : numbers24 ≤ number → refused 13 ≡ write_head_of (length l) number
+  unfolding write_head_of
   answer-large h = too_large (length l) number _ _ _ h
 
-  pub answer-short : number < numbers24 → length l < head_size → head_answer NoRoom ≡ write_head_of (length l) number
-  unfolding head_answer write_head_of
+  pub answer-short : number < numbers24 → length l < head_size → refused 12 ≡ write_head_of (length l) number
+  unfolding write_head_of
   answer-short h r = no_room (length l) number _ _ _ h r
 
-  pub answer-written : number < numbers24 → head_size ≤ length l → head_answer Written ≡ write_head_of (length l) number
-  unfolding head_answer write_head_of
+  pub answer-written : number < numbers24 → head_size ≤ length l → gives tt ≡ write_head_of (length l) number
+  unfolding write_head_of
   answer-written h r = has_room (length l) number _ _ _ h r
 
   pub output-large : numbers24 ≤ number → l ≡ head_written_of l number

@@ -1,27 +1,30 @@
 -- The cases of the writers, each with the facts as the code finds them.
 -- Assumes nothing.
 use mathlib.Core.Path.{◌≡◌, ◌∙◌, sym, refl}
-use mathlib.Core.Bool.{Bool, true, false}
+use mathlib.Core.Bool.{Bool, true, false, ◌&&◌}
+use mathlib.Core.Logic.{◌⊎◌, inl, inr}
 use mathlib.Core.List.{List, [], ◌∷◌, ◌++◌}
-use Prim.Native.Nat.{ℕ, ◌+◌, ◌-◌, ◌*◌, ◌<◌, ◌≤◌}
+use Prim.Native.Nat.{ℕ, ◌+◌, ◌-◌, ◌*◌, ◌/◌, ◌%◌, ◌<◌, ◌≤◌}
 use native.Mathlib.Omega.{arith}
+use lib.Dec.{ltb, leb, eqb}
 use lib.ListN.{length, take, drop, length-drop}
 use lib.Seq.{take_all}
-use Rattle.base.specs.Bytes.{be16_bytes}
-use Rattle.base.specs.If.{if_true}
-use Rattle.base.specs.Limits.{max_body}
+use Rattle.std.proofs.lemmas.Bool.Decides.{leb_tells}
+use Rattle.base.specs.Answer.{refused, gives}
+use Rattle.base.specs.Bytes.{be16_bytes, le24_bytes}
+use Rattle.base.specs.If.{if_true, if_lt, if_eq}
+use Rattle.base.specs.Limits.{max_frags, max_body}
 use Rattle.base.specs.Put.{Run}
 use Rattle.base.proofs.Ifs.{lt_yes, lt_no, true-yes, true-no}
 use Rattle.base.proofs.Puts.{put_back, run-then}
 use Rattle.reliability.specs.Kinds.{fields_of}
 use Rattle.reliability.specs.declared.KindFields.{KindFields}
 use Rattle.reliability.specs.declared.Profile.{Profile}
+use Rattle.frame.specs.declared.FragmentMeta.{FragmentMeta}
 use Rattle.frame.specs.declared.Frame.{Frame}
-use Rattle.frame_write.specs.declared.WriteFrame.TheVariants.{Written, OverLimit, NoRoom}
-use Rattle.frame.specs.Read.{max_kind, meta_size}
-use Rattle.frame_write.specs.Write.{flags_of, start_bytes, field_bytes, frame_bytes}
-use Rattle.frame_write.specs.Valid.{fields_ok, meta_ok, within_limits, size_of, by_frame_case, write_frame_of, frame_written_of}
-use Rattle.frame_write.specs.Valid.{frame_write_answer}
+use Rattle.frame.specs.Read.{max_kind}
+use Rattle.frame_write.specs.Write.{flags_of, start_bytes, number_bytes, field_bytes, frame_bytes}
+use Rattle.frame_write.specs.Valid.{number_ok, channel_ok, fields_ok, meta_ok, within_limits, size_of, by_frame_case, write_frame_of, frame_written_of}
 use Rattle.frame_write.proofs.Limits.{within}
 
 -- ---- the parts of a frame
@@ -35,35 +38,78 @@ pub fields-is : (p : ℕ) (l : List ℕ) (f : Frame) (k j : KindFields) (q : ℕ
     → Run p (field_bytes j f) l q L
 fields-is p l f k j q L e a = rw e at a
 
-pub size-piece : (p : Profile) (f : Frame) (n : ℕ) (k : KindFields) → k ≡ fields_of p f.kind → f.piece ≡ true
-    → k.header + meta_size + n ≡ size_of p f n
-unfolding size_of if_true
-size-piece p f n k e t = rw (t, e)
+-- the three low bytes of a number
+pub low-bytes : (x : ℕ) (bs : List ℕ) → bs ≡ x % 256 ∷ x / 256 % 256 ∷ x / 65536 % 256 ∷ x / 16777216 % 256 ∷ [] → take 3 bs ≡ le24_bytes x
+unfolding le24_bytes
+low-bytes x bs e = rw e refl
 
-pub size-whole : (p : Profile) (f : Frame) (n : ℕ) (k : KindFields) → k ≡ fields_of p f.kind → f.piece ≡ false
-    → k.header + n ≡ size_of p f n
-unfolding size_of if_true
-size-whole p f n k e t = rw (t, e)
+-- a number's run, as the code finds its bytes
+pub number-run : (p off x : ℕ) (bs l : List ℕ) (q : ℕ) (m : List ℕ) → Run p (if_eq off 0 [] (take 3 bs)) l q m
+    → bs ≡ x % 256 ∷ x / 256 % 256 ∷ x / 65536 % 256 ∷ x / 16777216 % 256 ∷ [] → Run p (number_bytes off x) l q m
+unfolding number_bytes
+number-run p off x bs l q m a e = rw (low-bytes x bs e) at a
+
+-- ---- tests that are all asked, as the definitions choose by them
+if-both : (a b : Bool) → (a && b) ≡ if_true a b false
+unfolding if_true
+if-both true b = refl
+if-both false b = refl
+
+if-three : (a b c : Bool) → (a && (b && c)) ≡ if_true a (if_true b c false) false
+unfolding if_true
+if-three true b c = if-both b c
+if-three false b c = refl
+
+if-four : (a b c d : Bool) → (((a && b) && c) && d) ≡ if_true a (if_true b (if_true c d false) false) false
+unfolding if_true
+if-four true true c d = if-both c d
+if-four true false c d = refl
+if-four false b c d = refl
+
+-- ---- count, id and index
+module _ (piece : Bool) (m : FragmentMeta) where
+  pub meta-inside : piece ≡ true → 1 ≤ m.count → m.count ≤ max_frags → ltb m.index m.count ≡ meta_ok piece m
+  unfolding meta_ok
+  meta-inside t a b = true-yes _ _ _ _ t (lt_no _ _ _ _ _ a (lt_no _ _ _ _ _ b refl))
+
+  pub meta-outside : piece ≡ true → (r : Bool) → r ≡ false → (m.count < 1) ⊎ (max_frags < m.count) → r ≡ meta_ok piece m
+  unfolding meta_ok
+  meta-outside t r e (inl h) = true-yes _ _ _ _ t (lt_yes _ _ _ _ _ h e)
+  meta-outside t r e (inr h) = true-yes _ _ _ _ t (lt_no _ _ _ _ _ (omega arith) (lt_yes _ _ _ _ _ h e))
+
+  pub meta-none : piece ≡ false → (d : FragmentMeta) → d.count ≡ 0 → d.id ≡ 0 → d.index ≡ 0
+      → (r : Bool) → r ≡ (eqb m.count d.count && (eqb m.id d.id && eqb m.index d.index)) → r ≡ meta_ok piece m
+  unfolding meta_ok if_eq if_true
+  meta-none t d c i x r e =
+      let h : r ≡ (eqb m.count 0 && (eqb m.id 0 && eqb m.index 0)) = rw (c, i, x) at e in
+      true-no _ _ _ _ t (h ∙ if-three (eqb m.count 0) (eqb m.id 0) (eqb m.index 0))
 
 -- ---- the limits
+pub fields-all : (k : KindFields) (f : Frame) (r s o c : Bool) → r ≡ number_ok k.reliable f.reliable → s ≡ number_ok k.sequence f.sequence
+    → o ≡ number_ok k.order f.order → c ≡ channel_ok k.channel f.channel → (((r && s) && o) && c) ≡ fields_ok k f
+unfolding fields_ok
+fields-all k f r s o c er es eo ec = rw (← er, ← es, ← eo, ← ec) (if-four r s o c)
+
+le-else : (a m : ℕ) (x : Bool) → (leb a m && x) ≡ if_lt m a false x
+le-else a m x = elim (leb_tells a m) [
+  | inl h ↦ rw h.0 (lt_no m a x false x h.1 refl)
+  | inr h ↦ rw h.0 (lt_yes m a false false x h.1 refl)
+]
+
+and-last : (a b c d : Bool) → (((a && b) && c) && d) ≡ (a && (b && (c && d)))
+and-last true true c d = refl
+and-last true false c d = refl
+and-last false b c d = refl
+
 module _ (p : Profile) (f : Frame) (n : ℕ) where
-  pub over-kind : max_kind < f.kind → false ≡ within_limits p f n
+  pub limits-all : (k : KindFields) (t m : Bool) → k ≡ fields_of p f.kind → t ≡ fields_ok k f → m ≡ meta_ok f.piece f.meta
+      → (((leb f.kind max_kind && leb n max_body) && t) && m) ≡ within_limits p f n
   unfolding within_limits
-  over-kind a = lt_yes _ _ _ _ _ a refl
-
-  pub over-body : f.kind ≤ max_kind → max_body < n → false ≡ within_limits p f n
-  unfolding within_limits
-  over-body a b = lt_no _ _ _ _ _ a (lt_yes _ _ _ _ _ b refl)
-
-  pub over-field : f.kind ≤ max_kind → n ≤ max_body → (k : KindFields) (t : Bool) → t ≡ fields_ok k f → k ≡ fields_of p f.kind → t ≡ false
-      → false ≡ within_limits p f n
-  unfolding within_limits
-  over-field a b k t e r g = lt_no _ _ _ _ _ a (lt_no _ _ _ _ _ b (true-no _ _ _ _ (rw (← r) (sym e ∙ g)) refl))
-
-  pub by-meta : f.kind ≤ max_kind → n ≤ max_body → (k : KindFields) (t r : Bool) → r ≡ meta_ok f.piece f.meta → t ≡ fields_ok k f
-      → k ≡ fields_of p f.kind → t ≡ true → r ≡ within_limits p f n
-  unfolding within_limits
-  by-meta a b k t r m e i g = lt_no _ _ _ _ _ a (lt_no _ _ _ _ _ b (true-yes _ _ _ _ (rw (← i) (sym e ∙ g)) m))
+  limits-all k t m e et em =
+      let x : Bool = if_true (fields_ok (fields_of p f.kind) f) (meta_ok f.piece f.meta) false in
+      let h : (t && m) ≡ x = if-both t m ∙ rw (et, em, e) in
+      and-last (leb f.kind max_kind) (leb n max_body) t m
+      ∙ rw (h, le-else n max_body x) (le-else f.kind max_kind (if_lt max_body n false x))
 
   -- what the limits say of kind and body
   pub limits-kind : (t : Bool) → t ≡ within_limits p f n → t ≡ true → f.kind ≤ max_kind
@@ -87,21 +133,21 @@ module _ {A : Type 0} (p : Profile) (room at : ℕ) (f : Frame) (n : ℕ) (x y z
   has_room e h = true-yes _ _ _ _ e (lt_no _ _ _ _ _ h refl)
 
 module _ (p : Profile) (room at : ℕ) (f : Frame) (n : ℕ) (t : Bool) (i : t ≡ within_limits p f n) where
-  pub answer-over : t ≡ false → frame_write_answer OverLimit ≡ write_frame_of p room at f n
-  unfolding frame_write_answer write_frame_of
+  pub answer-over : t ≡ false → refused 15 ≡ write_frame_of p room at f n
+  unfolding write_frame_of
   answer-over e = over-limit p room at f n _ _ _ (sym i ∙ e)
 
-  pub answer-past : t ≡ true → room < at → frame_write_answer NoRoom ≡ write_frame_of p room at f n
-  unfolding frame_write_answer write_frame_of
+  pub answer-past : t ≡ true → room < at → refused 12 ≡ write_frame_of p room at f n
+  unfolding write_frame_of
   answer-past e h = no_room p room at f n _ _ _ (sym i ∙ e) (omega arith)
 
-  pub answer-short : t ≡ true → (s : ℕ) → s ≡ size_of p f n → room - at < s → frame_write_answer NoRoom ≡ write_frame_of p room at f n
-  unfolding frame_write_answer write_frame_of
+  pub answer-short : t ≡ true → (s : ℕ) → s ≡ size_of p f n → room - at < s → refused 12 ≡ write_frame_of p room at f n
+  unfolding write_frame_of
   answer-short e s v h = no_room p room at f n _ _ _ (sym i ∙ e) (omega arith)
 
-  pub answer-written : t ≡ true → (s : ℕ) → s ≡ size_of p f n → at ≤ room → s ≤ room - at → frame_write_answer (Written (at + s))
+  pub answer-written : t ≡ true → (s : ℕ) → s ≡ size_of p f n → at ≤ room → s ≤ room - at → gives (at + s)
       ≡ write_frame_of p room at f n
-  unfolding frame_write_answer write_frame_of
+  unfolding write_frame_of
   answer-written e s v g h = rw v (has_room p room at f n _ _ _ (sym i ∙ e) (omega arith))
 
 module _ (p : Profile) (l : List ℕ) (at : ℕ) (f : Frame) (body : List ℕ) (t : Bool) (i : t ≡ within_limits p f (length body)) where

@@ -6,8 +6,6 @@ use Rattle.base.specs.Bytes.{le24_bytes}
 use Rattle.base.specs.If.{if_lt, if_le}
 use Rattle.base.specs.Limits.{numbers24}
 use Rattle.base.specs.Put.{put}
-use Rattle.frame_write.specs.declared.WriteHead.{WriteHead}
-use Rattle.frame_write.specs.declared.WriteHead.TheVariants.{Written, TooLarge, NoRoom}
 
 -- "written 84"
 abbrev pub head_id : ℕ
@@ -32,9 +30,3 @@ write_head_of room number = by_head room number (refused 13) (refused 12) (gives
 -- the output afterwards; a refusal leaves it as it was
 unfoldable pub head_written_of : List ℕ → ℕ → List ℕ
 head_written_of out number = by_head (length out) number out out (put out 0 (head_bytes number))
-
--- the code's answer in document 01's numbers
-unfoldable pub head_answer : WriteHead → Answer (Unit {0})
-head_answer Written = gives tt
-head_answer TooLarge = refused 13
-head_answer NoRoom = refused 12

@@ -10,8 +10,6 @@ use Rattle.reliability.specs.declared.KindFields.{KindFields}
 use Rattle.reliability.specs.declared.Profile.{Profile}
 use Rattle.frame.specs.declared.FragmentMeta.{FragmentMeta}
 use Rattle.frame.specs.declared.Frame.{Frame}
-use Rattle.frame_write.specs.declared.WriteFrame.{WriteFrame}
-use Rattle.frame_write.specs.declared.WriteFrame.TheVariants.{Written, OverLimit, NoRoom}
 use Rattle.frame.specs.Read.{max_kind, header_size}
 use Rattle.frame_write.specs.Write.{frame_bytes}
 
@@ -60,9 +58,3 @@ write_frame_of p room at f n = by_frame_case p room at f n (refused 15) (refused
 -- the output afterwards; a refusal leaves it as it was
 unfoldable pub frame_written_of : Profile → List ℕ → ℕ → Frame → List ℕ → List ℕ
 frame_written_of p out at f body = by_frame_case p (length out) at f (length body) out out (put out at (frame_bytes p f body))
-
--- the code's answer in document 01's numbers and values
-unfoldable pub frame_write_answer : WriteFrame → Answer ℕ
-frame_write_answer (Written next) = gives next
-frame_write_answer OverLimit = refused 15
-frame_write_answer NoRoom = refused 12

@@ -1,25 +1,26 @@
 // A datagram's head.
 ghost use Rattle.std.specs.Prelude.{◌≡◌, length};
-ghost use Rattle.frame_write.specs.Head.{write_head_of, head_written_of, head_answer};
+ghost use Rattle.base.specs.Refusals.{answer};
+ghost use Rattle.frame_write.specs.Head.{write_head_of, head_written_of};
 
-use super::WriteHead;
+use base::Refusal;
 
 const HEAD_ID: u8 = 0x84;
 
 const HEAD_SIZE: usize = 4;
 
 // Writes 84 and the number at the start of the output.
-pub fn write_head(out: &mut [u8], number: u32) -> WriteHead
-    ensures answer { head_answer result ≡ write_head_of (length out.old) number }
+pub fn write_head(out: &mut [u8], number: u32) -> Result<(), Refusal>
+    ensures answer { answer result ≡ write_head_of (length out.old) number }
     ensures output { out.new ≡ head_written_of out.old number }
 {
     if base::NUMBERS_24 <= number {
-        return WriteHead::TooLarge;
+        return Err(Refusal::TooLarge);
     }
     if out.len() < HEAD_SIZE {
-        return WriteHead::NoRoom;
+        return Err(Refusal::NoRoom);
     }
-    let p = base::put8(out, 0, HEAD_ID);
+    let p = base::put(out, 0, HEAD_ID);
     base::put24(out, p, number);
-    WriteHead::Written
+    Ok(())
 }

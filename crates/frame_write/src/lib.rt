@@ -7,19 +7,3 @@ mod write;
 
 pub use head::write_head;
 pub use write::write_frame;
-
-// `OverLimit` is 15, `NoRoom` 12.
-#[derive(Clone, Copy)]
-pub enum WriteFrame {
-    Written { next: usize },
-    OverLimit,
-    NoRoom,
-}
-
-// `TooLarge` is 13, `NoRoom` 12.
-#[derive(Clone, Copy)]
-pub enum WriteHead {
-    Written,
-    TooLarge,
-    NoRoom,
-}

@@ -3,11 +3,10 @@
 
 #![tactic(auto)]
 
-ghost use Rattle.std.specs.Prelude.{◌≡◌, ◌<◌, ◌≤◌, ◌+◌};
+ghost use Rattle.std.specs.Prelude.{◌≡◌, ◌<◌};
 ghost use Rattle.base.specs.Limits.{numbers24, window_places};
 ghost use Rattle.base.specs.Put.{Run};
 ghost use Rattle.window.specs.Window.{window_of};
-ghost use Rattle.window.specs.Missing.{unless_accepted};
 ghost use Rattle.window.specs.Missing as Missing;
 
 use window::ReliableWindow;
@@ -16,8 +15,7 @@ use window::ReliableWindow;
 pub fn poghduka_missing_plain(w: ReliableWindow, list: &mut [u32]) -> usize
     ensures { Run 0 (Missing.missing w) list.old result list.new }
 {
-    let bits = w.bits;
-    missing_in(w.low, &bits, list)
+    missing_in(w.low, &w.bits, list)
 }
 
 pub fn missing_in(low: u32, bits: &[u8], list: &mut [u32]) -> usize
@@ -26,28 +24,15 @@ pub fn missing_in(low: u32, bits: &[u8], list: &mut [u32]) -> usize
     if base::NUMBERS_24 <= low {
         return 0;
     }
-    let end = searched(low, bits);
+    let end = highest(low, bits).min(base::NUMBERS_24 - low);
     let mut p = 0;
-    let mut k = 0;
-    while k < end {
-        p = put_unless_accepted(low, bits, list, p, low + k);
-        k += 1;
+    for k in 0..end {
+        let n = low + k;
+        if !window::accepted_in(low, bits, n) {
+            p = base::put(list, p, n);
+        }
     }
     p
-}
-
-// How many numbers from low on may be missing.
-fn searched(low: u32, bits: &[u8]) -> u32
-    requires { low < numbers24 }
-    ensures value { result ≡ Missing.searched (window_of low bits.now) }
-    ensures result_bound { low + result ≤ numbers24 }
-{
-    let h = highest(low, bits);
-    let limit = base::NUMBERS_24 - low;
-    if h <= limit {
-        return h;
-    }
-    limit
 }
 
 // How far above low the highest accepted number stands; 0 where no place is set.
@@ -55,27 +40,10 @@ fn highest(low: u32, bits: &[u8]) -> u32
     requires { low < numbers24 }
     ensures { result ≡ Missing.highest (window_of low bits.now) window_places }
 {
-    let mut k = base::WINDOW_PLACES;
-    while 0 < k {
+    for k in (1..=base::WINDOW_PLACES).rev() {
         if window::place_set(bits, low + k) {
             return k;
         }
-        k -= 1;
     }
     0
-}
-
-// n, where it was never accepted, at place p of the list; the place after it.
-fn put_unless_accepted(low: u32, bits: &[u8], list: &mut [u32], p: usize, n: u32) -> usize
-    ensures { Run p (unless_accepted (window_of low bits.now) n) list.old result list.new }
-{
-    let known = window::accepted_in(low, bits, n);
-    if known {
-        return p;
-    }
-    if p < list.len() {
-        list[p] = n;
-        return p + 1;
-    }
-    p
 }

@@ -1,5 +1,5 @@
 pub mod Sorted
-pub mod SortCases
+pub mod Sorting
 pub mod Sendable
 pub mod WriteCases
 pub mod WriteLaws

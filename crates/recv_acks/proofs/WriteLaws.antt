@@ -7,7 +7,10 @@ use mathlib.Core.Logic.{◌↔◌, ◌⊎◌, inl, inr}
 use Prim.Native.Nat.{ℕ, ◌<◌, ◌≤◌}
 use native.Mathlib.Omega.{arith}
 use lib.ListN.{length}
+use Rattle.std.specs.Prelude.{Result}
 use Rattle.base.specs.Answer.{Answer, refused, gives}
+use Rattle.base.specs.declared.refusal.Refusal.{Refusal}
+use Rattle.base.specs.Refusals.{answer}
 use Rattle.base.proofs.Choices.{cases}
 use Rattle.window.specs.Missing.{missing}
 use Rattle.ack.specs.declared.Record.{Record}
@@ -19,8 +22,7 @@ use Rattle.ack.proofs.WriteLaws.{refused-writes-nothing, read-back-header, read-
 use Rattle.receiver.specs.declared.RecvQueue.{RecvQueue}
 use Rattle.receiver.specs.Queue.{unsent_of, sound_queue}
 use Rattle.receiver.specs.Write.{sorted, Wrote, write_of, emptied, write_unsent_of, write_missing_of}
-use Rattle.recv_acks.specs.declared.WriteQueue.{WriteQueue}
-use Rattle.recv_acks.specs.Wrote.{queue_answer, wrote, Sendable, Output, wrote_output, output_of, writing_of, with_pending, pending_after}
+use Rattle.recv_acks.specs.Wrote.{wrote, Sendable, Output, wrote_output, output_of, writing_of, with_pending, pending_after}
 use Rattle.recv_acks.proofs.Sorted.{sorted-member}
 use Rattle.recv_acks.proofs.Sendable.{unsent-sendable, missing-sendable}
 use Rattle.recv_acks.proofs.WriteCases.{short-or-written, write-unsound, write-given, write-refused}
@@ -191,11 +193,11 @@ module _ (q : RecvQueue) (out : List ℕ) where
   missing-reads n e = (given-after q q true (missing q.datagrams) out n e).1
 
 -- ---- a call by its answer and wrote_output, and by the receiver that it leaves
-module _ (r : WriteQueue) (l : List ℕ) (q : RecvQueue) (out : List ℕ) where
+module _ (r : Result ℕ Refusal) (l : List ℕ) (q : RecvQueue) (out : List ℕ) where
   whole : (x : RecvQueue) (w : Wrote) → wrote_output r l ≡ output_of w → w.queue ≡ x → wrote r x l ≡ w
   unfolding wrote_output output_of
   whole x w e f =
-      let a : queue_answer r ≡ w.answer = ap (λ (y : Output). y.answer) e in
+      let a : answer r ≡ w.answer = ap (λ (y : Output). y.answer) e in
       let o : l ≡ w.out = ap (λ (y : Output). y.out) e in
       rw (a, o, ← f)
 
@@ -203,9 +205,9 @@ module _ (r : WriteQueue) (l : List ℕ) (q : RecvQueue) (out : List ℕ) where
   unfolding writing_of
   missing-said e = whole q (write_missing_of q out) e (missing-keeps q out)
 
-  pub unsent-said : wrote_output r l ≡ output_of (writing_of false q out) → wrote r (with_pending q (pending_after (queue_answer r) q.pending))
+  pub unsent-said : wrote_output r l ≡ output_of (writing_of false q out) → wrote r (with_pending q (pending_after (answer r) q.pending))
       l ≡ write_unsent_of q out
   unfolding writing_of wrote_output output_of
   unsent-said e =
-      let a : queue_answer r ≡ (write_unsent_of q out).answer = ap (λ (y : Output). y.answer) e in
+      let a : answer r ≡ (write_unsent_of q out).answer = ap (λ (y : Output). y.answer) e in
       whole _ (write_unsent_of q out) e (unsent-count q out ∙ rw a)

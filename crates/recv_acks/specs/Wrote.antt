@@ -1,21 +1,16 @@
--- Document 01's numbers and values for the answers of the two writings.
-use Rattle.std.specs.Prelude.{ℕ, ◌≤◌, ◌≡◌, Bool, true, false, cond, List, length}
+-- What the two writings answer and leave.
+use Rattle.std.specs.Prelude.{ℕ, ◌≤◌, ◌≡◌, Bool, true, false, cond, List, length, Result}
 use Rattle.base.specs.Answer.{Answer, refused, gives}
+use Rattle.base.specs.declared.refusal.Refusal.{Refusal}
+use Rattle.base.specs.Refusals.{answer}
 use Rattle.base.specs.Limits.{max_list}
 use Rattle.ack.specs.Write.{some_over, ascending}
 use Rattle.receiver.specs.declared.RecvQueue.{RecvQueue}
 use Rattle.receiver.specs.Write as Write
-use Rattle.recv_acks.specs.declared.WriteQueue.{WriteQueue}
-use Rattle.recv_acks.specs.declared.WriteQueue.TheVariants.{Written, Unsound, NoRoom}
-
-abbrev pub queue_answer : WriteQueue → Answer ℕ
-queue_answer (Written len) = gives len
-queue_answer Unsound = refused 9
-queue_answer NoRoom = refused 12
 
 -- the answer, and what the call leaves of receiver and wrote_output
-abbrev pub wrote : WriteQueue → RecvQueue → List ℕ → Write.Wrote
-wrote r q out = record { answer = queue_answer r; queue = q; out = out }
+abbrev pub wrote : Result ℕ Refusal → RecvQueue → List ℕ → Write.Wrote
+wrote r q out = record { answer = answer r; queue = q; out = out }
 
 -- a list that neither 13 ("list too long or number of 2^24 or more") nor 14 ("not strictly ascending") refuses
 pub record Sendable (l : List ℕ) : Type 0 where
@@ -30,8 +25,8 @@ pub record Output : Type 0 where
   pub answer : Answer ℕ
   pub out : List ℕ
 
-unfoldable pub wrote_output : WriteQueue → List ℕ → Output
-wrote_output r out = record { answer = queue_answer r; out = out }
+unfoldable pub wrote_output : Result ℕ Refusal → List ℕ → Output
+wrote_output r out = record { answer = answer r; out = out }
 
 unfoldable pub output_of : Write.Wrote → Output
 output_of w = record { answer = w.answer; out = w.out }

@@ -1,177 +1,128 @@
-// The calls for a program that holds its receiver and its records by value: they are passed, lent for the call, and handed back. A call is
-// over the first n records (all, where n is more than there are). A `&mut` of such values stands in these functions alone.
+// A receiver for a program that holds it with its records: each call is over the first `cells` records (all, where that is more than there
+// are).
 
 #![tactic(auto)]
 
-ghost use Rattle.std.specs.Prelude.{◌≡◌, min, take, drop};
+ghost use Rattle.std.specs.Prelude.{◌≡◌, take, drop};
 ghost use Rattle.receiver.specs.Queue.{new_queue};
 ghost use Rattle.receiver.specs.Receive.{receive_of};
 ghost use Rattle.receiver.specs.Take.{take_of};
 ghost use Rattle.receiver.specs.Write.{write_unsent_of, write_missing_of};
 ghost use Rattle.recv_acks.specs.Wrote.{wrote};
-ghost use Rattle.recv_new.specs.New.{make_new_of};
-ghost use Rattle.recv_array.specs.Held.{held_cells, unused_cells, made_with, held_received_with, taken_with, wrote_with, held_new};
-ghost use Rattle.recv_array.specs.Held.{held_received, held_taken, held_wrote};
+ghost use Rattle.recv_take.specs.Outcome.{take_result};
+ghost use Rattle.recv_new.specs.New.{made_new, make_new_of};
+ghost use Rattle.recv_queue.specs.Answers.{received};
+ghost use Rattle.recv_array.specs.Held.{unused_cells, in_use, IsSameBeyond};
 
-use recv_queue::{CellRecord, MakeNew, Profile, Receive, RecvQueue, Take, WriteQueue};
+use base::Refusal;
+use recv_queue::{CellRecord, Profile, Received, RecvQueue, Taken};
 
 // How many records a program holds, in use or not.
 pub const HELD: usize = 256;
 
 #[derive(Clone, Copy)]
-pub struct HeldNew {
-    pub answer: MakeNew,
+pub struct Receiver {
     pub queue: RecvQueue,
     pub records: [CellRecord; HELD],
+    pub cells: usize,
 }
 
-#[derive(Clone, Copy)]
-pub struct HeldReceived {
-    pub answer: Receive,
-    pub queue: RecvQueue,
-    pub records: [CellRecord; HELD],
-}
+impl Receiver {
+    // Make new for a profile, over so many unused records; the receiver is handed out beside a refusal too.
+    #[tactic(auto, unfolding(crate::specs::Held::unused_cells, cells::specs::Cell::empty_cell))]
+    pub fn new(cells: usize, store: &[u8], profile: Profile) -> (Receiver, Result<(), Refusal>)
+        ensures made { made_new result.1 result.0.queue (in_use result.0)
+            ≡ make_new_of profile (new_queue profile) (take cells unused_cells) store.now }
+        ensures beyond { drop cells result.0.records ≡ drop cells unused_cells }
+        ensures over { result.0.cells ≡ cells }
+    {
+        let mut queue = recv_queue::new_queue(profile);
+        let mut records = [recv_queue::unused(); HELD];
+        let made = make_first(&mut queue, &mut records, cells, store, profile);
+        let receiver = Receiver {
+            queue,
+            records,
+            cells,
+        };
+        (receiver, made)
+    }
 
-#[derive(Clone, Copy)]
-pub struct HeldTake {
-    pub answer: Take,
-    pub records: [CellRecord; HELD],
-}
+    pub fn receive(&mut self, store: &mut [u8], datagram: &[u8]) -> Result<Received, Refusal>
+        ensures value { received result self.new.queue (in_use self.new) store.new
+            ≡ receive_of self.old.queue (in_use self.old) store.old datagram.now }
+        ensures beyond { IsSameBeyond self.old self.new }
+    {
+        let n = self.cells;
+        receive_first(&mut self.queue, &mut self.records, n, store, datagram)
+    }
 
-#[derive(Clone, Copy)]
-pub struct HeldWrote {
-    pub answer: WriteQueue,
-    pub queue: RecvQueue,
-}
+    pub fn take(&mut self, store: &[u8], joined: &mut [u8]) -> Result<Taken, Refusal>
+        ensures value { take_result result (in_use self.new) joined.new
+            ≡ take_of self.old.queue (in_use self.old) store.now joined.old }
+        ensures beyond { IsSameBeyond self.old self.new }
+        ensures queue { self.new.queue ≡ self.old.queue }
+    {
+        let n = self.cells;
+        take_first(&self.queue, &mut self.records, n, store, joined)
+    }
 
-// ---- an answer beside what was lent
+    pub fn write_unsent(&mut self, out: &mut [u8]) -> Result<usize, Refusal>
+        ensures value { wrote result self.new.queue out.new ≡ write_unsent_of self.old.queue out.old }
+        ensures records { self.new ≡ record self.old { queue = self.new.queue } }
+    {
+        recv_queue::write_unsent(&mut self.queue, out)
+    }
 
-fn made_with(made: MakeNew, queue: RecvQueue, records: [CellRecord; HELD]) -> HeldNew
-    ensures { result ≡ made_with made queue records }
-{
-    HeldNew {
-        answer: made,
-        queue: queue,
-        records: records,
+    pub fn write_missing(&self, out: &mut [u8]) -> Result<usize, Refusal>
+        ensures { wrote result self.now.queue out.new ≡ write_missing_of self.now.queue out.old }
+    {
+        recv_queue::write_missing(&self.queue, out)
     }
 }
 
-fn received_with(answer: Receive, queue: RecvQueue, records: [CellRecord; HELD]) -> HeldReceived
-    ensures { result ≡ held_received_with answer queue records }
-{
-    HeldReceived {
-        answer: answer,
-        queue: queue,
-        records: records,
-    }
-}
+// ---- over the first n records, or all of them
 
-fn taken_with(taken: Take, records: [CellRecord; HELD]) -> HeldTake
-    ensures { result ≡ taken_with taken records }
-{
-    HeldTake {
-        answer: taken,
-        records: records,
-    }
-}
-
-fn wrote_with(written: WriteQueue, queue: RecvQueue) -> HeldWrote
-    ensures { result ≡ wrote_with written queue }
-{
-    HeldWrote {
-        answer: written,
-        queue: queue,
-    }
-}
-
-// ---- the calls
-
-// How many records a call is over.
-fn in_use(n: usize) -> usize
-    ensures { result ≡ min n held_cells }
-{
-    if n < HELD { n } else { HELD }
-}
-
-fn unused_records() -> [CellRecord; HELD]
-    ensures { result ≡ unused_cells }
-{
-    let cell = recv_queue::unused();
-    [cell; HELD]
-}
-
-fn make_held(
-    queue: RecvQueue,
-    records: [CellRecord; HELD],
+fn make_first(
+    queue: &mut RecvQueue,
+    records: &mut [CellRecord],
     n: usize,
     store: &[u8],
     profile: Profile,
-) -> HeldNew
-    ensures { (held_new result n ≡ make_new_of profile queue (take n records) store.now)
-        × (drop n result.records ≡ drop n records) }
+) -> Result<(), Refusal>
+    ensures value { made_new result queue.new (take n records.new)
+        ≡ make_new_of profile queue.old (take n records.old) store.now }
+    ensures beyond { drop n records.new ≡ drop n records.old }
 {
-    let mut lent = queue;
-    let mut held = records;
-    let m = in_use(n);
-    let a = recv_queue::make_new(&mut lent, &mut held[..m], store, profile);
-    made_with(a, lent, held)
+    let m = n.min(records.len());
+    recv_queue::make_new(queue, &mut records[..m], store, profile)
 }
 
-// Make new for a profile, over the first n of so many unused records.
-pub fn new_held(n: usize, store: &[u8], profile: Profile) -> HeldNew
-    ensures { (held_new result n ≡ make_new_of profile (new_queue profile) (take n unused_cells) store.now)
-        × (drop n result.records ≡ drop n unused_cells) }
-{
-    let queue = recv_queue::new_queue(profile);
-    let records = unused_records();
-    make_held(queue, records, n, store, profile)
-}
-
-// Receive over the first n records: the others stay as they are.
-pub fn receive_held(
-    queue: RecvQueue,
-    records: [CellRecord; HELD],
+fn receive_first(
+    queue: &mut RecvQueue,
+    records: &mut [CellRecord],
     n: usize,
     store: &mut [u8],
     datagram: &[u8],
-) -> HeldReceived
-    ensures { (held_received result n store.new ≡ receive_of queue (take n records) store.old datagram.now)
-        × (drop n result.records ≡ drop n records) }
+) -> Result<Received, Refusal>
+    ensures value { received result queue.new (take n records.new) store.new
+        ≡ receive_of queue.old (take n records.old) store.old datagram.now }
+    ensures beyond { drop n records.new ≡ drop n records.old }
 {
-    let mut lent = queue;
-    let mut held = records;
-    let m = in_use(n);
-    let a = recv_queue::receive(&mut lent, &mut held[..m], store, datagram);
-    received_with(a, lent, held)
+    let m = n.min(records.len());
+    recv_queue::receive(queue, &mut records[..m], store, datagram)
 }
 
-// Take over the first n records: the others stay as they are.
-pub fn take_held(
-    queue: RecvQueue,
-    records: [CellRecord; HELD],
+fn take_first(
+    queue: &RecvQueue,
+    records: &mut [CellRecord],
     n: usize,
     store: &[u8],
     joined: &mut [u8],
-) -> HeldTake
-    ensures { (held_taken result n joined.new ≡ take_of queue (take n records) store.now joined.old)
-        × (drop n result.records ≡ drop n records) }
+) -> Result<Taken, Refusal>
+    ensures value { take_result result (take n records.new) joined.new
+        ≡ take_of queue.now (take n records.old) store.now joined.old }
+    ensures beyond { drop n records.new ≡ drop n records.old }
 {
-    let mut held = records;
-    let m = in_use(n);
-    let a = recv_queue::take(&queue, &mut held[..m], store, joined);
-    taken_with(a, held)
-}
-
-pub fn write_unsent_held(queue: RecvQueue, out: &mut [u8]) -> HeldWrote
-    ensures { held_wrote result out.new ≡ write_unsent_of queue out.old }
-{
-    let mut lent = queue;
-    let a = recv_queue::write_unsent(&mut lent, out);
-    wrote_with(a, lent)
-}
-
-pub fn write_missing_held(queue: RecvQueue, out: &mut [u8]) -> WriteQueue
-    ensures { wrote result queue out.new ≡ write_missing_of queue out.old }
-{
-    recv_queue::write_missing(&queue, out)
+    let m = n.min(records.len());
+    recv_queue::take(queue, &mut records[..m], store, joined)
 }

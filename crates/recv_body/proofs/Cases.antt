@@ -1,19 +1,17 @@
 -- The bytes of the message that a take gave: the cases of `part` and `body`.
-use mathlib.Core.Path.{◌≡◌, refl, ◌∙◌, ap}
+use mathlib.Core.Path.{◌≡◌, ◌∙◌, ap}
 use Prim.Native.Nat.{ℕ, zero, suc, ◌+◌, ◌-◌, min}
+use Rattle.std.specs.Prelude.{Result, Ok, Err}
 use native.Mathlib.Nat.{zero-min, min-zero, suc-min-suc}
 use native.Mathlib.Omega.{arith}
-use mathlib.Core.Logic.{inl, inr}
 use mathlib.Core.List.{List, [], ◌∷◌}
 use lib.ListN.{length, take, drop, length-drop}
-use types.Run.{OneOf}
-use denote.Enum.Declared.{tag_of}
+use Rattle.base.specs.declared.refusal.Refusal.{Refusal}
 use Rattle.receiver.specs.Calls.{bytes_at}
 use Rattle.receiver.proofs.Parts.{take_min}
-use Rattle.recv_take.specs.declared.Take.{Take}
-use Rattle.recv_take.specs.declared.Take.TheVariants.{NotSound, NoneReady, ShortBuffer, InStore, Joined}
-use Rattle.recv_take.specs.Outcome.{take_answer}
-use Rattle.recv_take.specs.contracts.Take.{the_type}
+use Rattle.recv_take.specs.declared.Taken.{Taken}
+use Rattle.recv_take.specs.declared.Taken.TheVariants.{InStore, Joined}
+use Rattle.recv_take.specs.Outcome.{handed_of}
 use Rattle.recv_body.specs.Body.{taken_body}
 
 -- ---- `part`
@@ -33,30 +31,17 @@ part_bytes s start len f m e g =
 
 -- ---- `body`
 
--- the arm `_` of the `match` knows its cases by their places in the enum
-not-store : OneOf (0 ∷ 1 ∷ 2 ∷ []) 3 → ⊥
-not-store (inl e) = omega arith
-not-store (inr (inl e)) = omega arith
-not-store (inr (inr e)) = omega arith
+module _ (store joined : List ℕ) (t : Result Taken Refusal) where
+  pub from-store : (m : Taken) → t ≡ Ok m → (k c o a l : ℕ) → m ≡ InStore k c o a l → (r : List ℕ) → r ≡ take l (drop a store)
+      → r ≡ taken_body store joined t
+  unfolding taken_body handed_of bytes_at
+  from-store m e k c o a l f r h = rw (e, f) h
 
-not-joined : OneOf (0 ∷ 1 ∷ 2 ∷ []) 4 → ⊥
-not-joined (inl e) = omega arith
-not-joined (inr (inl e)) = omega arith
-not-joined (inr (inr e)) = omega arith
+  pub from-joined : (m : Taken) → t ≡ Ok m → (k c o l : ℕ) → m ≡ Joined k c o l → (r : List ℕ) → r ≡ take l (drop 0 joined)
+      → r ≡ taken_body store joined t
+  unfolding taken_body handed_of bytes_at
+  from-joined m e k c o l f r h = rw (e, f) h
 
-module _ (store joined : List ℕ) (t : Take) where
-  pub from-store : (k c o a l : ℕ) → t ≡ InStore k c o a l → (r : List ℕ) → r ≡ take l (drop a store) → r ≡ taken_body store joined t
-  unfolding taken_body take_answer bytes_at
-  from-store k c o a l e r h = rw e h
-
-  pub from-joined : (k c o l : ℕ) → t ≡ Joined k c o l → (r : List ℕ) → r ≡ take l (drop 0 joined) → r ≡ taken_body store joined t
-  unfolding taken_body take_answer bytes_at
-  from-joined k c o l e r h = rw e h
-
-pub from-none : (store joined : List ℕ) (t : Take) → OneOf (0 ∷ 1 ∷ 2 ∷ []) (tag_of the_type t) → [] ≡ taken_body store joined t
-unfolding taken_body take_answer bytes_at
-from-none store joined NotSound h = refl
-from-none store joined NoneReady h = refl
-from-none store joined ShortBuffer h = refl
-from-none store joined (InStore k c o a l) h = absurd (not-store h)
-from-none store joined (Joined k c o l) h = absurd (not-joined h)
+  pub from-none : (n : Refusal) → t ≡ Err n → [] ≡ taken_body store joined t
+  unfolding taken_body
+  from-none n e = rw e

@@ -2,31 +2,21 @@
 
 #![tactic(auto)]
 
-ghost use Rattle.std.specs.Prelude.{◌≡◌, min, take, drop};
+ghost use Rattle.std.specs.Prelude.{◌≡◌, take, drop};
 ghost use Rattle.recv_body.specs.Body.{taken_body};
 
-use recv_take::Take;
+use base::Refusal;
+use recv_take::Taken;
 
 // "handed back as part of the store or of the joining buffer, uncopied": the bytes of the message that a take gave; none where it gave
 // none.
-pub fn body<'a>(store: &'a [u8], joined: &'a [u8], taken: Take) -> &'a [u8]
+pub fn body<'a>(store: &'a [u8], joined: &'a [u8], taken: Result<Taken, Refusal>) -> &'a [u8]
     ensures { result.now ≡ taken_body store.now joined.now taken }
 {
     match taken {
-        Take::InStore {
-            kind: _,
-            channel: _,
-            order: _,
-            start,
-            len,
-        } => part(store, start, len),
-        Take::Joined {
-            kind: _,
-            channel: _,
-            order: _,
-            len,
-        } => part(joined, 0, len),
-        _ => &store[..0],
+        Ok(Taken::InStore { start, len, .. }) => part(store, start, len),
+        Ok(Taken::Joined { len, .. }) => part(joined, 0, len),
+        Err(_) => &store[..0],
     }
 }
 
@@ -34,13 +24,7 @@ pub fn body<'a>(store: &'a [u8], joined: &'a [u8], taken: Take) -> &'a [u8]
 fn part(bytes: &[u8], start: usize, len: usize) -> &[u8]
     ensures { result.now ≡ take len (drop start bytes.now) }
 {
-    let from = smaller(start, bytes.len());
-    let end = from + smaller(len, bytes.len() - from);
+    let from = start.min(bytes.len());
+    let end = from + len.min(bytes.len() - from);
     &bytes[from..end]
-}
-
-fn smaller(a: usize, b: usize) -> usize
-    ensures { result ≡ min a b }
-{
-    if a < b { a } else { b }
 }

@@ -1,13 +1,14 @@
--- The ways of the covered functions, and what the channels are once all are advanced.
+-- The receiver's numbers as they are filled in, and its channels as they are advanced.
 --     all-numbers      32 channels moved to the numbers: nothing is left of the old ones
 -- Assumes nothing.
 use mathlib.Core.Path.{◌≡◌, refl, sym, ap, ◌∙◌, subst}
 use Prim.Native.Nat.{ℕ, zero, suc, ◌+◌, ◌*◌, ◌<◌, ◌≤◌}
 use native.Mathlib.Omega.{arith}
+use native.Mathlib.Numerals.{add-one}
 use native.Mathlib.Nat.{eq-or-lt_of_le}
 use mathlib.Core.Logic.{◌⊎◌, inl, inr}
 use mathlib.Core.List.{List, [], ◌∷◌}
-use lib.ListN.{length, set, get_or, length-set, get_or-eq_default}
+use lib.ListN.{length, set, get_or, length-set}
 use lib.Seq.{get_or-set_same, get_or-set_other, ext_get_or}
 use Rattle.base.specs.Limits.{max_ord_chans}
 use Rattle.receiver.specs.declared.Channel.{Channel}
@@ -17,40 +18,18 @@ use Rattle.receiver.specs.Parts.{channel_with, nexts_in, nexts_of, memory_place,
 use Rattle.receiver.proofs.ByParts.{SomePlace, place-channel, place-past, place-some, nexts-in-next, nexts-in-newest, nexts-in-own}
 use Rattle.receiver.proofs.ByParts.{nexts-in-profile, nexts-in-long, next-at, newest-at}
 use Rattle.receiver.proofs.ByParts.{channels-of-length, channels-of-at}
-use Rattle.recv_channel.specs.Advance.{with_channels, first_at, advanced_to, advanced_all}
+use Rattle.recv_channel.specs.Advance.{with_channels, first_at, advanced_all}
 
--- ---- `number_at`
-pub number_past : (ns : List ℕ) (i : ℕ) → length ns ≤ i → 0 ≡ get_or ns i 0
-number_past ns i h = sym (get_or-eq_default ns 0 h)
-
--- ---- `nexts_in`: the first i nexts and memories are the first i channels'
+-- ---- `nexts_of`: the first i nexts and memories are the first i channels'
 pub record Filled (cs : List Channel) (i : ℕ) (ns : List ℕ) : Type 0 where
   pub few : i ≤ 32
   pub long : length ns ≡ 66
   pub nexts : (j : ℕ) → j < i → get_or ns (2 * j) 0 ≡ (get_or cs j new_channel).next
   pub memories : (j : ℕ) → j < i → get_or ns (2 * j + 1) 0 ≡ (get_or cs j new_channel).newest
 
-pub fill_more : (cs : List Channel) (i : ℕ) (ns : List ℕ) (n m : ℕ) → Filled cs i ns → i < 32 → n ≡ (get_or cs i new_channel).next
-    → m ≡ (get_or cs i new_channel).newest → Filled cs (i + 1) (set (set ns (2 * i) n) (2 * i + 1) m)
-fill_more cs i ns n m f l e g = record {
-  few = omega arith;
-  long = length-set (set ns (2 * i) n) (2 * i + 1) m ∙ length-set ns (2 * i) n ∙ f.long;
-  nexts = λ j k. get_or-set_other (set ns (2 * i) n) (2 * i + 1) (2 * j) m 0 (λ s. omega arith) ∙ next j (eq-or-lt_of_le (omega arith));
-  memories = λ j k. memory j (eq-or-lt_of_le (omega arith));
-}
-  where
-    next : (j : ℕ) → (j ≡ i) ⊎ (j < i) → get_or (set ns (2 * i) n) (2 * j) 0 ≡ (get_or cs j new_channel).next
-    next j (inl s) = rw (s, get_or-set_same ns (2 * i) n 0 (omega (arith, f.long))) e
-    next j (inr k) = get_or-set_other ns (2 * i) (2 * j) n 0 (λ s. omega arith) ∙ f.nexts j k
-
-    memory : (j : ℕ) → (j ≡ i) ⊎ (j < i) → get_or (set (set ns (2 * i) n) (2 * i + 1) m) (2 * j + 1) 0 ≡ (get_or cs j new_channel).newest
-    memory j (inl s) = rw (s, get_or-set_same (set ns (2 * i) n) (2 * i + 1) m 0 (omega (arith, f.long, length-set ns (2 * i) n))) g
-    memory j (inr k) = get_or-set_other (set ns (2 * i) n) (2 * i + 1) (2 * j + 1) m 0 (λ s. omega arith)
-        ∙ get_or-set_other ns (2 * i) (2 * j + 1) n 0 (λ s. omega arith) ∙ f.memories j k
-
-pub filled-all : (cs : List Channel) (own p : ℕ) (ns : List ℕ) (i : ℕ) → length cs ≡ 32 → 32 ≤ i → Filled cs i ns
+pub filled_all : (cs : List Channel) (own p : ℕ) (ns : List ℕ) (i : ℕ) → length cs ≡ 32 → 32 ≤ i → Filled cs i ns
     → set (set ns 64 own) 65 p ≡ nexts_in cs own p
-filled-all cs own p ns i c le f = ext_get_or 0 all (nexts_in cs own p) (long ∙ sym (nexts-in-long cs own p c))
+filled_all cs own p ns i c le f = ext_get_or 0 all (nexts_in cs own p) (long ∙ sym (nexts-in-long cs own p c))
     (λ j l. at j (place-some j (omega (arith, long))))
   where
     all : List ℕ
@@ -82,7 +61,7 @@ filled-all cs own p ns i c le f = ext_get_or 0 all (nexts_in cs own p) (long ∙
     at j (inr (inr e)) = rw e (profile-at
         ∙ sym (subst (λ (k : ℕ). get_or (nexts_in cs own p) (2 * k + 1) 0 ≡ p) c (nexts-in-profile cs own p)))
 
--- ---- `nexts_of`: as many numbers as an array of 66 has are those of 32 channels
+-- as many numbers as an array of 66 has are those of 32 channels
 nexts-in-count : (cs : List Channel) (own p : ℕ) → length (nexts_in cs own p) ≡ 2 * length cs + 2
 unfolding nexts_in
 nexts-in-count [] own p = refl
@@ -93,37 +72,25 @@ unfolding nexts_of
 channels-long q ns e l = let n = nexts-in-count q.channels q.newest q.profile in
     let m : length ns ≡ length (nexts_in q.channels q.newest q.profile) = ap length e in omega arith
 
--- ---- `advance_all`: the receiver once its first k channels are advanced
-abbrev pub up_to : ℕ → RecvQueue → List ℕ → RecvQueue
-up_to k q ns = with_channels q (first_at k q.channels ns) q.newest
+-- ---- `advance_all`: one more record, and the receiver's own memory
+module _ (q : RecvQueue) (ns : List ℕ) (cs : List Channel) where
+  pub first_more : (k n m : ℕ) (c : Channel) → cs ≡ first_at k q.channels ns → k < 32 → n ≡ get_or ns (2 * k) 0 → m ≡ get_or ns (2 * k + 1) 0
+      → c ≡ channel_with n m → set cs k c ≡ first_at (k + 1) q.channels ns
+  unfolding first_at
+  first_more k n m c e h f g i = rw (e, i, f, g, ← next-at ns k h, ← newest) (ap (λ (j : ℕ). first_at j q.channels ns) (sym (add-one k)))
+    where
+      newest : newest_at ns k ≡ get_or ns (2 * k + 1) 0
+      newest = newest-at ns k (omega arith) ∙ ap (λ (p : ℕ). get_or ns p 0) (place-channel k h)
 
-pub up_none : (q : RecvQueue) (ns : List ℕ) → q ≡ up_to 0 q ns
-unfolding first_at
-up_none q ns = refl
+  pub first_all : (k n : ℕ) → cs ≡ first_at k q.channels ns → k ≤ 32 → 32 ≤ k → n ≡ get_or ns 64 0 → with_channels q cs n ≡ advanced_all q ns
+  unfolding advanced_all
+  first_all k n e h l f = rw (e, whole, f) (ap (with_channels q (first_at 32 q.channels ns)) (sym newest))
+    where
+      whole : k ≡ 32
+      whole = omega arith
 
-pub up_more : (q : RecvQueue) (ns : List ℕ) (k : ℕ) → k < 32 → advanced_to (up_to k q ns) k (get_or ns (2 * k) 0) (get_or ns (2 * k + 1) 0)
-    ≡ up_to (suc k) q ns
-unfolding first_at advanced_to
-up_more q ns k h = λ i. with_channels q (set (first_at k q.channels ns) k (channel_with (sym (next-at ns k h) i) (sym newest i)))
-    q.newest
-  where
-    newest : newest_at ns k ≡ get_or ns (2 * k + 1) 0
-    newest = newest-at ns k (omega arith) ∙ ap (λ (p : ℕ). get_or ns p 0) (place-channel k h)
-
-pub up-all : (q : RecvQueue) (ns : List ℕ) → with_channels (up_to 32 q ns) (up_to 32 q ns).channels (get_or ns 64 0) ≡ advanced_all q ns
-unfolding advanced_all
-up-all q ns = ap (with_channels q (first_at 32 q.channels ns)) (sym newest)
-  where
-    newest : newest_at ns max_ord_chans ≡ get_or ns 64 0
-    newest = newest-at ns max_ord_chans (omega arith) ∙ ap (λ (p : ℕ). get_or ns p 0) (place-past max_ord_chans (omega arith))
-
--- a receiver h that the loop leaves, k channels of q advanced, with the receiver's own memory moved
-pub up-done : (q : RecvQueue) (ns : List ℕ) (h : RecvQueue) (k n : ℕ) → (k ≤ 32) × (h ≡ up_to k q ns) → 32 ≤ k → n ≡ get_or ns 64 0
-    → with_channels h h.channels n ≡ advanced_all q ns
-up-done q ns h k n i le e = rw (e, i.1, whole) (up-all q ns)
-  where
-    whole : k ≡ 32
-    whole = omega (arith, i.0)
+      newest : newest_at ns max_ord_chans ≡ get_or ns 64 0
+      newest = newest-at ns max_ord_chans (omega arith) ∙ ap (λ (p : ℕ). get_or ns p 0) (place-past max_ord_chans (omega arith))
 
 -- ---- the channels once all are advanced
 abbrev numbers_at : List ℕ → ℕ → Channel

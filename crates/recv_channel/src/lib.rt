@@ -4,35 +4,27 @@
 
 #![tactic(auto)]
 
-ghost use Rattle.std.specs.Prelude.{◌≡◌, ◌<◌, get_or};
-ghost use Rattle.receiver.specs.Parts.{channel_with, nexts_in, nexts_of};
-ghost use Rattle.recv_channel.specs.Advance.{advanced_to, advanced_all};
+ghost use Rattle.std.specs.Prelude.{◌≡◌};
+ghost use Rattle.receiver.specs.Parts.{channel_with, nexts_of};
+ghost use Rattle.recv_channel.specs.Advance.{advanced_all};
 
 use receiver::{Channel, RecvQueue};
 
+// The receiver's own memory stands after the channels' nexts and memories.
+const OWN_MEMORY: usize = 2 * base::MAX_ORD_CHANS as usize;
+
 // Each channel's next and memory, as its record has them, then the receiver's own memory and its profile.
-pub fn nexts_of(queue: &RecvQueue) -> [u32; 66]
+#[tactic(auto, using(crate::proofs::Laws::filled_all), unfolding(receiver::specs::Parts::nexts_of))]
+pub fn nexts_of(queue: &RecvQueue) -> [u32; base::NEXTS]
     ensures { result ≡ nexts_of queue.now }
 {
-    let channels = queue.channels;
-    let newest = queue.newest;
-    let profile = queue.profile;
-    nexts_in(channels, newest, profile)
-}
-
-fn nexts_in(channels: [Channel; 32], newest: u32, profile: u32) -> [u32; 66]
-    ensures { result ≡ nexts_in channels newest profile }
-{
-    let mut nexts = [0u32; 66];
-    let mut i = 0;
-    while i < 32 {
-        let channel = channels[i];
+    let mut nexts = [0u32; base::NEXTS];
+    for (i, channel) in queue.channels.iter().enumerate() {
         nexts[2 * i] = channel.next;
         nexts[2 * i + 1] = channel.newest;
-        i += 1;
     }
-    nexts[64] = newest;
-    nexts[65] = profile;
+    nexts[OWN_MEMORY] = queue.newest;
+    nexts[receiver::PROFILE_PLACE] = queue.profile;
     nexts
 }
 
@@ -40,49 +32,26 @@ fn nexts_in(channels: [Channel; 32], newest: u32, profile: u32) -> [u32; 66]
 pub fn advance(channel: &mut Channel, next: u32, newest: u32)
     ensures { channel.new ≡ channel_with next newest }
 {
-    let before = *channel;
-    let after = advanced(before, next, newest);
-    *channel = after;
+    *channel = advanced(*channel, next, newest);
 }
 
 // The by-value core: the record with its next and its memory moved.
-fn advanced(channel: Channel, next: u32, newest: u32) -> Channel
+fn advanced(mut channel: Channel, next: u32, newest: u32) -> Channel
     ensures { result ≡ channel_with next newest }
 {
-    let mut moved = channel;
-    moved.next = next;
-    moved.newest = newest;
-    moved
-}
-
-// The receiver's own record of channel c.
-fn advance_at(queue: &mut RecvQueue, c: usize, next: u32, newest: u32)
-    requires { c < 32 }
-    ensures { queue.new ≡ advanced_to queue.old c next newest }
-{
-    advance(&mut queue.channels[c], next, newest);
+    channel.next = next;
+    channel.newest = newest;
+    channel
 }
 
 // Every record of the receiver, and its own memory; what has no number goes to 0. It keeps its profile.
+#[tactic(auto, using(crate::proofs::Laws::first_more, crate::proofs::Laws::first_all), unfolding(crate::specs::Advance::first_at))]
 pub fn advance_all(queue: &mut RecvQueue, nexts: &[u32])
     ensures { queue.new ≡ advanced_all queue.old nexts.now }
 {
-    let mut c = 0;
-    while c < 32 {
-        let next = number_at(nexts, 2 * c);
-        let newest = number_at(nexts, 2 * c + 1);
-        advance_at(queue, c, next, newest);
-        c += 1;
+    let number = |i: usize| nexts.get(i).copied().unwrap_or(0);
+    for (c, channel) in queue.channels.iter_mut().enumerate() {
+        advance(channel, number(2 * c), number(2 * c + 1));
     }
-    let newest = number_at(nexts, 64);
-    queue.newest = newest;
-}
-
-fn number_at(nexts: &[u32], i: usize) -> u32
-    ensures { result ≡ get_or nexts.now i 0 }
-{
-    if i < nexts.len() {
-        return nexts[i];
-    }
-    0
+    queue.newest = number(OWN_MEMORY);
 }

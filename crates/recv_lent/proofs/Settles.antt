@@ -4,13 +4,15 @@
 -- Assumes nothing.
 use mathlib.Core.Path.{◌≡◌, refl, sym, ap, ◌∙◌, subst}
 use Prim.Native.Nat.{ℕ, ◌+◌, ◌*◌, ◌<◌, ◌≤◌}
+use Rattle.std.specs.Prelude.{Result, Ok, Err}
 use native.Mathlib.Nat.{zero-add}
 use native.Mathlib.Omega.{arith}
 use mathlib.Core.Bool.{Bool, true, false}
 use mathlib.Core.List.{List, ◌++◌}
 use lib.ListN.{length, get_or, take, drop}
 use Rattle.base.specs.Answer.{refused, gives}
-use Rattle.base.specs.If.{if_true}
+use Rattle.base.specs.declared.refusal.Refusal.{Refusal}
+use Rattle.base.specs.Refusals.{answer_by}
 use Rattle.base.specs.Limits.{numbers24, max_ord_chans, max_unsent, cell_bytes, window_places}
 use Rattle.base.specs.Numbers.{distance}
 use Rattle.base.specs.Put.{put}
@@ -28,6 +30,7 @@ use Rattle.rows.specs.declared.Row.{Row}
 use Rattle.row_slots.specs.First.{first_rows, after_rows, first_cells}
 use Rattle.receiver.specs.declared.Channel.{Channel}
 use Rattle.receiver.specs.declared.RecvQueue.{RecvQueue}
+use Rattle.receiver.specs.declared.Heads.{Heads}
 use Rattle.receiver.specs.Parts.{nexts_in, nexts_of, newest_at, channels_of, heads_of, queue_of, arrays_fit}
 use Rattle.receiver.specs.Queue.{profile_in, unsent_of, insert_unsent}
 use Rattle.receiver.specs.Receive.{Report, Received, datagram_number, frames_in, state_of, channels_after, queue_after, refused_result}
@@ -40,20 +43,21 @@ use Rattle.recv_unsent.specs.Unsent.{joined_by}
 use Rattle.recv_unsent.proofs.Joined.{joined_by_lem}
 use Rattle.recv_channel.specs.Advance.{with_channels, advanced_all}
 use Rattle.recv_channel.proofs.Laws.{all-numbers}
-use Rattle.recv_steps.specs.declared.Receive.{Receive}
+use Rattle.recv_steps.specs.declared.Received as Code
 use Rattle.recv_steps.specs.declared.PassedRows.{PassedRows}
-use Rattle.recv_steps.specs.Outcome.{RowsReceived, receive_answer, rows_passed, rows_refused, rows_accepted, rows_by_answer, rows_outcome}
+use Rattle.recv_steps.specs.Outcome.{RowsReceived, report_of, received_of, low_left, ascends_left, rows_passed, rows_refused, rows_accepted, rows_by_answer, rows_outcome}
 use Rattle.recv_steps.specs.Outcome.{receive_rows_of}
-use Rattle.recv_lent.specs.Settled.{is_refusal, next_pending, with_number, settled_of}
+use Rattle.recv_lent.specs.Settled.{next_pending, with_number, settled_of}
 use Rattle.recv_lent.specs.Calls.{ReceivedWith, received_with, receive_with_of}
 
--- of the receiver q, its nexts and memories ns, of k rows in the words ws, of the store st and of the datagram d, by the answer a and the
+-- of the low of the reliable numbers, of the receiver q, its nexts and memories ns, of k rows in the words ws, of the store st and of the datagram d, by the answer a and the
 -- last values
-abbrev pub CoreSays : RecvQueue → List ℕ → ℕ → ℕ → List ℕ → List ℕ → List ℕ → PassedRows → List ℕ → List ℕ → List ℕ → List ℕ → Type 0
-CoreSays q ns k cells ws st d a bits nexts ws' st' = rows_passed a bits nexts (first_rows k ws') (after_rows k ws') st'
-    ≡ receive_rows_of q ns k cells ws st d
+abbrev pub CoreSays : ℕ → RecvQueue → List ℕ → ℕ → ℕ → List ℕ → List ℕ → List ℕ → Result PassedRows Refusal → List ℕ → List ℕ → List ℕ → List ℕ
+    → Type 0
+CoreSays low q ns k cells ws st d a bits nexts ws' st' =
+    rows_passed low a bits nexts (first_rows k ws') (after_rows k ws') st' ≡ receive_rows_of q ns k cells ws st d
 
-abbrev pub CallSays : RecvQueue → ℕ → ℕ → List ℕ → List ℕ → List ℕ → Receive → RecvQueue → List ℕ → List ℕ → Type 0
+abbrev pub CallSays : RecvQueue → ℕ → ℕ → List ℕ → List ℕ → List ℕ → Result Code.Received Refusal → RecvQueue → List ℕ → List ℕ → Type 0
 CallSays q k cells ws st d a q' ws' st' = received_with a q' (first_rows k ws') (after_rows k ws') st' ≡ receive_with_of q k cells ws st d
 
 -- a receiver's arrays are as long as its type says
@@ -62,6 +66,10 @@ pub record Long (q : RecvQueue) : Type 0 where
   pub reliables : length q.reliables.bits ≡ 256
   pub channels : length q.channels ≡ 32
   pub unsent : length q.unsent ≡ 1024
+
+pub long : (q : RecvQueue) → length q.datagrams.bits ≡ 256 → length q.reliables.bits ≡ 256 → length q.channels ≡ 32
+    → length q.unsent ≡ 1024 → Long q
+long q d r c u = record { datagrams = d; reliables = r; channels = c; unsent = u }
 
 fits : (q : RecvQueue) → Long q → arrays_fit q (nexts_of q) ≡ true
 unfolding arrays_fit
@@ -124,25 +132,29 @@ module _ (q : RecvQueue) (long : Long q) (d : List ℕ) (small : datagram_number
       (newest max_ord_chans) q.profile nexts long.channels (channels-length next newest 0 q.channels ∙ long.channels) e-nexts) ∙ with-number
 
 -- ---- by the ways of receive
-module _ (q : RecvQueue) (a : PassedRows) (bits nexts : List ℕ) (n : ℕ) where
-  refused-settled : (number : ℕ) → receive_answer a.answer ≡ refused number → settled_of q a bits nexts n ≡ q
-  unfolding settled_of is_refusal if_true
-  refused-settled number e = rw e refl
+refused-settled : (q : RecvQueue) (a : Result PassedRows Refusal) (bits nexts : List ℕ) (n number : ℕ)
+    → answer_by report_of (received_of a) ≡ refused number → settled_of q a bits nexts n ≡ q
+unfolding settled_of
+refused-settled q (Ok p) bits nexts n number e = cc
+refused-settled q (Err r) bits nexts n number e = refl
 
-  given-settled : (report : Report) → receive_answer a.answer ≡ gives report → settled_of q a bits nexts n
-      ≡ with_number (advanced_all q nexts) a.low bits n a.ascending
-  unfolding settled_of is_refusal if_true
-  given-settled report e = rw e refl
+given-settled : (q : RecvQueue) (a : Result PassedRows Refusal) (bits nexts : List ℕ) (n : ℕ) (report : Report)
+    → answer_by report_of (received_of a) ≡ gives report
+    → settled_of q a bits nexts n ≡ with_number (advanced_all q nexts) (low_left q.reliables.low a) bits n (ascends_left a)
+unfolding settled_of
+given-settled q (Ok p) bits nexts n report e = refl
+given-settled q (Err r) bits nexts n report e = cc
 
-module _ (q : RecvQueue) (rows₀ : List Row) (after₀ d : List ℕ) (a : PassedRows) (bits nexts : List ℕ) (rows : List Row)
+module _ (q : RecvQueue) (rows₀ : List Row) (after₀ d : List ℕ) (a : Result PassedRows Refusal) (bits nexts : List ℕ) (rows : List Row)
     (after st' : List ℕ) where
   -- what is to be shown of a receive that comes to x
   abbrev With : Received → RowsReceived → ReceivedWith
   With x p = record { answer = x.answer; queue = x.queue; rows = p.rows; after = p.after; store = x.store }
 
   abbrev Settles : Received → Type 0
-  Settles x = rows_passed a bits nexts rows after st' ≡ rows_outcome q (nexts_of q) rows₀ after₀ x → received_with a.answer
-      (settled_of q a bits nexts (datagram_number d)) rows after st' ≡ With x (rows_outcome q (nexts_of q) rows₀ after₀ x)
+  Settles x = rows_passed q.reliables.low a bits nexts rows after st' ≡ rows_outcome q (nexts_of q) rows₀ after₀ x
+      → received_with (received_of a) (settled_of q a bits nexts (datagram_number d)) rows after st'
+      ≡ With x (rows_outcome q (nexts_of q) rows₀ after₀ x)
 
   refusal-settles : (cs : List Cell) (st : List ℕ) (number : ℕ) → Settles (refused_result q cs st number)
   unfolding rows_passed rows_outcome rows_by_answer rows_refused refused_result received_with
@@ -164,7 +176,7 @@ module _ (q : RecvQueue) (rows₀ : List Row) (after₀ d : List ℕ) (a : Passe
       queue = (given-settled q a bits nexts (datagram_number d) _ (ap (λ (y : RowsReceived). y.answer) said)
           ∙ accepted-settled q long d small x.fresh x.near x.room x.reliables
           (datagram (state_of q cs st) (frames_in (profile_in q) d)).state.next (datagram (state_of q cs st) (frames_in (profile_in q) d)).state.newest
-          a.low a.ascending bits nexts
+          (low_left q.reliables.low a) (ascends_left a) bits nexts
           (ap (λ (y : RowsReceived). y.low) said) (ap (λ (y : RowsReceived). y.ascending) said)
           (ap (λ (y : RowsReceived). y.bits) said)
           (ap (λ (y : RowsReceived). y.nexts) said) many-bits) i;
@@ -191,12 +203,36 @@ module _ (q : RecvQueue) (k cells : ℕ) (ws st d : List ℕ) (long : Long q) wh
   unfolding receive_rows_of
   rows_are = ap (rows_outcome q (nexts_of q) (first_rows k ws) (after_rows k ws)) (sym (true-yes _ _ _ _ (fits q long) refl))
 
-pub core-settled : (q : RecvQueue) (k cells : ℕ) (ws st d : List ℕ) (a : PassedRows) (bits nexts ws' st' : List ℕ) → Long q
+pub core-settled : (q : RecvQueue) (k cells : ℕ) (ws st d : List ℕ) (a : Result PassedRows Refusal) (bits nexts ws' st' : List ℕ) → Long q
     → datagram_number d < numbers24 → length bits ≡ length q.reliables.bits
-    → CoreSays (queue_of (heads_of q) q.datagrams.bits q.reliables.bits (nexts_of q) q.unsent) (nexts_of q) k cells ws st d a bits
-    nexts ws' st' → CallSays q k cells ws st d a.answer (settled_of q a bits nexts (datagram_number d)) ws' st'
+    → CoreSays q.reliables.low (queue_of (heads_of q) q.datagrams.bits q.reliables.bits (nexts_of q) q.unsent) (nexts_of q) k cells ws st d a bits
+    nexts ws' st' → CallSays q k cells ws st d (received_of a) (settled_of q a bits nexts (datagram_number d)) ws' st'
 unfolding receive_with_of
 core-settled q k cells ws st d a bits nexts ws' st' long small many-bits said =
     first-settles q (first_rows k ws) (after_rows k ws) d a bits nexts (first_rows k ws') (after_rows k ws') st' long small many-bits
     cells (first_cells k ws) st (said ∙ ap (λ (z : RecvQueue). receive_rows_of z (nexts_of q) k cells ws st d) (own-parts q long.channels)
     ∙ rows_are q k cells ws st d long)
+
+-- The same of the parts that the code hands to the core, where the core refuses and where it accepts.
+module _ (q : RecvQueue) (h : Heads) (ns : List ℕ) (k cells : ℕ) (ws st d bits nexts ws' st' : List ℕ) (heads : h ≡ heads_of q)
+    (own : ns ≡ nexts_of q) (long : Long q) (small : datagram_number d < numbers24) (many-bits : length bits ≡ length q.reliables.bits) where
+  abbrev Core : Result PassedRows Refusal → Type 0
+  Core a = CoreSays h.reliables (queue_of h q.datagrams.bits q.reliables.bits ns q.unsent) ns k cells ws st d a bits nexts ws' st'
+
+  settled-so : (a : Result PassedRows Refusal) → Core a
+      → CallSays q k cells ws st d (received_of a) (settled_of q a bits nexts (datagram_number d)) ws' st'
+  settled-so a said =
+      core-settled q k cells ws st d a bits nexts ws' st' long small many-bits
+      (sym (ap (λ (x : Heads). rows_passed x.reliables a bits nexts (first_rows k ws') (after_rows k ws') st') heads)
+      ∙ (said ∙ (λ i. receive_rows_of (queue_of (heads i) q.datagrams.bits q.reliables.bits (own i) q.unsent) (own i) k cells ws st d)))
+
+  pub refused-so : (r : Refusal) → Core (Err r) → CallSays q k cells ws st d (Err r) q ws' st'
+  unfolding settled_of
+  refused-so r said = settled-so (Err r) said
+
+  pub accepted-so : (p : PassedRows) (n : ℕ) (q' : RecvQueue) → n ≡ datagram_number d → Core (Ok p)
+      → q' ≡ with_number (advanced_all q nexts) p.low bits n p.ascending → CallSays q k cells ws st d (Ok p.received) q' ws' st'
+  unfolding settled_of
+  accepted-so p n q' number said is =
+      ap (λ (z : RecvQueue). received_with (Ok p.received) z (first_rows k ws') (after_rows k ws') st')
+      (is ∙ ap (λ (m : ℕ). with_number (advanced_all q nexts) p.low bits m p.ascending) number) ∙ settled-so (Ok p) said

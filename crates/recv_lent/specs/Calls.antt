@@ -1,14 +1,16 @@
 -- What a receive on a lent receiver and rows of words leaves.
-use Rattle.std.specs.Prelude.{ℕ, List}
+use Rattle.std.specs.Prelude.{ℕ, List, Result}
 use Rattle.base.specs.Answer.{Answer}
+use Rattle.base.specs.declared.refusal.Refusal.{Refusal}
+use Rattle.base.specs.Refusals.{answer_by}
 use Rattle.rows.specs.declared.Row.{Row}
 use Rattle.row_slots.specs.First.{first_rows, after_rows, first_cells}
 use Rattle.receiver.specs.declared.RecvQueue.{RecvQueue}
 use Rattle.receiver.specs.Parts.{nexts_of}
 use Rattle.receiver.specs.Receive.{Report}
 use Rattle.recv_prefix.specs.Receiving.{receive_first}
-use Rattle.recv_steps.specs.declared.Receive.{Receive}
-use Rattle.recv_steps.specs.Outcome.{receive_answer, rows_outcome}
+use Rattle.recv_steps.specs.declared.Received.{Received}
+use Rattle.recv_steps.specs.Outcome.{report_of, rows_outcome}
 
 -- the answer, the receiver, the rows, the words after them, and the store
 pub record ReceivedWith : Type 0 where
@@ -19,8 +21,8 @@ pub record ReceivedWith : Type 0 where
   pub store : List ℕ
 
 -- the same, of what the call returns and of the last values of what it was lent
-unfoldable pub received_with : Receive → RecvQueue → List Row → List ℕ → List ℕ → ReceivedWith
-received_with a q rows after st = record { answer = receive_answer a; queue = q; rows = rows; after = after; store = st }
+unfoldable pub received_with : Result Received Refusal → RecvQueue → List Row → List ℕ → List ℕ → ReceivedWith
+received_with a q rows after st = record { answer = answer_by report_of a; queue = q; rows = rows; after = after; store = st }
 
 -- Receive over the first k rows of the words, which stand for the first of so many records: answer, receiver and store are those of the
 -- definition; what is left of the rows is as it is said of the core.

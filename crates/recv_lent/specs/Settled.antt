@@ -1,7 +1,7 @@
 -- What a receiver is once the core has worked on copies of its bits and nexts, and its answer is known.
-use Rattle.std.specs.Prelude.{ℕ, ◌+◌, Bool, true, false, List}
-use Rattle.base.specs.Answer.{Answer, refused, gives}
-use Rattle.base.specs.If.{if_true, if_lt}
+use Rattle.std.specs.Prelude.{ℕ, ◌+◌, Bool, List, Result, Ok, Err}
+use Rattle.base.specs.declared.refusal.Refusal.{Refusal}
+use Rattle.base.specs.If.{if_lt}
 use Rattle.base.specs.Limits.{max_unsent}
 use Rattle.base.specs.Put.{put}
 use Rattle.window.specs.Window.{window_of, insert_of}
@@ -9,12 +9,6 @@ use Rattle.receiver.specs.declared.RecvQueue.{RecvQueue}
 use Rattle.recv_unsent.specs.Unsent.{joined_by}
 use Rattle.recv_channel.specs.Advance.{advanced_all}
 use Rattle.recv_steps.specs.declared.PassedRows.{PassedRows}
-use Rattle.recv_steps.specs.Outcome.{receive_answer}
-
--- a refusal's number, or values that the call gives
-unfoldable pub is_refusal : {A : Type 0} → Answer A → Bool
-is_refusal (refused number) = true
-is_refusal (gives x) = false
 
 -- one more unsent number, up to 1,024
 unfoldable pub next_pending : ℕ → ℕ
@@ -34,6 +28,6 @@ with_number q low bits n ascending =
     }
 
 -- a refusal leaves the receiver as it was; else what the core left of bits and nexts is the receiver's
-unfoldable pub settled_of : RecvQueue → PassedRows → List ℕ → List ℕ → ℕ → RecvQueue
-settled_of q r bits nexts n =
-    if_true (is_refusal (receive_answer r.answer)) q (with_number (advanced_all q nexts) r.low bits n r.ascending)
+unfoldable pub settled_of : RecvQueue → Result PassedRows Refusal → List ℕ → List ℕ → ℕ → RecvQueue
+settled_of q (Ok p) bits nexts n = with_number (advanced_all q nexts) p.low bits n p.ascending
+settled_of q (Err r) bits nexts n = q

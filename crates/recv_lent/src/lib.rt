@@ -3,27 +3,18 @@
 
 #![tactic(auto)]
 
-ghost use Rattle.std.specs.Prelude.{◌≡◌, ◌<◌, length};
-ghost use Rattle.base.specs.Limits.{numbers24};
-ghost use Rattle.window.specs.Window.{window_of, insert_of};
+ghost use Rattle.std.specs.Prelude.{◌≡◌, length};
 ghost use Rattle.row_slots.specs.First.{first_rows, after_rows};
-ghost use Rattle.receiver.specs.Receive.{datagram_number};
-ghost use Rattle.receiver.specs.Parts.{heads_of, queue_of};
-ghost use Rattle.recv_steps.specs.Outcome.{rows_passed, receive_rows_of, receive_answer};
+ghost use Rattle.receiver.specs.Parts.{heads_of};
+ghost use Rattle.recv_channel.specs.Advance.{advanced_all};
 ghost use Rattle.recv_take.specs.Outcome.{taken_rows, take_rows_of};
-ghost use Rattle.recv_lent.specs.Settled.{is_refusal, next_pending, with_number, settled_of};
+ghost use Rattle.recv_lent.specs.Settled.{next_pending, with_number};
 ghost use Rattle.recv_lent.specs.Calls.{received_with, receive_with_of};
 
+use base::Refusal;
 use receiver::{Channel, Heads, RecvQueue};
-use recv_steps::{PassedRows, Receive};
+use recv_steps::{PassedRows, Received};
 use recv_take::TakenRows;
-
-// A copy of the reliable numbers' bits.
-fn bits_of(queue: &RecvQueue) -> [u8; 256]
-    ensures { result ≡ queue.now.reliables.bits }
-{
-    queue.reliables.bits
-}
 
 // A receiver's arrays are as long as its type says, which is known of each once it is lent as a slice.
 fn see_lengths(queue: &RecvQueue)
@@ -38,109 +29,44 @@ fn see_lengths(queue: &RecvQueue)
     let _unsent: &[u32] = &queue.unsent;
 }
 
-// The datagram's number: 24 bits, since a lent slice's elements are known to be bytes once they are read.
-fn number_of(datagram: &[u8]) -> u32
-    ensures { (result ≡ datagram_number datagram.now) × (result < numbers24) }
+// The receiver's own numbers, beside its arrays.
+fn heads_of(queue: &RecvQueue) -> Heads
+    ensures { result ≡ heads_of queue.now }
 {
-    base::byte(datagram, 1);
-    base::byte(datagram, 2);
-    base::byte(datagram, 3);
-    base::le24_at(datagram, 1)
-}
-
-// The core on the receiver's own arrays, but for the bits and nexts that stand beside it.
-fn receive_on(
-    queue: &RecvQueue,
-    rbits: &mut [u8],
-    nexts: &mut [u32],
-    words: &mut [u32],
-    k: usize,
-    cells: usize,
-    store: &mut [u8],
-    datagram: &[u8],
-) -> PassedRows
-    ensures { rows_passed result rbits.new nexts.new (first_rows k words.new)
-        (after_rows k words.new) store.new
-        ≡ receive_rows_of (queue_of (heads_of queue.now) queue.now.datagrams.bits rbits.old
-        nexts.old queue.now.unsent) nexts.old
-        k cells words.old store.old datagram.now }
-{
-    let h = Heads {
+    Heads {
         datagrams: queue.datagrams.low,
         reliables: queue.reliables.low,
         pending: queue.pending,
-    };
-    recv_steps::receive_rows(
-        h,
-        &queue.datagrams.bits,
-        rbits,
-        nexts,
-        &queue.unsent,
-        words,
-        k,
-        cells,
-        store,
-        datagram,
-    )
-}
-
-// Whether the core gave a refusal's number.
-fn is_refused(r: PassedRows) -> bool
-    ensures { result ≡ is_refusal (receive_answer r.answer) }
-{
-    let answer = r.answer;
-    match answer {
-        Receive::Accepted {
-            ready: _,
-            dropped: _,
-            left: _,
-        } => false,
-        _ => true,
     }
-}
-
-// n into the window of low and bits; its low afterwards.
-fn accept_in(low: u32, bits: &mut [u8], n: u32) -> u32
-    ensures { window_of result bits.new ≡ (insert_of (window_of low bits.old) n).window }
-{
-    let inserted = window::insert_in(low, bits, n);
-    inserted.low
 }
 
 // One more number is unsent; no more than 1,024 are.
 fn next_pending(k: u32) -> u32
     ensures { result ≡ next_pending k }
 {
-    if k < base::MAX_UNSENT {
-        return k + 1;
-    }
-    k
+    if k < base::MAX_UNSENT { k + 1 } else { k }
 }
 
-// The reliable numbers' window as the core left it, and the datagram's number among the accepted and the unsent.
+// The reliable numbers' window as the core left it, and the datagram's number among the accepted and the unsent. The core tells that the
+// number is neither old nor beyond reach.
 fn accept(queue: &mut RecvQueue, low: u32, bits: &[u8], number: u32, ascending: bool)
     ensures { queue.new ≡ with_number queue.old low bits.now number ascending }
 {
-    let before = queue.datagrams.low;
-    let k = queue.pending;
-    base::put_bytes(&mut queue.reliables.bits, 0, bits);
-    let after = accept_in(before, &mut queue.datagrams.bits, number);
-    recv_unsent::join_number(&mut queue.unsent, k, number, ascending);
-    let pending = next_pending(k);
-    queue.datagrams.low = after;
     queue.reliables.low = low;
-    queue.pending = pending;
+    base::put_all(&mut queue.reliables.bits, 0, bits);
+    let _ = queue.datagrams.insert(number);
+    let pending = queue.pending;
+    recv_unsent::join_number(&mut queue.unsent, pending, number, ascending);
+    queue.pending = next_pending(pending);
 }
 
-// What the core left goes into the receiver, where it accepted the datagram.
-fn settle(queue: &mut RecvQueue, r: PassedRows, bits: &[u8], nexts: &[u32], number: u32)
-    ensures { queue.new ≡ settled_of queue.old r bits.now nexts.now number }
+// What the core left goes into the receiver.
+fn settle(queue: &mut RecvQueue, passed: PassedRows, bits: &[u8], nexts: &[u32], number: u32)
+    ensures { queue.new ≡ with_number (advanced_all queue.old nexts.now) passed.low bits.now number
+        passed.ascending }
 {
-    if is_refused(r) {
-        return;
-    }
     recv_channel::advance_all(queue, nexts);
-    accept(queue, r.low, bits, number, r.ascending);
+    accept(queue, passed.low, bits, number, passed.ascending);
 }
 
 // Receive on the first k rows of the words, which stand for the first of so many cells' records.
@@ -151,20 +77,28 @@ pub fn receive_with(
     cells: usize,
     store: &mut [u8],
     datagram: &[u8],
-) -> Receive
+) -> Result<Received, Refusal>
     ensures { received_with result queue.new (first_rows k words.new) (after_rows k words.new)
         store.new
         ≡ receive_with_of queue.old k cells words.old store.old datagram.now }
 {
     see_lengths(queue);
-    let mut bits = bits_of(queue);
+    let mut bits = queue.reliables.bits;
     let mut nexts = recv_channel::nexts_of(queue);
-    let number = number_of(datagram);
-    let r = receive_on(
-        queue, &mut bits, &mut nexts, words, k, cells, store, datagram,
-    );
-    settle(queue, r, &bits, &nexts, number);
-    r.answer
+    let passed = recv_steps::receive_rows(
+        heads_of(queue),
+        &queue.datagrams.bits,
+        &mut bits,
+        &mut nexts,
+        &queue.unsent,
+        words,
+        k,
+        cells,
+        store,
+        datagram,
+    )?;
+    settle(queue, passed, &bits, &nexts, base::le24_at(datagram, 1));
+    Ok(passed.received)
 }
 
 // Take on these rows, which it only reads: nothing of the receiver is copied but the nexts.
@@ -175,19 +109,14 @@ pub fn take_with(
     cells: usize,
     store: &[u8],
     joined: &mut [u8],
-) -> TakenRows
+) -> Result<TakenRows, Refusal>
     ensures { taken_rows result joined.new ≡ take_rows_of queue.now k cells words.now store.now
         joined.old }
 {
     see_lengths(queue);
     let nexts = recv_channel::nexts_of(queue);
-    let h = Heads {
-        datagrams: queue.datagrams.low,
-        reliables: queue.reliables.low,
-        pending: queue.pending,
-    };
     recv_take::take_rows(
-        h,
+        heads_of(queue),
         &queue.datagrams.bits,
         &queue.reliables.bits,
         &nexts,

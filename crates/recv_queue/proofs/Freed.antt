@@ -1,41 +1,34 @@
--- What `free_turn` leaves of the records, while its loop goes on and at its end; and the cases of `free_at`.
+-- What `free_turn` leaves of the records, while its loop goes on and at its end; and the cases of its turns.
 use mathlib.Core.Path.{◌≡◌, refl, sym, ◌∙◌, ap}
-use Prim.Native.Nat.{ℕ, zero, suc, ◌+◌, ◌<◌, ◌≤◌}
+use Prim.Native.Nat.{ℕ, suc, ◌+◌, ◌<◌, ◌≤◌}
 use native.Mathlib.Omega.{arith}
 use native.Mathlib.Numerals.{add-one}
 use mathlib.Core.Bool.{Bool, true, false}
-use mathlib.Core.List.{List, [], ◌∷◌, ◌++◌, map, map-append}
-use lib.ListN.{length, set, get_or, take, drop, length-append, length-drop, length-map}
-use lib.Seq.{set_at, append_snoc, get_or-append-add, drop-cons, take-suc, length-take-le}
+use mathlib.Core.List.{List, [], ◌∷◌, ◌++◌, map, map-append, append-nil}
+use lib.ListN.{length, set, get_or, take, drop, length-append, length-drop, length-map, drop_of_length-le}
+use lib.Seq.{set_at, append_snoc, get_or-append-add, drop-cons, take-suc, length-take-le, take_all}
 use Rattle.cells.specs.Cell.{Cell, bears, ready_as, empty_cell}
 use Rattle.row_slots.specs.First.{blank}
 use Rattle.recv_queue.specs.Records.{record_left_by, freed_to}
 
 -- ---- one record
 
-pub left-unused : (turn : ℕ) (c : Cell) → bears (ready_as turn) c ≡ true → blank ≡ record_left_by turn c
+left-unused : (turn : ℕ) (c : Cell) → bears (ready_as turn) c ≡ true → blank ≡ record_left_by turn c
 unfolding record_left_by empty_cell
 left-unused turn c e = rw e
 
-set_own : (rs : List Cell) (i : ℕ) → i < length rs → set rs i (get_or rs i blank) ≡ rs
-set_own [] i l = absurd (omega arith)
-set_own (c ∷ rs) zero l = refl
-set_own (c ∷ rs) (suc i) l = ap (λ (cs : List Cell). c ∷ cs) (set_own rs i (omega arith))
-
-pub left-same : (turn : ℕ) (rs : List Cell) (i : ℕ) → i < length rs → bears (ready_as turn) (get_or rs i blank) ≡ false → rs
-    ≡ set rs i (record_left_by turn (get_or rs i blank))
+left-same : (turn : ℕ) (c : Cell) → bears (ready_as turn) c ≡ false → c ≡ record_left_by turn c
 unfolding record_left_by
-left-same turn rs i l e = sym (set_own rs i l) ∙ rw e
+left-same turn c e = rw e
 
--- the cases of `free_at`, of the record r, and whether it is of the message taken
-pub at-taken : (turn : ℕ) (rs zs : List Cell) (i : ℕ) (r u : Cell) (b : Bool) → r ≡ get_or rs i blank → b ≡ bears (ready_as turn) r → b ≡ true
+-- the cases of a turn of `free_turn`, where record i is of the message taken, and where not
+pub at-taken : (turn : ℕ) (rs zs : List Cell) (i : ℕ) (u : Cell) (b : Bool) → b ≡ bears (ready_as turn) (get_or rs i blank) → b ≡ true
     → u ≡ blank → zs ≡ set rs i u → zs ≡ set rs i (record_left_by turn (get_or rs i blank))
-at-taken turn rs zs i r u b is test t e said =
-    said ∙ ap (set rs i) (e ∙ (left-unused turn r (sym test ∙ t) ∙ ap (record_left_by turn) is))
+at-taken turn rs zs i u b test t e said = said ∙ ap (set rs i) (e ∙ left-unused turn (get_or rs i blank) (sym test ∙ t))
 
-pub at-other : (turn : ℕ) (rs : List Cell) (i : ℕ) (r : Cell) (b : Bool) → i < length rs → r ≡ get_or rs i blank
-    → b ≡ bears (ready_as turn) r → b ≡ false → rs ≡ set rs i (record_left_by turn (get_or rs i blank))
-at-other turn rs i r b l is test t = left-same turn rs i l (ap (bears (ready_as turn)) (sym is) ∙ (sym test ∙ t))
+pub at-other : (turn : ℕ) (rs zs : List Cell) (i : ℕ) (b : Bool) → b ≡ bears (ready_as turn) (get_or rs i blank) → b ≡ false
+    → zs ≡ set rs i (get_or rs i blank) → zs ≡ set rs i (record_left_by turn (get_or rs i blank))
+at-other turn rs zs i b test t said = said ∙ ap (set rs i) (left-same turn (get_or rs i blank) (sym test ∙ t))
 
 -- ---- all of them
 
@@ -87,3 +80,13 @@ pub freed-step : (rs l z : List Cell) (turn i : ℕ) → i < length rs → l ≡
 freed-step rs l z turn i h so said =
     said ∙ (ap (λ (m : List Cell). set m i (record_left_by turn (get_or m i blank))) so
     ∙ (freed-more rs turn i h ∙ ap (λ (j : ℕ). freed_to rs j turn) (sym (add-one i))))
+
+-- at the end
+pub freed_all : (rs l : List Cell) (turn i : ℕ) → length rs ≤ i → l ≡ freed_to rs i turn → l ≡ map (record_left_by turn) rs
+unfolding freed_to
+freed_all rs l turn i past so = so ∙ rw (take_all i rs past, drop_of_length-le rs past) (append-nil (map (record_left_by turn) rs))
+
+-- where the first n records alone are lent
+pub freed-part : (rs zs : List Cell) (turn n : ℕ) → zs ≡ map (record_left_by turn) (take n rs) → zs ++ drop n rs ≡ freed_to rs n turn
+unfolding freed_to
+freed-part rs zs turn n said = ap (λ (cs : List Cell). cs ++ drop n rs) said

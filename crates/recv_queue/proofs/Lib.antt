@@ -1,8 +1,8 @@
+pub mod Parts
 pub mod Words
 pub mod Loaded
 pub mod Saved
 pub mod Freed
-pub mod Eights
-pub mod Written
+pub mod LastUsed
 pub mod Receives
 pub mod Takes

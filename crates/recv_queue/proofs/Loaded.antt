@@ -5,7 +5,7 @@ use native.Mathlib.Omega.{arith}
 use native.Mathlib.Numerals.{add-one}
 use mathlib.Core.List.{List, [], ◌∷◌, ◌++◌, map, map-append}
 use lib.ListN.{length, get_or, take, drop, length-append, length-drop, length-map, get_or-map}
-use lib.Seq.{sets-eq, take-suc, take_at, drop-append-add, drop-drop, length-take-le, get_or-take}
+use lib.Seq.{sets-eq, take-suc, take_at, drop-append-add, drop-drop, length-take-le, get_or-take, take_all}
 use Rattle.cells.specs.Cell.{Cell}
 use Rattle.rows.specs.Rows.{row_words, row_at, cell_of}
 use Rattle.row_slots.specs.First.{first_cells, blank, stored_row}
@@ -57,6 +57,11 @@ pub loaded-step : (rs : List Cell) (ws l z : List ℕ) (i : ℕ) (r : Cell) → 
 loaded-step rs ws l z i r h room is so said =
     said ∙ (ap (λ (m : List ℕ). put_row m i (stored_row r)) so ∙ (ap (λ (c : Cell). put_row (loaded rs i ws) i (stored_row c)) is
     ∙ (loaded-more rs ws i h room ∙ ap (λ (j : ℕ). loaded rs j ws) (sym (add-one i)))))
+
+-- where the first n records alone are lent
+pub loaded-part : (rs : List Cell) (ws : List ℕ) (n : ℕ) → n ≤ length rs → loaded (take n rs) (length (take n rs)) ws ≡ loaded rs n ws
+unfolding loaded
+loaded-part rs ws n l = rw (length-take-le n rs l, take_all n (take n rs) (omega (arith, length-take-le n rs l))) refl
 
 -- ---- the rows that the words hold
 

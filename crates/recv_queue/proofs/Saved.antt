@@ -3,9 +3,9 @@ use mathlib.Core.Path.{◌≡◌, refl, sym, ◌∙◌, ap}
 use Prim.Native.Nat.{ℕ, suc, ◌+◌, ◌*◌, ◌<◌, ◌≤◌}
 use native.Mathlib.Omega.{arith}
 use native.Mathlib.Numerals.{add-one}
-use mathlib.Core.List.{List, ◌++◌}
-use lib.ListN.{length, set, get_or, drop, length-append, length-drop}
-use lib.Seq.{drop-cons, set_at, append_snoc}
+use mathlib.Core.List.{List, ◌++◌, append-nil}
+use lib.ListN.{length, set, get_or, take, drop, length-append, length-drop, drop_of_length-le}
+use lib.Seq.{drop-cons, set_at, append_snoc, length-take-le}
 use Rattle.cells.specs.Cell.{Cell}
 use Rattle.rows.specs.Rows.{row_words, row_at, listed, cell_of}
 use Rattle.rows.proofs.Listed.{listed-length}
@@ -53,3 +53,16 @@ saved-step rs l z ws i r h is so said =
 pub saved-cells : (rs : List Cell) (ws : List ℕ) (n : ℕ) → row_words * n ≤ length ws → saved rs n ws ≡ first_cells n ws ++ drop n rs
 unfolding saved
 saved-cells rs ws n room = ap (λ (cs : List Cell). cs ++ drop n rs) (sym (first-cells ws n room))
+
+-- All are, at the end.
+pub saved_all : (rs l : List Cell) (ws : List ℕ) (i : ℕ) → row_words * length rs ≤ length ws → length rs ≡ i → l ≡ saved rs i ws
+    → l ≡ first_cells (length rs) ws
+saved_all rs l ws i room end so =
+    so ∙ (ap (λ (n : ℕ). saved rs n ws) (sym end) ∙ (saved-cells rs ws (length rs) room
+    ∙ (ap (λ (cs : List Cell). first_cells (length rs) ws ++ cs) (drop_of_length-le rs (omega arith)) ∙ append-nil (first_cells (length rs) ws))))
+
+-- Where the first n records alone are lent.
+pub saved-part : (rs zs : List Cell) (ws : List ℕ) (n : ℕ) → n ≤ length rs → row_words * n ≤ length ws
+    → zs ≡ first_cells (length (take n rs)) ws → zs ++ drop n rs ≡ saved rs n ws
+saved-part rs zs ws n l room said =
+    ap (λ (cs : List Cell). cs ++ drop n rs) (said ∙ ap (λ (m : ℕ). first_cells m ws) (length-take-le n rs l)) ∙ sym (saved-cells rs ws n room)

@@ -1,11 +1,11 @@
--- The cells' records as rows of words, and back: what is loaded into words before a call works on them, and saved afterwards; the records
--- that a take leaves; and whether one of eight is used.
-use Rattle.std.specs.Prelude.{ℕ, ◌+◌, ◌*◌, Bool, cond, ◌||◌, List, [], ◌∷◌, ◌++◌, map, ltb, get_or, take, drop}
+-- The cells' records as rows of words, and back: what is loaded into words before a call works on them, and saved afterwards; the records that a
+-- take leaves.
+use Rattle.std.specs.Prelude.{ℕ, ◌*◌, cond, List, [], ◌∷◌, ◌++◌, map, take, drop}
 use Rattle.std.proofs.lemmas.List.Edits.{sets}
 use Rattle.cells.specs.Cell.{Cell, bears, ready_as, empty_cell}
 use Rattle.rows.specs.declared.Row.{Row}
 use Rattle.rows.specs.Rows.{row_words, row_at, listed, cell_of}
-use Rattle.row_slots.specs.First.{blank, stored_row}
+use Rattle.row_slots.specs.First.{stored_row}
 
 -- the words of a row, and of rows
 abbrev pub words_in : Row → List ℕ
@@ -34,12 +34,3 @@ record_left_by turn c = cond (bears (ready_as turn) c) empty_cell c
 -- the records cs of which the first n are left by it so
 unfoldable pub freed_to : List Cell → ℕ → ℕ → List Cell
 freed_to cs n turn = map (record_left_by turn) (take n cs) ++ drop n cs
-
--- is one of eight uses other than 0? and of the eight records from i on?
-unfoldable pub any_used : ℕ → ℕ → ℕ → ℕ → ℕ → ℕ → ℕ → ℕ → Bool
-any_used a b c d e f g h = ((ltb 0 a || ltb 0 b) || (ltb 0 c || ltb 0 d)) || ((ltb 0 e || ltb 0 f) || (ltb 0 g || ltb 0 h))
-
-unfoldable pub eight_used : List Cell → ℕ → Bool
-eight_used cs i =
-    let u : ℕ → ℕ = λ k. (get_or cs (i + k) blank).used in
-    any_used (get_or cs i blank).used (u 1) (u 2) (u 3) (u 4) (u 5) (u 6) (u 7)

@@ -3,12 +3,15 @@
 
 #![tactic(auto)]
 
-ghost use Rattle.std.specs.Prelude.{◌≡◌, ◌<◌, ◌≤◌, ◌+◌, ◌*◌, length, set, get_or};
+ghost use Rattle.std.specs.Prelude.{◌≡◌, ◌<◌, ◌≤◌, ◌+◌, ◌-◌, ◌*◌, ◌⊎◌, false, length, map, drop};
+ghost use Rattle.base.specs.Limits.{max_cells};
+ghost use Rattle.base.specs.Lists.{every};
 ghost use Rattle.cells.specs.Cell.{bears, ready_as};
-ghost use Rattle.rows.specs.Rows.{row_words, row_at, cell_of};
-ghost use Rattle.row_slots.specs.First.{blank, stored_row};
-ghost use Rattle.recv_prefix.specs.Needs.{used_in, last_used};
-ghost use Rattle.recv_queue.specs.Records.{any_used, eight_used, put_row, loaded, saved, record_left_by, freed_to};
+ghost use Rattle.rows.specs.Rows.{row_words, cell_of};
+ghost use Rattle.row_slots.specs.First.{first_cells, stored_row};
+ghost use Rattle.recv_prefix.specs.First.{is_unused};
+ghost use Rattle.recv_prefix.specs.Needs.{last_used};
+ghost use Rattle.recv_queue.specs.Records.{put_row, loaded, record_left_by};
 
 use rows::Row;
 
@@ -18,11 +21,11 @@ pub mod taking;
 pub use cells::CellRecord;
 pub use receiver::RecvQueue;
 pub use receiving::receive;
-pub use recv_acks::{WriteQueue, write_missing, write_unsent};
+pub use recv_acks::{write_missing, write_unsent};
 pub use recv_body::body;
-pub use recv_new::{MakeNew, make_new, new_queue, unused};
-pub use recv_steps::Receive;
-pub use recv_take::Take;
+pub use recv_new::{make_new, new_queue, unused};
+pub use recv_steps::Received;
+pub use recv_take::Taken;
 pub use reliability::Profile;
 pub use taking::take;
 
@@ -83,21 +86,35 @@ fn record_of(r: Row) -> CellRecord
     }
 }
 
-// ---- one record
-
-fn record_at(records: &[CellRecord], i: usize) -> CellRecord
-    requires { i < length records.now }
-    ensures { result ≡ get_or records.now i blank }
+// A record is written as row i.
+fn put_cell(words: &mut [u32], i: usize, r: CellRecord)
+    requires { row_words * i + row_words ≤ length words.old }
+    ensures { words.new ≡ put_row words.old i (stored_row r) }
 {
-    records[i]
+    rows::put_row(words, i, row_of(r));
 }
 
-fn put_record(records: &mut [CellRecord], i: usize, r: CellRecord)
-    requires { i < length records.old }
-    ensures { records.new ≡ set records.old i r }
+// The records are written as the first rows.
+fn load(records: &[CellRecord], words: &mut [u32])
+    requires { row_words * length records.now ≤ length words.old }
+    ensures { words.new ≡ loaded records.now (length records.now) words.old }
 {
-    records[i] = r;
+    for (i, r) in records.iter().enumerate() {
+        put_cell(words, i, *r);
+    }
 }
+
+// The records are read from the first rows.
+fn save(records: &mut [CellRecord], words: &[u32])
+    requires { row_words * length records.old ≤ length words.now }
+    ensures { records.new ≡ first_cells (length records.old) words.now }
+{
+    for (i, r) in records.iter_mut().enumerate() {
+        *r = record_of(rows::whole_row(words, i));
+    }
+}
+
+// ---- which are in use
 
 // Is it of the ready message of that turn?
 fn is_taken(r: CellRecord, turn: u32) -> bool
@@ -106,133 +123,74 @@ fn is_taken(r: CellRecord, turn: u32) -> bool
     (r.used == cells::READY) & (r.turn == turn)
 }
 
-// Record i becomes unused where it is of the message taken.
-fn free_at(records: &mut [CellRecord], i: usize, turn: u32)
-    requires { i < length records.old }
-    ensures { records.new ≡ set records.old i (record_left_by turn (get_or records.old i blank)) }
+// "A taken message frees its cells": those of the records that are its own.
+fn free_turn(records: &mut [CellRecord], turn: u32)
+    ensures { records.new ≡ map (record_left_by turn) records.old }
 {
-    let r = record_at(records, i);
-    if is_taken(r, turn) {
-        return put_record(records, i, recv_new::unused());
-    }
-}
-
-// ---- one row
-
-// A record is written as row i.
-fn put_cell(words: &mut [u32], i: usize, r: CellRecord)
-    requires { row_words * i + row_words ≤ length words.old }
-    ensures { words.new ≡ put_row words.old i (stored_row r) }
-{
-    let row = row_of(r);
-    rows::put_row(words, i, row);
-}
-
-// The record that row i stands for. A whole row is read without a test for each word.
-fn cell_at(words: &[u32], i: usize) -> CellRecord
-    ensures { result ≡ cell_of (row_at words.now i) }
-{
-    if i < words.len() / rows::ROW {
-        let row = rows::whole_row(words, i);
-        return record_of(row);
-    }
-    let row = rows::row_at(words, i);
-    record_of(row)
-}
-
-// ---- all of them
-
-// Is one of these in use?
-fn any_used(a: u32, b: u32, c: u32, d: u32, e: u32, f: u32, g: u32, h: u32) -> bool
-    ensures { result ≡ any_used a b c d e f g h }
-{
-    (((0 < a) | (0 < b)) | ((0 < c) | (0 < d))) | (((0 < e) | (0 < f)) | ((0 < g) | (0 < h)))
-}
-
-// Is one of the eight records from i on in use?
-fn eight_used(records: &[CellRecord], i: usize) -> bool
-    requires { i + 8 ≤ length records.now }
-    ensures { result ≡ eight_used records.now i }
-{
-    let a = record_at(records, i);
-    let b = record_at(records, i + 1);
-    let c = record_at(records, i + 2);
-    let d = record_at(records, i + 3);
-    let e = record_at(records, i + 4);
-    let f = record_at(records, i + 5);
-    let g = record_at(records, i + 6);
-    let h = record_at(records, i + 7);
-    any_used(
-        a.used, b.used, c.used, d.used, e.used, f.used, g.used, h.used,
-    )
-}
-
-// Of the first n records, how many there are up to the last used one.
-fn last_below(records: &[CellRecord], n: usize) -> usize
-    requires { n ≤ length records.now }
-    ensures { result ≡ used_in records.now n }
-{
-    let mut k = n;
-    while 0 < k {
-        let i = k - 1;
-        let r = record_at(records, i);
-        if 0 < r.used {
-            return k;
+    for r in records.iter_mut() {
+        if is_taken(*r, turn) {
+            *r = recv_new::unused();
         }
-        k = i;
     }
-    k
+}
+
+// Is none of them in use? All uses are looked at, without a branch for each.
+fn all_unused(records: &[CellRecord]) -> bool
+    ensures { result ≡ every is_unused records.now }
+{
+    records
+        .iter()
+        .fold(true, |all, r| all & (r.used == cells::UNUSED))
+}
+
+// The records up to the last N of which one is in use, or up to fewer than N: those after them are unused.
+fn up_to_used<const N: usize>(records: &[CellRecord]) -> &[CellRecord]
+    requires some { 0 < N }
+    requires few { N ≤ 8 }
+    ensures same { last_used result.now ≡ last_used records.now }
+    ensures end { (length result.now < N) ⊎ (every is_unused (drop (length result.now - N) result.now) ≡ false) }
+{
+    let mut left = records;
+    while let Some((rest, last)) = left.split_last_chunk::<N>() {
+        if !all_unused(last) {
+            return left;
+        }
+        left = rest;
+    }
+    left
 }
 
 // How many records there are up to the last used one: those after it are unused. Eight at a time are passed over.
 fn last_used(records: &[CellRecord]) -> usize
     ensures { result ≡ last_used records.now }
 {
-    let mut k = records.len();
-    while 8 <= k {
-        let i = k - 8;
-        if eight_used(records, i) {
-            return last_below(records, k);
-        }
-        k = i;
-    }
-    last_below(records, k)
+    up_to_used::<1>(up_to_used::<8>(records)).len()
 }
 
-// The first n records are written as rows.
-fn load(records: &[CellRecord], words: &mut [u32], n: usize)
-    requires { (n ≤ length records.now) × (row_words * n ≤ length words.old) }
-    ensures { words.new ≡ loaded records.now n words.old }
+// ---- words to work on
+
+// f on so many words, all 0. It is a function of its own for each size, so that a large array stays out of the frame of every call.
+#[inline(never)]
+fn on_zeros<const WORDS: usize, R, F: FnMut(&mut [u32]) -> R>(f: &mut F) -> R
+    requires size { WORDS ≤ row_words * max_cells }
+    requires callable { (ws : _) → length ws.now ≡ WORDS → F.pre f.old ws }
+    ensures { (ws : _) × (left : _) × (length ws.now ≡ WORDS) × F.step f.old ws result left f.new }
 {
-    let mut i: usize = 0;
-    while i < n {
-        let r = record_at(records, i);
-        put_cell(words, i, r);
-        i = i + 1;
-    }
+    let mut words = [0u32; WORDS];
+    f(&mut words)
 }
 
-// The first n records are read from their rows.
-fn save(records: &mut [CellRecord], words: &[u32], n: usize)
-    requires { (n ≤ length records.old) × (row_words * n ≤ length words.now) }
-    ensures { records.new ≡ saved records.old n words.now }
+// f on words for k records.
+fn with_words<R, F: FnMut(&mut [u32]) -> R>(k: usize, f: &mut F) -> R
+    requires few { k ≤ max_cells }
+    requires callable { (ws : _) → row_words * k ≤ length ws.now → F.pre f.old ws }
+    ensures { (ws : _) × (left : _) × (row_words * k ≤ length ws.now) × F.step f.old ws result left f.new }
 {
-    let mut i: usize = 0;
-    while i < n {
-        let r = cell_at(words, i);
-        put_record(records, i, r);
-        i = i + 1;
-    }
-}
-
-// "A taken message frees its cells": of the first n records.
-fn free_turn(records: &mut [CellRecord], n: usize, turn: u32)
-    requires { n ≤ length records.old }
-    ensures { records.new ≡ freed_to records.old n turn }
-{
-    let mut i: usize = 0;
-    while i < n {
-        free_at(records, i, turn);
-        i = i + 1;
+    match k {
+        ..=FEW_CELLS => on_zeros::<FEW_WORDS, R, F>(f),
+        ..=SMALL_CELLS => on_zeros::<SMALL_WORDS, R, F>(f),
+        ..=MIDDLE_CELLS => on_zeros::<MIDDLE_WORDS, R, F>(f),
+        ..=MANY_CELLS => on_zeros::<MANY_WORDS, R, F>(f),
+        _ => on_zeros::<MOST_WORDS, R, F>(f),
     }
 }

@@ -4,6 +4,7 @@
 use Prim.Native.Nat.{ℕ, ◌≤◌, ◌<◌}
 use mathlib.Core.Path.{◌≡◌, sym, ◌∙◌}
 use mathlib.Core.Bool.{Bool, true, false}
+use mathlib.Core.Logic.{◌⊎◌, inl, inr}
 use mathlib.Core.List.{List}
 use borrow.Author.Tests.{lt-ltb, le-ltb, eq-eqb, ne_eqb}
 use Rattle.base.specs.Lists.{any}
@@ -21,30 +22,54 @@ use Rattle.recv_steps.specs.declared.Tally.{Tally}
 use Rattle.recv_steps.specs.declared.Course.TheVariants.{Late, Early, Due, Newer, Free}
 use Rattle.recv_steps.specs.Work.{work_of, fate_is}
 
-module _ (ws ns : List ℕ) (p : Placed) (b : Bool) (eb : b ≡ ordered p.frame.kind) where
-  module _ (t : b ≡ false) (s : Bool) (es : s ≡ sequenced p.frame.kind) where
-    pub fate-free : s ≡ false → (x : Tally) (a : ℕ → Bool) (store d : List ℕ) → fate_is Free
+-- ---- a frame's kind, as the code matches it
+pub kind-ordered : (k : ℕ) → (k ≡ 3) ⊎ (k ≡ 7) → ordered k ≡ true
+unfolding ordered
+kind-ordered k (inl e) = rw e
+kind-ordered k (inr e) = rw e
+
+module _ (k : ℕ) (e : (k ≡ 1) ⊎ (k ≡ 4)) where
+  pub kind-not_ordered : ordered k ≡ false
+  unfolding ordered
+  kind-not_ordered = elim e [ inl q ↦ rw q | inr q ↦ rw q ]
+
+  pub kind-sequenced : sequenced k ≡ true
+  unfolding sequenced
+  kind-sequenced = elim e [ inl q ↦ rw q | inr q ↦ rw q ]
+
+pub kind-not_3_7 : (k : ℕ) → ((k ≡ 3) ⊎ (k ≡ 7) → ⊥) → ordered k ≡ false
+unfolding ordered
+kind-not_3_7 k h = rw (ne_eqb k 3 (λ e. h (inl e)), ne_eqb k 7 (λ e. h (inr e)))
+
+pub kind-not_1_4 : (k : ℕ) → ((k ≡ 1) ⊎ (k ≡ 4) → ⊥) → sequenced k ≡ false
+unfolding sequenced
+kind-not_1_4 k h = rw (ne_eqb k 1 (λ e. h (inl e)), ne_eqb k 4 (λ e. h (inr e)))
+
+-- ---- the cases
+module _ (ws ns : List ℕ) (p : Placed) where
+  module _ (t : ordered p.frame.kind ≡ false) where
+    pub fate-free : sequenced p.frame.kind ≡ false → (x : Tally) (a : ℕ → Bool) (store d : List ℕ) → fate_is Free
         ≡ fate_of (frame_in d p) (work_of a x ns (rows_of ws) store d)
     unfolding fate_is fate_of frame_in fate
-    fate-free u x a store d = rw (sym eb ∙ t, sym es ∙ u)
+    fate-free u x a store d = rw (t, u)
 
-    module _ (u : s ≡ true) (o : Bool) (eo : o ≡ older (newest_at ns) (memory_of (profile_for ns) p.frame.kind p.frame.channel) p.frame.sequence)
+    module _ (u : sequenced p.frame.kind ≡ true) (o : Bool) (eo : o ≡ older (newest_at ns) (memory_of (profile_for ns) p.frame.kind p.frame.channel) p.frame.sequence)
       where
         pub fate-older : o ≡ true → (x : Tally) (a : ℕ → Bool) (store d : List ℕ) → fate_is Late
             ≡ fate_of (frame_in d p) (work_of a x ns (rows_of ws) store d)
         unfolding fate_is fate_of frame_in fate work_of
-        fate-older y x a store d = rw (sym eb ∙ t, sym es ∙ u, sym eo ∙ y)
+        fate-older y x a store d = rw (t, u, sym eo ∙ y)
 
         pub fate-newer : o ≡ false → (x : Tally) (a : ℕ → Bool) (store d : List ℕ) → fate_is Newer
             ≡ fate_of (frame_in d p) (work_of a x ns (rows_of ws) store d)
         unfolding fate_is fate_of frame_in fate work_of
-        fate-newer y x a store d = rw (sym eb ∙ t, sym es ∙ u, sym eo ∙ y)
+        fate-newer y x a store d = rw (t, u, sym eo ∙ y)
 
-  module _ (t : b ≡ true) (n : ℕ) (en : n ≡ next_at ns p.frame.channel) where
+  module _ (t : ordered p.frame.kind ≡ true) (n : ℕ) (en : n ≡ next_at ns p.frame.channel) where
     pub fate-behind : p.frame.order < n → (x : Tally) (a : ℕ → Bool) (store d : List ℕ) → fate_is Late
         ≡ fate_of (frame_in d p) (work_of a x ns (rows_of ws) store d)
     unfolding fate_is fate_of frame_in fate work_of
-    fate-behind lt x a store d = rw (sym eb ∙ t, ← en, lt-ltb p.frame.order n lt)
+    fate-behind lt x a store d = rw (t, ← en, lt-ltb p.frame.order n lt)
 
     module _ (ge : n ≤ p.frame.order) (h : Bool) (eh : h ≡ any (bears (held_as p.frame.channel p.frame.order)) (cells_in ws)) where
       held : (store d : List ℕ) → is_held p.frame.channel p.frame.order (slots_in (rows_of ws) store d) ≡ h
@@ -54,14 +79,14 @@ module _ (ws ns : List ℕ) (p : Placed) (b : Bool) (eb : b ≡ ordered p.frame.
       pub fate-held : h ≡ true → (x : Tally) (a : ℕ → Bool) (store d : List ℕ) → fate_is Late
           ≡ fate_of (frame_in d p) (work_of a x ns (rows_of ws) store d)
       unfolding fate_is fate_of frame_in fate work_of
-      fate-held y x a store d = rw (sym eb ∙ t, ← en, le-ltb p.frame.order n ge, held store d ∙ y)
+      fate-held y x a store d = rw (t, ← en, le-ltb p.frame.order n ge, held store d ∙ y)
 
       pub fate-due : h ≡ false → p.frame.order ≡ n → (x : Tally) (a : ℕ → Bool) (store d : List ℕ) → fate_is Due
           ≡ fate_of (frame_in d p) (work_of a x ns (rows_of ws) store d)
       unfolding fate_is fate_of frame_in fate work_of
-      fate-due y q x a store d = rw (sym eb ∙ t, ← en, le-ltb p.frame.order n ge, held store d ∙ y, eq-eqb p.frame.order n q)
+      fate-due y q x a store d = rw (t, ← en, le-ltb p.frame.order n ge, held store d ∙ y, eq-eqb p.frame.order n q)
 
       pub fate-early : h ≡ false → (p.frame.order ≡ n → ⊥) → (x : Tally) (a : ℕ → Bool) (store d : List ℕ) → fate_is Early
           ≡ fate_of (frame_in d p) (work_of a x ns (rows_of ws) store d)
       unfolding fate_is fate_of frame_in fate work_of
-      fate-early y q x a store d = rw (sym eb ∙ t, ← en, le-ltb p.frame.order n ge, held store d ∙ y, ne_eqb p.frame.order n q)
+      fate-early y q x a store d = rw (t, ← en, le-ltb p.frame.order n ge, held store d ∙ y, ne_eqb p.frame.order n q)

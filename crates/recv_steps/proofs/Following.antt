@@ -70,15 +70,15 @@ pub record Following (c : ℕ) (left₀ : ℕ) (x₀ : Tally) (ns₀ ws₀ : Lis
 -- The loop begins after next was raised, with as many turns as there are rows.
 pub following-begins : (c : ℕ) (x : Tally) (ns ns₀ ws : List ℕ) → c < max_ord_chans → row_count ws ≤ max_cells → CanCount (max_cells + 1) x
     → Rises (max_cells + 1) ns → ns₀ ≡ risen c ns
-    → Following c (row_count ws) x ns₀ ws (row_count ws) x ns₀ ws
-following-begins c x ns ns₀ ws lt le v r e = record {
+    → (left : ℕ) → left ≡ row_count ws → Following c (row_count ws) x ns₀ ws left x ns₀ ws
+following-begins c x ns ns₀ ws lt le v r e left el = rw el (record {
   counts = counts-fewer x (row_count ws) (max_cells + 1) (omega arith) v;
   rises = rw e (rises-risen ns (row_count ws) c lt (rises_fewer ns (row_count ws + 1) (max_cells + 1) (omega arith) r));
   long = refl;
   is = λ a store d. refl;
   fits = λ d v. v;
   profile = refl;
-}
+})
 
 module _ (c left₀ : ℕ) (x₀ : Tally) (ns₀ ws₀ : List ℕ) (left : ℕ) (x : Tally) (ns ws : List ℕ)
     (f : Following c left₀ x₀ ns₀ ws₀ left x ns ws) where
@@ -90,16 +90,16 @@ module _ (c left₀ : ℕ) (x₀ : Tally) (ns₀ ws₀ : List ℕ) (left : ℕ) 
   pub following-goes : 0 < left → c < max_ord_chans → (n : ℕ) → n ≡ next_at ns c → (b : Bool) → b ≡ any (bears (held_as c n)) (cells_in ws) → b
       ≡ true → (y : Tally) (ns' ws' : List ℕ)
       → length ws' ≡ length ws → rows_of ws' ≡ change_rows (bears (held_as c n)) (mark_row 3 x.turn) (rows_of ws) → ns' ≡ risen c ns → y
-      ≡ made_one x → Following c left₀ x₀ ns₀ ws₀ (left - 1) y ns' ws'
+      ≡ made_one x → (less : ℕ) → less ≡ left - 1 → Following c left₀ x₀ ns₀ ws₀ less y ns' ws'
   unfolding cascade
-  following-goes pos lt n en b eb t y ns' ws' long e em ey = record {
+  following-goes pos lt n en b eb t y ns' ws' long e em ey less el = rw el (record {
     counts = rw ey (counts-made x (left - 1) (counts-fewer x (left - 1 + 1) left (omega arith) f.counts));
     rises = rw em (rises-risen ns (left - 1) c lt (rises_fewer ns (left - 1 + 1) left (omega arith) f.rises));
     long = long ∙ f.long;
     is = λ a store d. step a store d left pos (f.is a store d);
     fits = λ d v. (m d).fits (f.fits d v);
     profile = (m []).profile ∙ f.profile;
-  }
+  })
     where
       m : (d : List ℕ) → Moves d (go_on c) x ns (rows_of ws) y ns' (rows_of ws')
       m = goes_on ws ws' x y ns ns' c n (rises-one ns left pos f.rises) lt en e em ey

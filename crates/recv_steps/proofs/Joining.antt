@@ -36,14 +36,14 @@ use Rattle.recv_steps.proofs.Wholes.{put_full, found-by}
 -- ---- a joined message
 
 module _ (x : Tally) (ns : List ℕ) (rs rs' : List Row) (p : Placed) (r : Course) (h : (x : Tally) (a : ℕ → Bool) (store d : List ℕ)
-    → fate_is r ≡ fate_of (frame_in d p) (work_of a x ns rs store d)) where
-  placed : (u : ℕ) → 0 < u → rs' ≡ change_rows (bears (open_as p.frame.meta.id)) (mark_row u 0) rs → (d : List ℕ)
+    → fate_is r ≡ fate_of (frame_in d p) (work_of a x ns rs store d)) {id : ℕ} (ei : id ≡ p.frame.meta.id) where
+  placed : (u : ℕ) → 0 < u → rs' ≡ change_rows (bears (open_as id)) (mark_row u 0) rs → (d : List ℕ)
       → Moves d (λ w. place (turn_to (open_as (frame_in d p).id) u 0 w.state.slots) w) x ns rs x ns rs'
   unfolding frame_in work_of
-  placed u pos e d = let ch = turn-changes d (open_as p.frame.meta.id) u 0 rs rs' pos e in
+  placed u pos e d = let ch = turn-changes d (open_as p.frame.meta.id) u 0 rs rs' pos (rw ei at e) in
       moves-place d x ns rs rs' (λ w. turn_to (open_as p.frame.meta.id) u 0 w.state.slots) (λ a. ch.is) ch.fits
 
-  pub joins-late : r ≡ Late → rs' ≡ change_rows (bears (open_as p.frame.meta.id)) (mark_row 4 0) rs → (y : Tally) → y ≡ dropped_one x
+  pub joins-late : r ≡ Late → rs' ≡ change_rows (bears (open_as id)) (mark_row 4 0) rs → (y : Tally) → y ≡ dropped_one x
       → (d : List ℕ) → Moves d (by_fate joins (frame_in d p)) x ns rs y ns rs'
   unfolding joins fate_is
   joins-late e q y ey d =
@@ -51,15 +51,18 @@ module _ (x : Tally) (ns : List ℕ) (rs rs' : List Row) (p : Placed) (r : Cours
       (rw ey (moves-then d (λ w. place (turn_to (open_as (frame_in d p).id) 4 0 w.state.slots) w) drop_one x x (dropped_one x) ns ns ns rs
       rs' rs' (placed 4 (omega arith) q d) (moves-drop d x ns rs')))
 
-  pub joins-early : r ≡ Early → rs' ≡ change_rows (bears (open_as p.frame.meta.id)) (mark_row 2 0) rs → (d : List ℕ)
+  pub joins-early : r ≡ Early → rs' ≡ change_rows (bears (open_as id)) (mark_row 2 0) rs → (d : List ℕ)
       → Moves d (by_fate joins (frame_in d p)) x ns rs x ns rs'
   unfolding joins fate_is
   joins-early e q d = found-by x ns rs p r h joins Early e x ns rs' d (placed 2 (omega arith) q d)
 
-  module _ (y : Tally) (m₀ : (ns d : List ℕ) → Moves d (turn_ready p.frame.meta.id) x ns rs y ns rs') where
+  module _ (y : Tally) (m₀ : (ns d : List ℕ) → Moves d (turn_ready id) x ns rs y ns rs') where
+    turned : (ns d : List ℕ) → Moves d (turn_ready p.frame.meta.id) x ns rs y ns rs'
+    turned = rw ei at m₀
+
     pub joins-free : r ≡ Free → (d : List ℕ) → Moves d (by_fate joins (frame_in d p)) x ns rs y ns rs'
     unfolding joins fate_is turn_ready frame_in
-    joins-free e d = found-by x ns rs p r h joins Free e y ns rs' d (m₀ ns d)
+    joins-free e d = found-by x ns rs p r h joins Free e y ns rs' d (turned ns d)
 
     pub joins-newer : r ≡ Newer → {n : ℕ} → Rises n ns → ReadablePlaced p → p.frame.channel < max_ord_chans
         → (ns' : List ℕ) → ns' ≡ remembered (memory_of (profile_for ns) p.frame.kind p.frame.channel) p.frame.sequence ns → (d : List ℕ)
@@ -67,14 +70,14 @@ module _ (x : Tally) (ns : List ℕ) (rs rs' : List Row) (p : Placed) (r : Cours
     unfolding joins fate_is turn_ready frame_in remember_in
     joins-newer e rises fit lt ns' en d = found-by x ns rs p r h joins Newer e y ns' rs' d
         (moves-then d (remember_in (frame_in d p)) (turn_ready p.frame.meta.id) x x y ns ns' ns' rs rs rs'
-        (rw en (moves-remember d x ns rs p rises.long lt fit.sequence)) (m₀ ns' d))
+        (rw en (moves-remember d x ns rs p rises.long lt fit.sequence)) (turned ns' d))
 
-    pub joins-due : r ≡ Due → (z : Tally) (ns' : List ℕ) (rs'' : List Row)
-        → ((d : List ℕ) → Moves d (follows p.frame.channel) y ns rs' z ns' rs'') → (d : List ℕ) → Moves d (by_fate joins (frame_in d p)) x
+    pub joins-due : r ≡ Due → {channel : ℕ} → channel ≡ p.frame.channel → (z : Tally) (ns' : List ℕ) (rs'' : List Row)
+        → ((d : List ℕ) → Moves d (follows channel) y ns rs' z ns' rs'') → (d : List ℕ) → Moves d (by_fate joins (frame_in d p)) x
         ns rs z ns' rs''
     unfolding joins fate_is turn_ready frame_in
-    joins-due e z ns' rs'' f d = found-by x ns rs p r h joins Due e z ns' rs'' d
-        (moves-then d (turn_ready p.frame.meta.id) (follows p.frame.channel) x y z ns ns ns' rs rs' rs'' (m₀ ns d) (f d))
+    joins-due e ec z ns' rs'' f d = found-by x ns rs p r h joins Due e z ns' rs'' d
+        (moves-then d (turn_ready p.frame.meta.id) (follows p.frame.channel) x y z ns ns ns' rs rs' rs'' (turned ns d) (rw ec at (f d)))
 
 -- An open message's slots become a ready one's.
 pub ready_turned : (x y : Tally) (rs rs' : List Row) (id : ℕ) → rs' ≡ change_rows (bears (open_as id)) (mark_row 3 x.turn) rs → y
@@ -85,12 +88,12 @@ ready_turned x y rs rs' id e ey ns d = let ch = turn-changes d (open_as id) 3 x.
 
 -- ---- a piece kept
 
-module _ (x : Tally) (ns ws : List ℕ) (p : Placed) (n : ℕ) (en : n ≡ count_of (bears (open_as p.frame.meta.id)) (cells_in ws))
+module _ (x : Tally) (ns ws : List ℕ) (p : Placed) {id : ℕ} (ei : id ≡ p.frame.meta.id) (n : ℕ) (en : n ≡ count_of (bears (open_as id)) (cells_in ws))
     (d : List ℕ) (c : Counted d p (rows_of ws)) where
   there : (a : ℕ → Bool) (store : List ℕ) (b : Bool) → eqb n p.frame.meta.count ≡ b → all_there (open_as (frame_in d p).id)
       (work_of a x ns (rows_of ws) store d).state.slots (frame_in d p).count ≡ b
   unfolding frame_in work_of cells_in
-  there a store b e = c store ∙ (rw (← en) e)
+  there a store b e = c store ∙ (rw (← ei, ← en) e)
 
   pub kept-joins : n ≡ p.frame.meta.count → (y : Tally) (ns' : List ℕ) (rs' : List Row)
       → ((d : List ℕ) → Moves d (by_fate joins (frame_in d p)) x ns (rows_of ws) y ns' rs') → Moves d (kept (frame_in d p)) x ns (rows_of ws) y

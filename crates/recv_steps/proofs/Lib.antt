@@ -7,7 +7,6 @@ pub mod Wholes
 pub mod Joining
 pub mod Stepping
 pub mod Numbering
-pub mod Seeing
 pub mod Passing
 pub mod Flushing
 pub mod Clearing

@@ -3,28 +3,27 @@
 use Prim.Native.Nat.{ℕ, ◌+◌, ◌*◌, ◌-◌, ◌≤◌, ◌<◌}
 use mathlib.Core.Path.{◌≡◌, refl, sym, ◌∙◌, ap, subst}
 use mathlib.Core.Logic.{◌⊎◌, inl, inr}
-use mathlib.Core.Bool.{Bool, true, false}
 use mathlib.Core.Option.{some}
 use mathlib.Core.List.Memᴰ
 use mathlib.Core.List.{List, [], ◌∷◌, map, Memᴰ}
 use native.Mathlib.Omega.{arith}
 use native.Mathlib.Decide.{dec_lt}
 use lib.ListN.{length, take, drop, length-take}
-use Rattle.base.specs.Answer.{gives}
+use Rattle.std.specs.Prelude.{Result, Ok, Err}
+use Rattle.base.specs.Answer.{gives, refused}
+use Rattle.base.specs.declared.refusal.Refusal.{Refusal}
+use Rattle.base.specs.declared.refusal.Refusal.TheVariants.{Beyond, ReliableBeyond}
+use Rattle.base.specs.Refusals.{number_of, answer}
 use Rattle.base.specs.Bytes.{Bytes}
 use Rattle.base.specs.Limits.{numbers24, max_ord_chans, many_nexts, max_cells, min_datagram, max_datagram}
 use Rattle.reliability.specs.declared.Profile.{Profile}
-use Rattle.window.specs.declared.InsertedLow.{InsertedLow}
 use Rattle.window.specs.Proper.{Sized}
-use Rattle.window.specs.Window.{window_of, accepted, inserted_in}
+use Rattle.window.specs.Window.{window_of, accepted, give, refuse}
 use Rattle.frame.specs.declared.Placed.{Placed}
-use Rattle.frame.specs.declared.ReadFrame.{ReadFrame}
-use Rattle.frame.specs.declared.ReadFrame.TheVariants.{Whole, Cut}
-use Rattle.frame.specs.Read.{read_frame_of, read_answer}
+use Rattle.frame.specs.Read.{read_frame_of}
 use Rattle.frame.specs.Frames.{frames_of, end_of}
 use Rattle.frame.proofs.Bounds.{read_small}
 use Rattle.frame.proofs.Reading.{read_whole}
-use Rattle.frame.proofs.ReadCases.{told-cut, told-whole}
 use Rattle.frame.proofs.FramesOf.{frames-more, end_more, frames-cut, end-cut}
 use Rattle.bare.specs.Frame.{Frame}
 use Rattle.cells.specs.Datagram.{Work, frame, frames}
@@ -40,13 +39,12 @@ use Rattle.receiver.specs.Parts.{next_at, profile_at, profile_for}
 use Rattle.receiver.proofs.ByParts.{next_past}
 use Rattle.receiver.specs.Receive.{frame_in, frames_in, accept_all, bytes_left}
 use Rattle.recv_steps.specs.declared.Tally.{Tally}
-use Rattle.recv_steps.specs.declared.Framed.TheVariants.{Beyond, Done}
 use Rattle.recv_steps.specs.Work.{work_of}
-use Rattle.recv_steps.specs.CountChanges.{CanCount, Rises}
+use Rattle.recv_steps.specs.CountChanges.{dropped_one, CanCount, Rises}
 use Rattle.recv_steps.specs.Placing.{Stands, ReadablePlaced}
-use Rattle.recv_steps.specs.Moves.{Moves, Sane, by_insert}
-use Rattle.recv_steps.specs.Frames.{number_in, is_beyond, Begun, begun_tally, Ran}
-use Rattle.recv_steps.proofs.Numbering.{number-beyond, number-goes, number-steps}
+use Rattle.recv_steps.specs.Moves.{Moves, Sane, limited}
+use Rattle.recv_steps.specs.Frames.{number_in, Begun, begun_tally, Ran}
+use Rattle.recv_steps.proofs.Numbering.{five-beyond, number-beyond, number-goes, number-skips, number-drops, number-keeps}
 
 -- ---- a frame that was read
 
@@ -154,10 +152,10 @@ module _ (f : Profile) (low₀ : ℕ) (bits₀ ns₀ ws₀ : List ℕ) (turn₀ 
   going-sane : Sane d (rows_of ws)
   going-sane store = (g.sound store).core
 
-  module _ (r : ReadFrame) (er : read_answer r ≡ read_frame_of f d at) where
-    module _ (p : Placed) (next : ℕ) (q : r ≡ Whole p next) where
+  module _ (r : Result (Placed × ℕ) Refusal) (er : answer r ≡ read_frame_of f d at) where
+    module _ (p : Placed) (next : ℕ) (q : r ≡ Ok (p, next)) where
       read : read_frame_of f d at ≡ gives (p, next)
-      read = told-whole f d at r er p next q
+      read = sym er ∙ ap answer q
 
       more : map (frame_in d) (frames_of f d at) ≡ frame_in d p ∷ map (frame_in d) (frames_of f d next)
       more = ap (map (frame_in d)) (frames-more f d at p next read)
@@ -171,89 +169,115 @@ module _ (f : Profile) (low₀ : ℕ) (bits₀ ns₀ ws₀ : List ℕ) (turn₀ 
       pub going_less : length d - next < length d - at
       going_less = let w = read_whole f d at p next read in omega arith
 
-      module _ (t : InsertedLow) (bits' : List ℕ) (et : inserted_in t bits' ≡ number_in (window_of low bits) p) (b : Bool)
-          (eb : b ≡ is_beyond t.answer) where
-        -- The number is beyond reach.
-        pub going-stops : b ≡ true → (bits'' ns'' : List ℕ) (ws'' : List ℕ) → Ran low₀ bits₀ ns₀ (rows_of ws₀) turn₀ d Beyond bits'' ns''
-            (rows_of ws'')
-        unfolding Ran
-        going-stops s bits'' ns'' ws'' = sym g.reaches ∙ (ap (accept_all (window_of low bits)) more ∙ number-beyond (window_of low bits) p
-            going-readable.reliable t bits' et d (rest f d next) (sym eb ∙ s))
+      -- The number is beyond reach.
+      pub going-stops : (bits' : List ℕ) → refuse 5 (window_of low bits') ≡ number_in (window_of low bits) p → (bits'' ns'' ws'' : List ℕ)
+          → Ran low₀ bits₀ ns₀ (rows_of ws₀) turn₀ d (Err ReliableBeyond) bits'' ns'' (rows_of ws'')
+      unfolding Ran
+      going-stops bits' e bits'' ns'' ws'' = (
+        refl,
+        sym g.reaches ∙ (ap (accept_all (window_of low bits)) more
+            ∙ number-beyond (window_of low bits) p going-readable.reliable d (rest f d next) (window_of low bits') e),
+      )
 
-        module _ (s : b ≡ false) (y : Tally) (ns' ws' : List ℕ) (long : length ws' ≡ length ws) (many : length ns' ≡ length ns)
-            (wide : length bits' ≡ length bits)
-            (steps : (d : List ℕ) → Stands d p → Sane d (rows_of ws) → Moves d (by_insert t.answer (frame_in d p)) x ns (rows_of ws) y ns'
-            (rows_of ws')) where
-          one : (store : List ℕ) → work t.low bits' ns' ws' y store d ≡ frame (work low bits ns ws x store d) (frame_in d p)
-          one store = number-steps (window_of low bits) p going-readable.reliable t bits' et d x ns (rows_of ws) y ns' (rows_of ws')
-              g.places (sym eb ∙ s) (steps d going-stands going-sane) store
+      -- The frame is worked on, whatever comes of it.
+      module _ (low' : ℕ) (bits' : List ℕ) (wide : length bits' ≡ length bits) (y : Tally) (ns' ws' : List ℕ) (long : length ws' ≡ length ws)
+          (many : length ns' ≡ length ns)
+          (one : (store : List ℕ) → work low' bits' ns' ws' y store d ≡ frame (work low bits ns ws x store d) (frame_in d p))
+          (goes : accept_all (window_of low bits) (frame_in d p ∷ rest f d next) ≡ accept_all (window_of low' bits') (rest f d next))
+          (fits' : AllFit d (rows_of ws')) (same : profile_at ns' ≡ profile_at ns) where
+        first : (store : List ℕ) → frames (frame (work low bits ns ws x store d) (frame_in d p)) (rest f d next)
+            ≡ frames (work low bits ns ws x store d) (rest f d at)
+        first store = unfold frames in rw more
 
-          first : (store : List ℕ) → frames (frame (work low bits ns ws x store d) (frame_in d p)) (rest f d next)
-              ≡ frames (work low bits ns ws x store d) (rest f d at)
-          first store = unfold frames in rw more
+        after : (store : List ℕ) → Sound (next_at ns') (slots_in (rows_of ws') store d) y.turn
+        after store = unfold work_of in subst (λ (w : Work). Sound w.state.next w.state.slots w.turn) (sym (one store))
+            (unfold frames in frames-sound (frame_in d p ∷ []) (work low bits ns ws x store d) ok (unfold work_of in g.sound store))
+          where
+            ok : (z : Frame) → Memᴰ z (frame_in d p ∷ []) → sound.Readable z
+            ok z m = here (Memᴰ.cases_cons m)
+              where
+                here : (z ≡ frame_in d p) ⊎ Memᴰ z [] → sound.Readable z
+                here (inl i) = subst sound.Readable (sym i) (read_ok f d g.bytes g.begun.short at p next read)
+                here (inr m) = absurd (Memᴰ.not-nil m)
 
-          after : (store : List ℕ) → Sound (next_at ns') (slots_in (rows_of ws') store d) y.turn
-          after store = unfold work_of in subst (λ (w : Work). Sound w.state.next w.state.slots w.turn) (sym (one store))
-              (unfold frames in frames-sound (frame_in d p ∷ []) (work low bits ns ws x store d) ok (unfold work_of in g.sound store))
-            where
-              ok : (z : Frame) → Memᴰ z (frame_in d p ∷ []) → sound.Readable z
-              ok z m = here (Memᴰ.cases_cons m)
-                where
-                  here : (z ≡ frame_in d p) ⊎ Memᴰ z [] → sound.Readable z
-                  here (inl i) = subst sound.Readable (sym i) (read_ok f d g.bytes g.begun.short at p next read)
-                  here (inr m) = absurd (Memᴰ.not-nil m)
+        grown : Grows (1 + max_cells) (work low bits ns ws x [] d) (work low' bits' ns' ws' y [] d)
+        grown = subst (Grows (1 + max_cells) (work low bits ns ws x [] d)) (sym (one []))
+            (frame-grows max_cells (frame_in d p) (work low bits ns ws x [] d) few)
+          where
+            few : length (work low bits ns ws x [] d).state.slots ≤ max_cells
+            few = unfold work_of in (let a = slots-in-length (rows_of ws) [] d in let b = rows-length ws in let c = going-few in
+                omega arith)
 
-          grown : Grows (1 + max_cells) (work low bits ns ws x [] d) (work t.low bits' ns' ws' y [] d)
-          grown = subst (Grows (1 + max_cells) (work low bits ns ws x [] d)) (sym (one []))
-              (frame-grows max_cells (frame_in d p) (work low bits ns ws x [] d) few)
-            where
-              few : length (work low bits ns ws x [] d).state.slots ≤ max_cells
-              few = unfold work_of in (let a = slots-in-length (rows_of ws) [] d in let b = rows-length ws in let c = going-few in
-                  omega arith)
+        turned : y.turn ≤ x.turn + (1 + max_cells)
+        turned = unfold work_of in grown.turn
 
-          turned : y.turn ≤ x.turn + (1 + max_cells)
-          turned = unfold work_of in grown.turn
+        readied : y.ready ≤ x.ready + (1 + max_cells)
+        readied = unfold work_of in grown.ready
 
-          readied : y.ready ≤ x.ready + (1 + max_cells)
-          readied = unfold work_of in grown.ready
+        lost : y.dropped ≤ x.dropped + (1 + max_cells)
+        lost = unfold work_of in grown.dropped
 
-          lost : y.dropped ≤ x.dropped + (1 + max_cells)
-          lost = unfold work_of in grown.dropped
+        raised : (k : Tally → ℕ) → k y ≤ k x + (1 + max_cells) → k x ≤ high at → k y ≤ high next
+        raised k a b = let w = read_whole f d at p next read in let l : at + 1 ≤ next = omega arith in omega arith
 
-          raised : (k : Tally → ℕ) → k y ≤ k x + (1 + max_cells) → k x ≤ high at → k y ≤ high next
-          raised k a b = let w = read_whole f d at p next read in let l : at + 1 ≤ next = omega arith in omega arith
+        going-goes : Going f low₀ bits₀ ns₀ ws₀ turn₀ d low' bits' ns' ws' y next
+        going-goes = record {
+          begun = g.begun;
+          bytes = g.bytes;
+          long = long ∙ g.long;
+          here = let w = read_whole f d at p next read in let s = g.begun.short in omega arith;
+          is = λ store. ap (λ (w : Work). frames w (rest f d next)) (one store) ∙ (first store ∙ g.is store);
+          fits = fits';
+          sound = after;
+          reaches = sym goes ∙ (ap (accept_all (window_of low bits)) (sym more) ∙ g.reaches);
+          end = g.end ∙ end_more f d at p next read;
+          places = wide ∙ g.places;
+          nexts = many ∙ g.nexts;
+          profile = same ∙ g.profile;
+          turn = raised (λ (z : Tally). z.turn) turned g.turn;
+          ready = raised (λ (z : Tally). z.ready) readied g.ready;
+          dropped = raised (λ (z : Tally). z.dropped) lost g.dropped;
+        }
 
-          pub going-goes : Going f low₀ bits₀ ns₀ ws₀ turn₀ d t.low bits' ns' ws' y next
-          going-goes = record {
-            begun = g.begun;
-            bytes = g.bytes;
-            long = long ∙ g.long;
-            here = let w = read_whole f d at p next read in let s = g.begun.short in omega arith;
-            is = λ store. ap (λ (w : Work). frames w (rest f d next)) (one store) ∙ (first store ∙ g.is store);
-            fits = (steps d going-stands going-sane).fits g.fits;
-            sound = after;
-            reaches = sym (number-goes (window_of low bits) p going-readable.reliable t bits' et d (rest f d next) (sym eb ∙ s))
-                ∙ (ap (accept_all (window_of low bits)) (sym more) ∙ g.reaches);
-            end = g.end ∙ end_more f d at p next read;
-            places = wide ∙ g.places;
-            nexts = many ∙ g.nexts;
-            profile = (steps d going-stands going-sane).profile ∙ g.profile;
-            turn = raised (λ (z : Tally). z.turn) turned g.turn;
-            ready = raised (λ (z : Tally). z.ready) readied g.ready;
-            dropped = raised (λ (z : Tally). z.dropped) lost g.dropped;
-          }
+      -- It carries no number, or its number was accepted.
+      pub going-keeps : (low' : ℕ) (bits' : List ℕ) → length bits' ≡ length bits
+          → give (window_of low' bits') ≡ number_in (window_of low bits) p → (y : Tally) (ns' ws' : List ℕ) → length ws' ≡ length ws
+          → length ns' ≡ length ns
+          → ((d : List ℕ) → Stands d p → Sane d (rows_of ws) → Moves d (limited (frame_in d p)) x ns (rows_of ws) y ns' (rows_of ws'))
+          → Going f low₀ bits₀ ns₀ ws₀ turn₀ d low' bits' ns' ws' y next
+      going-keeps low' bits' wide e y ns' ws' long many steps =
+          let m = steps d going-stands going-sane in
+          going-goes low' bits' wide y ns' ws' long many
+          (number-keeps (window_of low bits) p going-readable.reliable d x ns (rows_of ws) y ns' (rows_of ws') g.places (window_of low' bits') m e)
+          (number-goes (window_of low bits) p going-readable.reliable d (rest f d next) (window_of low' bits') e)
+          (m.fits g.fits) m.profile
 
-    pub going-ends : r ≡ Cut → (left : ℕ) → left ≡ length d - at → Ran low₀ bits₀ ns₀ (rows_of ws₀) turn₀ d (Done low x left) bits ns
-        (rows_of ws)
+      -- Its number was accepted before.
+      pub going-drops : (n : Refusal) → (n ≡ Beyond → ⊥) → (bits' : List ℕ) → length bits' ≡ length bits
+          → refuse (number_of n) (window_of low bits') ≡ number_in (window_of low bits) p → (y : Tally) → y ≡ dropped_one x
+          → Going f low₀ bits₀ ns₀ ws₀ turn₀ d low bits' ns ws y next
+      going-drops n ne bits' wide e y ey =
+          rw ey (going-goes low bits' wide (dropped_one x) ns ws refl refl
+          (number-drops (window_of low bits) p going-readable.reliable d x ns (rows_of ws) (number_of n) (window_of low bits')
+          (λ z. ne (five-beyond n z)) e)
+          (number-skips (window_of low bits) p going-readable.reliable d (rest f d next) (number_of n) (window_of low bits')
+          (λ z. ne (five-beyond n z)) e)
+          g.fits refl)
+
+    pub going-ends : (n : Refusal) → r ≡ Err n → (left : ℕ) → left ≡ length d - at
+        → Ran low₀ bits₀ ns₀ (rows_of ws₀) turn₀ d (Ok (record { low = low; counts = x; left = left })) bits ns (rows_of ws)
     unfolding Ran
-    going-ends q left e = record {
+    going-ends n q left e = record {
       is = λ store. done store ∙ (ap (frames (work low bits ns ws x store d)) (sym none_left) ∙ g.is store);
       fits = g.fits;
       reaches = sym g.reaches ∙ (ap (accept_all (window_of low bits)) none_left ∙ taken);
-      end = e ∙ (unfold bytes_left in rw (g.end, end-cut f d at 1 (told-cut f d at r er q)));
+      end = e ∙ (unfold bytes_left in rw (g.end, end-cut f d at (number_of n) cut));
       profile = g.profile;
     }
       where
+        cut : read_frame_of f d at ≡ refused (number_of n)
+        cut = sym er ∙ ap answer q
+
         done : (store : List ℕ) → work low bits ns ws x store d ≡ frames (work low bits ns ws x store d) []
         done store = unfold frames in refl
 
@@ -261,4 +285,4 @@ module _ (f : Profile) (low₀ : ℕ) (bits₀ ns₀ ws₀ : List ℕ) (turn₀ 
         taken = unfold accept_all in refl
 
         none_left : map (frame_in d) (frames_of f d at) ≡ []
-        none_left = ap (map (frame_in d)) (frames-cut f d at 1 (told-cut f d at r er q))
+        none_left = ap (map (frame_in d)) (frames-cut f d at (number_of n) cut)

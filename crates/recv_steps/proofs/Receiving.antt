@@ -6,7 +6,10 @@ use mathlib.Core.Bool.{Bool, true, false, ◌&&◌}
 use mathlib.Core.Option.{none, some}
 use mathlib.Core.List.{List, []}
 use lib.ListN.{length, get_or, replicate}
-use Rattle.base.specs.Answer.{refused}
+use Rattle.std.specs.Prelude.{Ok, Err}
+use Rattle.base.specs.declared.refusal.Refusal.{Refusal}
+use Rattle.base.specs.declared.refusal.Refusal.TheVariants as refusal
+use Rattle.base.specs.Refusals.{number_of}
 use Rattle.base.specs.Bytes.{le24}
 use Rattle.base.specs.Limits.{min_datagram, max_datagram, max_unsent, window_places}
 use Rattle.base.specs.Numbers.{distance}
@@ -29,12 +32,10 @@ use Rattle.receiver.specs.Queue.{profile_in, unsent_of, sound_queue}
 use Rattle.receiver.specs.Receive.{is_datagram, datagram_number, frames_in, accept_all, state_of, accepted_result, refused_result, sound_call}
 use Rattle.receiver.specs.Receive.{receive_of}
 use Rattle.receiver.proofs.ByParts.{next-of-parts}
-use Rattle.sound_queue.specs.declared.QueueSound.{QueueSound}
 use Rattle.sound_queue.specs.Sound.{queue_sound_of}
-use Rattle.recv_steps.specs.declared.Receive.{Receive}
-use Rattle.recv_steps.specs.declared.PassedRows.{PassedRows}
-use Rattle.recv_steps.specs.Outcome.{receive_answer, rows_passed, zeros_of, found_in_frames, rows_refused, rows_by_answer, rows_outcome}
-use Rattle.recv_steps.specs.Receives.{refusal, Receives, Judged, Headed, Numbered}
+use Rattle.sound_queue.proofs.Rules.{told_ok, told_err}
+use Rattle.recv_steps.specs.Outcome.{rows_passed, zeros_of, found_in_frames, rows_refused, rows_by_answer, rows_outcome}
+use Rattle.recv_steps.specs.Receives.{Receives, Judged, Headed, Numbered}
 use Rattle.recv_steps.proofs.Clearing.{blank-rows, zeros-same}
 
 -- ---- the definition's ways
@@ -109,88 +110,98 @@ module _ (q : RecvQueue) (ws st d : List ℕ) where
 
 module _ (h : Heads) (db rb ns un ws st d : List ℕ) where
   -- A refusal before the frames leaves everything as it was.
-  pub all-kept : (a : Receive) (number : ℕ) → receive_answer a ≡ refused number → found_in_frames number ≡ false
-      → (rs : List Row) (after : List ℕ) (cs : List Cell)
-      → rows_passed (refusal h a) rb ns rs after st ≡ rows_outcome (queue_of h db rb ns un) ns rs after
-      (refused_result (queue_of h db rb ns un) cs st number)
+  pub all-kept : (a : Refusal) → found_in_frames (number_of a) ≡ false → (rs : List Row) (after : List ℕ) (cs : List Cell)
+      → rows_passed h.reliables (Err a) rb ns rs after st ≡ rows_outcome (queue_of h db rb ns un) ns rs after
+      (refused_result (queue_of h db rb ns un) cs st (number_of a))
   unfolding rows_passed rows_outcome rows_by_answer rows_refused refused_result queue_of
-  all-kept a number t f rs after cs = rw (t, f)
+  all-kept a f rs after cs = rw f
 
-  refuses : (a : Receive) (number : ℕ) → receive_answer a ≡ refused number → found_in_frames number ≡ false
-      → receive_of (queue_of h db rb ns un) (cells_in ws) st d ≡ refused_result (queue_of h db rb ns un) (cells_in ws) st number
-      → {r : PassedRows} → r ≡ refusal h a → Receives (queue_of h db rb ns un) ns ws st d r rb ns ws st
-  refuses a number t f e x = record { is = rw (x, e) (all-kept a number t f (rows_of ws) [] (cells_in ws)) }
+  refuses : (a : Refusal) → found_in_frames (number_of a) ≡ false
+      → receive_of (queue_of h db rb ns un) (cells_in ws) st d ≡ refused_result (queue_of h db rb ns un) (cells_in ws) st (number_of a)
+      → Receives (queue_of h db rb ns un) ns ws st d (Err a) rb ns ws st
+  refuses a f e = record { is = rw e (unfold queue_of in all-kept a f (rows_of ws) [] (cells_in ws)) }
 
   -- One that is found in the frames leaves zeros_of.
-  pub refuses-worked : (a : Receive) (number : ℕ) → receive_answer a ≡ refused number → found_in_frames number ≡ true
-      → receive_of (queue_of h db rb ns un) (cells_in ws) st d ≡ refused_result (queue_of h db rb ns un) (cells_in ws) st number
-      → (r : PassedRows) (rb₁ ns₁ ws₁ rb₂ ns₂ ws₂ : List ℕ) → length rb₁ ≡ length rb → length ns₁ ≡ length ns → length ws₁ ≡ length ws
-      → (r ≡ refusal h a) × ((rb₂ ≡ zeros_of rb₁) × ((ns₂ ≡ zeros_of ns₁) × (ws₂ ≡ zeros_of ws₁)))
-      → Receives (queue_of h db rb ns un) ns ws st d r rb₂ ns₂ ws₂ st
-  refuses-worked a number t f e r rb₁ ns₁ ws₁ rb₂ ns₂ ws₂ lr ln lw v =
+  pub refuses-worked : (a : Refusal) → found_in_frames (number_of a) ≡ true
+      → receive_of (queue_of h db rb ns un) (cells_in ws) st d ≡ refused_result (queue_of h db rb ns un) (cells_in ws) st (number_of a)
+      → (rb₁ ns₁ ws₁ rb₂ ns₂ ws₂ : List ℕ) → length rb₁ ≡ length rb → length ns₁ ≡ length ns → length ws₁ ≡ length ws
+      → (rb₂ ≡ zeros_of rb₁) × ((ns₂ ≡ zeros_of ns₁) × (ws₂ ≡ zeros_of ws₁))
+      → Receives (queue_of h db rb ns un) ns ws st d (Err a) rb₂ ns₂ ws₂ st
+  refuses-worked a f e rb₁ ns₁ ws₁ rb₂ ns₂ ws₂ lr ln lw v =
       record {
         is = rw (
-          v.0,
           e,
-          v.1.0 ∙ zeros-same rb₁ rb lr,
-          v.1.1.0 ∙ zeros-same ns₁ ns ln,
-          v.1.1.1 ∙ zeros-same ws₁ ws lw,
+          v.0 ∙ zeros-same rb₁ rb lr,
+          v.1.0 ∙ zeros-same ns₁ ns ln,
+          v.1.1 ∙ zeros-same ws₁ ws lw,
           blank-rows ws,
         ) left;
       }
     where
-      left : rows_passed (refusal h a) (zeros_of rb) (zeros_of ns) (replicate (row_count ws) blank_row) [] st
-          ≡ rows_outcome (queue_of h db rb ns un) ns (rows_of ws) [] (refused_result (queue_of h db rb ns un) (cells_in ws) st number)
-      left = unfold rows_passed rows_outcome rows_by_answer rows_refused refused_result queue_of in rw (t, f, rows-length ws)
+      left : rows_passed (queue_of h db rb ns un).reliables.low (Err a) (zeros_of rb) (zeros_of ns) (replicate (row_count ws) blank_row) [] st
+          ≡ rows_outcome (queue_of h db rb ns un) ns (rows_of ws) [] (refused_result (queue_of h db rb ns un) (cells_in ws) st (number_of a))
+      left = unfold rows_passed rows_outcome rows_by_answer rows_refused refused_result queue_of in rw (f, rows-length ws)
 
-  module _ (arrays : arrays_fit (queue_of h db rb ns un) ns ≡ true) (fit : lengths (row_count ws) (length st) ≡ true) {s : QueueSound}
-      (es : s ≡ queue_sound_of (queue_of h db rb ns un)) {b : Bool} (eb : b ≡ sound_cells (cells_in ws) (next_at ns)) where
-    both : sound_call (queue_of h db rb ns un) (cells_in ws) st ≡ s.sound && b
-    unfolding sound_call queue_sound_of
-    both = rw (cells-length ws, fit, es, eb, next-of-parts h db rb ns un)
+  module _ (arrays : arrays_fit (queue_of h db rb ns un) ns ≡ true) (fit : lengths (row_count ws) (length st) ≡ true) where
+    both : sound_call (queue_of h db rb ns un) (cells_in ws) st
+        ≡ sound_queue (queue_of h db rb ns un) && sound_cells (cells_in ws) (next_at ns)
+    unfolding sound_call
+    both = rw (cells-length ws, fit, next-of-parts h db rb ns un)
 
-    pub not_sound : {r : PassedRows} → s.sound && b ≡ false → r ≡ refusal h Receive.NotSound
-        → Receives (queue_of h db rb ns un) ns ws st d r rb ns ws st
-    not_sound f x = refuses Receive.NotSound 9 (unfold receive_answer in refl) (unfold found_in_frames in refl)
-        (refused-9 (queue_of h db rb ns un) (cells_in ws) st d (both ∙ f)) x
+    pub queue-not : (a : Refusal) → Err a ≡ queue_sound_of (queue_of h db rb ns un)
+        → Receives (queue_of h db rb ns un) ns ws st d (Err a) rb ns ws st
+    queue-not a e =
+        let (unsound, f) = told_err (queue_of h db rb ns un) a e in
+        rw f (refuses refusal.NotSound (unfold found_in_frames in refl)
+        (refused-9 (queue_of h db rb ns un) (cells_in ws) st d (both ∙ rw unsound)))
 
-    pub is-judged : s.sound && b ≡ true → Judged (queue_of h db rb ns un) ns ws st s.ascending
-    is-judged t = record { arrays = arrays; sound = both ∙ t; rising = told }
-      where
-        sound : sound_queue (queue_of h db rb ns un) ≡ true
-        sound = let e : s.sound ≡ sound_queue (queue_of h db rb ns un) = (unfold queue_sound_of in ap (λ (z : QueueSound). z.sound) es) in
-            sym e ∙ and_left s.sound b t
+    module _ {rising : Bool} (es : Ok rising ≡ queue_sound_of (queue_of h db rb ns un)) {b : Bool}
+        (eb : b ≡ sound_cells (cells_in ws) (next_at ns)) where
+      sound : sound_queue (queue_of h db rb ns un) ≡ true
+      sound = (told_ok (queue_of h db rb ns un) rising es).0
 
-        told : s.ascending ≡ ascending (unsent_of (queue_of h db rb ns un))
-        told = ap (λ (z : QueueSound). z.ascending) es ∙ (unfold queue_sound_of in rw sound)
+      cells-decide : sound_call (queue_of h db rb ns un) (cells_in ws) st ≡ b
+      cells-decide = both ∙ rw (sound, ← eb)
+
+      pub cells-not : b ≡ false → Receives (queue_of h db rb ns un) ns ws st d (Err refusal.NotSound) rb ns ws st
+      cells-not f = refuses refusal.NotSound (unfold found_in_frames in refl)
+          (refused-9 (queue_of h db rb ns un) (cells_in ws) st d (cells-decide ∙ f))
+
+      pub is-judged : b ≡ true → Judged (queue_of h db rb ns un) ns ws st rising
+      is-judged t =
+          record {
+            arrays = arrays;
+            sound = cells-decide ∙ t;
+            rising = (told_ok (queue_of h db rb ns un) rising es).1;
+          }
 
   module _ {ascends : Bool} (j : Judged (queue_of h db rb ns un) ns ws st ascends) where
-    pub too_short : {r : PassedRows} → length d < min_datagram → r ≡ refusal h Receive.TooShort
-        → Receives (queue_of h db rb ns un) ns ws st d r rb ns ws st
-    too_short l x = refuses Receive.TooShort 1 (unfold receive_answer in refl) (unfold found_in_frames in refl)
-        (refused-1 (queue_of h db rb ns un) ws st d j.sound l) x
+    pub too_short : length d < min_datagram
+        → Receives (queue_of h db rb ns un) ns ws st d (Err refusal.Cut) rb ns ws st
+    too_short l = refuses refusal.Cut (unfold found_in_frames in refl)
+        (refused-1 (queue_of h db rb ns un) ws st d j.sound l)
 
-    pub too_long : {r : PassedRows} → min_datagram ≤ length d → max_datagram < length d → r ≡ refusal h Receive.TooLong
-        → Receives (queue_of h db rb ns un) ns ws st d r rb ns ws st
-    too_long l m x = refuses Receive.TooLong 2 (unfold receive_answer in refl) (unfold found_in_frames in refl)
-        (refused-2 (queue_of h db rb ns un) ws st d j.sound l m) x
+    pub too_long : min_datagram ≤ length d → max_datagram < length d
+        → Receives (queue_of h db rb ns un) ns ws st d (Err refusal.TooLong) rb ns ws st
+    too_long l m = refuses refusal.TooLong (unfold found_in_frames in refl)
+        (refused-2 (queue_of h db rb ns un) ws st d j.sound l m)
 
     module _ {first : ℕ} {b : Bool} (l : min_datagram ≤ length d) (m : length d ≤ max_datagram) (i : first ≡ get_or d 0 0)
         (e : b ≡ is_datagram first) where
-      pub not-datagram : {r : PassedRows} → b ≡ false → r ≡ refusal h Receive.NotDatagram
-          → Receives (queue_of h db rb ns un) ns ws st d r rb ns ws st
-      not-datagram f x =
-          refuses Receive.NotDatagram 3 (unfold receive_answer in refl) (unfold found_in_frames in refl)
-          (refused-3 (queue_of h db rb ns un) ws st d j.sound l m (sym (ap (λ (k : ℕ). is_datagram k) i) ∙ (sym e ∙ f))) x
+      pub not-datagram : b ≡ false
+          → Receives (queue_of h db rb ns un) ns ws st d (Err refusal.FirstByte) rb ns ws st
+      not-datagram f =
+          refuses refusal.FirstByte (unfold found_in_frames in refl)
+          (refused-3 (queue_of h db rb ns un) ws st d j.sound l m (sym (ap (λ (k : ℕ). is_datagram k) i) ∙ (sym e ∙ f)))
 
       pub is-headed : b ≡ true → Headed (queue_of h db rb ns un) ns ws st d ascends
       is-headed f = record { judged = j; long = l; short = m; first = sym (ap (λ (k : ℕ). is_datagram k) i) ∙ (sym e ∙ f) }
 
   module _ {ascends : Bool} (j : Headed (queue_of h db rb ns un) ns ws st d ascends) {number : ℕ} (en : number ≡ le24 d 1) {b : Bool}
       (eb : b ≡ accepted (window_of h.datagrams db) number) where
-    pub is-old : {r : PassedRows} → b ≡ true → r ≡ refusal h Receive.Old → Receives (queue_of h db rb ns un) ns ws st d r rb ns ws st
-    is-old t x = refuses Receive.Old 4 (unfold receive_answer in refl) (unfold found_in_frames in refl)
-        (refused-4 (queue_of h db rb ns un) ws st d j (unfold queue_of in rw (← en) (sym eb ∙ t))) x
+    pub is-old : b ≡ true → Receives (queue_of h db rb ns un) ns ws st d (Err refusal.Old) rb ns ws st
+    is-old t = refuses refusal.Old (unfold found_in_frames in refl)
+        (refused-4 (queue_of h db rb ns un) ws st d j (unfold queue_of in rw (← en) (sym eb ∙ t)))
 
     module _ (f : b ≡ false) where
       -- A number that was not accepted is not below low.
@@ -200,16 +211,16 @@ module _ (h : Heads) (db rb ns un ws st d : List ℕ) where
       new : accepted (queue_of h db rb ns un).datagrams (datagram_number d) ≡ false
       new = unfold queue_of in rw (← en) (sym eb ∙ f)
 
-      pub is-beyond : {r : PassedRows} → window_places < number - h.datagrams → r ≡ refusal h Receive.Beyond
-          → Receives (queue_of h db rb ns un) ns ws st d r rb ns ws st
-      is-beyond far x = refuses Receive.Beyond 5 (unfold receive_answer in refl) (unfold found_in_frames in refl)
-          (refused-5 (queue_of h db rb ns un) ws st d j new (unfold queue_of in rw (← en) far)) x
+      pub is-beyond : window_places < number - h.datagrams
+          → Receives (queue_of h db rb ns un) ns ws st d (Err refusal.Beyond) rb ns ws st
+      is-beyond far = refuses refusal.Beyond (unfold found_in_frames in refl)
+          (refused-5 (queue_of h db rb ns un) ws st d j new (unfold queue_of in rw (← en) far))
 
       module _ (near : number - h.datagrams ≤ window_places) where
-        pub is-full : {r : PassedRows} → max_unsent ≤ h.pending → r ≡ refusal h Receive.UnsentFull
-            → Receives (queue_of h db rb ns un) ns ws st d r rb ns ws st
-        is-full u x = refuses Receive.UnsentFull 6 (unfold receive_answer in refl) (unfold found_in_frames in refl)
-            (refused-6 (queue_of h db rb ns un) ws st d j new (unfold queue_of in rw (← en) near) (unfold queue_of in u)) x
+        pub is-full : max_unsent ≤ h.pending
+            → Receives (queue_of h db rb ns un) ns ws st d (Err refusal.UnsentFull) rb ns ws st
+        is-full u = refuses refusal.UnsentFull (unfold found_in_frames in refl)
+            (refused-6 (queue_of h db rb ns un) ws st d j new (unfold queue_of in rw (← en) near) (unfold queue_of in u))
 
         pub is-numbered : h.pending < max_unsent → Numbered (queue_of h db rb ns un) ns ws st d ascends
         is-numbered u = record { head = j; fresh = new; near = unfold queue_of in rw (← en) near; room = unfold queue_of in u }

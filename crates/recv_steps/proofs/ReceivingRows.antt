@@ -11,7 +11,10 @@ use lib.Dec.{leb, eqb}
 use lib.ListN.{length, take, drop, length-append, length-drop, take-append-drop}
 use lib.Seq.{take_at, drop_at, length-take-le}
 use borrow.Author.Tests.{leb-true, leb-false, eqb-true, eq-eqb, le-leb}
+use Rattle.std.specs.Prelude.{Result, Err}
 use Rattle.base.specs.Answer.{Answer, refused, gives}
+use Rattle.base.specs.declared.refusal.Refusal.{Refusal}
+use Rattle.base.specs.declared.refusal.Refusal.TheVariants.{NotSound}
 use Rattle.base.specs.If.{if_true}
 use Rattle.base.specs.Limits.{max_cells, cell_bytes}
 use Rattle.base.proofs.Choices.{cases, and_left, and_right}
@@ -28,10 +31,9 @@ use Rattle.receiver.specs.Parts.{queue_of, arrays_fit}
 use Rattle.receiver.specs.Receive.{Report, Received, refused_result, sound_call, receive_of}
 use Rattle.recv_prefix.specs.Receiving.{with_rest, receive_first}
 use Rattle.recv_steps.specs.declared.PassedRows.{PassedRows}
-use Rattle.recv_steps.specs.declared.Receive.TheVariants.{NotSound}
-use Rattle.recv_steps.specs.Outcome.{receive_answer, found_in_frames, RowsReceived, rows_passed, rows_refused, rows_accepted, rows_by_answer}
-use Rattle.recv_steps.specs.Outcome.{rows_outcome, receive_rows_of}
-use Rattle.recv_steps.specs.Receives.{refusal, Receives}
+use Rattle.recv_steps.specs.Outcome.{found_in_frames, RowsReceived, rows_passed, rows_refused, rows_accepted, rows_by_answer, rows_outcome}
+use Rattle.recv_steps.specs.Outcome.{receive_rows_of}
+use Rattle.recv_steps.specs.Receives.{Receives}
 use Rattle.recv_steps.proofs.Receiving.{refused-9, all-kept}
 
 -- ---- lengths
@@ -126,12 +128,12 @@ module _ (q : RecvQueue) (ns : List ℕ) (k cells : ℕ) (ws st d : List ℕ) (m
 
 pub rows-refused : (h : Heads) (db rb ns un : List ℕ) (k cells : ℕ) (ws st d : List ℕ) (m : ℕ) → m ≡ rows_in k (length ws) → {a l : Bool}
     → ((h : Heads) → a ≡ arrays_fit (queue_of h db rb ns un) ns) → l ≡ lengths cells (length st)
-    → a && (l && (leb 1 m && leb m cells)) ≡ false → {r : PassedRows} → r ≡ refusal h NotSound → rows_passed r rb ns (first_rows k ws)
+    → a && (l && (leb 1 m && leb m cells)) ≡ false → rows_passed h.reliables (Err NotSound) rb ns (first_rows k ws)
     (after_rows k ws) st ≡ receive_rows_of (queue_of h db rb ns un) ns k cells ws st d
 unfolding receive_rows_of
-rows-refused h db rb ns un k cells ws st d m em ea el f x =
-    rw (x, nine (queue_of h db rb ns un) ns k cells ws st d m em (ea h) el f)
-    (all-kept h db rb ns un ws st d NotSound 9 (unfold receive_answer in refl) (unfold found_in_frames in refl) (first_rows k ws)
+rows-refused h db rb ns un k cells ws st d m em ea el f =
+    rw (nine (queue_of h db rb ns un) ns k cells ws st d m em (ea h) el f)
+    (all-kept h db rb ns un ws st d NotSound (unfold found_in_frames in refl) (first_rows k ws)
     (after_rows k ws) (first_cells k ws))
 
 -- ---- received
@@ -149,10 +151,10 @@ extend after bytes x = record {
   store = x.store ++ bytes;
 }
 
-passed-more : (r : PassedRows) (rb ns : List ℕ) (rs : List Row) (after st bytes : List ℕ) → rows_passed r rb ns rs after (st ++ bytes)
-    ≡ extend after bytes (rows_passed r rb ns rs [] st)
+passed-more : (low : ℕ) (r : Result PassedRows Refusal) (rb ns : List ℕ) (rs : List Row) (after st bytes : List ℕ) → rows_passed low r rb ns rs after (st ++ bytes)
+    ≡ extend after bytes (rows_passed low r rb ns rs [] st)
 unfolding extend rows_passed
-passed-more r rb ns rs after st bytes = refl
+passed-more low r rb ns rs after st bytes = refl
 
 extended : (a : Answer Report) (q : RecvQueue) (ns : List ℕ) (rs : List Row) (after bytes : List ℕ) (x : Received)
     → extend after bytes (rows_by_answer a q ns rs [] x) ≡ rows_by_answer a q ns rs after (with_rest bytes x)
@@ -212,11 +214,11 @@ module _ (q : RecvQueue) (ns : List ℕ) (k cells : ℕ) (ws st d : List ℕ) (m
   with_rest_lem = extended part.answer q ns (rows_of (take (row_words * m) ws)) (drop (row_words * m) ws) (drop (cell_bytes * m) st) part
       ∙ (unfold with_rest in refl)
 
-  pub rows-received : {r : PassedRows} {rb ns' st' : List ℕ}
+  pub rows-received : {r : Result PassedRows Refusal} {rb ns' st' : List ℕ}
       → Receives q ns (take (row_words * m) ws) (take (cell_bytes * m) st) d r rb ns' us st'
-      → rows_passed r rb ns' (first_rows k after) (after_rows k after) (st' ++ drop (cell_bytes * m) st) ≡ receive_rows_of q ns k cells ws st d
+      → rows_passed q.reliables.low r rb ns' (first_rows k after) (after_rows k after) (st' ++ drop (cell_bytes * m) st) ≡ receive_rows_of q ns k cells ws st d
   unfolding receive_rows_of
   rows-received {r} {rb} {ns'} {st'} v =
       rw (rows_before, rows-after, rest-before, rest-after, defined)
-      (passed-more r rb ns' (rows_of us) (drop (row_words * m) ws) st' (drop (cell_bytes * m) st)
+      (passed-more q.reliables.low r rb ns' (rows_of us) (drop (row_words * m) ws) st' (drop (cell_bytes * m) st)
       ∙ (ap (extend (drop (row_words * m) ws) (drop (cell_bytes * m) st)) v.is ∙ with_rest_lem))

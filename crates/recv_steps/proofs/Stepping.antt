@@ -8,8 +8,6 @@ use lib.Dec.{ltb}
 use borrow.Author.Tests.{ltb-true}
 use Rattle.base.specs.Limits.{max_ord_chans}
 use Rattle.base.proofs.Choices.{and_left}
-use Rattle.window.specs.declared.Insert.{Insert}
-use Rattle.window.specs.declared.Insert.TheVariants.{Accepted, TooLarge, Old, Beyond}
 use Rattle.frame.specs.declared.Placed.{Placed}
 use Rattle.bare.specs.Frame.{in_limits}
 use Rattle.cells.specs.Datagram.{whole, piece, keep_in}
@@ -18,7 +16,7 @@ use Rattle.receiver.specs.Receive.{frame_in}
 use Rattle.recv_steps.specs.declared.Tally.{Tally}
 use Rattle.recv_steps.specs.CountChanges.{dropped_one}
 use Rattle.recv_steps.specs.Placing.{Stands, Limited}
-use Rattle.recv_steps.specs.Moves.{Moves, Sane, by_fate, limited, by_insert}
+use Rattle.recv_steps.specs.Moves.{Moves, Sane, by_fate, limited}
 use Rattle.recv_steps.proofs.Moving.{moves-drop}
 
 -- ---- step 2
@@ -57,25 +55,3 @@ module _ (p : Placed) (b : Bool) (e : (d : List ℕ) → b ≡ in_limits (frame_
 -- The same of a frame that is known to be within the limits.
 pub limited-channel : (p : Placed) → Limited p → p.frame.channel < max_ord_chans
 limited-channel p h = limits-channel p true (λ d. sym (h d)) refl
-
--- ---- step 1
-
-module _ (p : Placed) (x y : Tally) (ns : List ℕ) (rs : List Row) {i : Insert} where
-  pub step_keeps : (ns' : List ℕ) (rs' : List Row) → i ≡ Accepted
-      → ((d : List ℕ) → Stands d p → Sane d rs → Moves d (limited (frame_in d p)) x ns rs y ns' rs')
-      → (d : List ℕ) → Stands d p → Sane d rs → Moves d (by_insert i (frame_in d p)) x ns rs y ns' rs'
-  unfolding by_insert
-  step_keeps ns' rs' e m = rw e m
-
-  module _ (ey : y ≡ dropped_one x) (d : List ℕ) (s : Stands d p) (v : Sane d rs) where
-    pub step-large : i ≡ TooLarge → Moves d (by_insert i (frame_in d p)) x ns rs y ns rs
-    unfolding by_insert
-    step-large e = rw (e, ey) (moves-drop d x ns rs)
-
-    pub step-old : i ≡ Old → Moves d (by_insert i (frame_in d p)) x ns rs y ns rs
-    unfolding by_insert
-    step-old e = rw (e, ey) (moves-drop d x ns rs)
-
-    pub step-beyond : i ≡ Beyond → Moves d (by_insert i (frame_in d p)) x ns rs y ns rs
-    unfolding by_insert
-    step-beyond e = rw (e, ey) (moves-drop d x ns rs)

@@ -1,5 +1,5 @@
 -- Changes of counts and nexts alone: a frame dropped, room run out, a message made ready, a channel's next raised.
-use Rattle.std.specs.Prelude.{ℕ, ◌+◌, ◌^◌, ◌<◌, ◌≡◌, List, set, length}
+use Rattle.std.specs.Prelude.{ℕ, ◌+◌, ◌^◌, ◌<◌, ◌≡◌, true, List, set, length}
 use Rattle.base.specs.Limits.{many_nexts}
 use Rattle.receiver.specs.Parts.{next_place, next_at}
 use Rattle.recv_steps.specs.declared.Tally.{Tally}
@@ -8,7 +8,7 @@ unfoldable pub dropped_one : Tally → Tally
 dropped_one x = record { turn = x.turn; ready = x.ready; dropped = x.dropped + 1; full = x.full }
 
 unfoldable pub filled_up : Tally → Tally
-filled_up x = record { turn = x.turn; ready = x.ready; dropped = x.dropped; full = 1 }
+filled_up x = record { turn = x.turn; ready = x.ready; dropped = x.dropped; full = true }
 
 unfoldable pub made_one : Tally → Tally
 made_one x = record { turn = x.turn + 1; ready = x.ready + 1; dropped = x.dropped; full = x.full }

@@ -1,10 +1,10 @@
 -- All frames of a datagram put through the four steps.
-use Rattle.std.specs.Prelude.{ℕ, ◌≤◌, ◌≡◌, Bool, true, false, cond, List, length}
+use Rattle.std.specs.Prelude.{ℕ, ◌≤◌, ◌≡◌, false, cond, List, length, Result, Ok, Err}
 use Rattle.std.proofs.Math.Option.{none, some}
+use Rattle.base.specs.declared.refusal.Refusal.{Refusal}
+use Rattle.base.specs.declared.refusal.Refusal.TheVariants.{ReliableBeyond}
 use Rattle.base.specs.Limits.{many_nexts, max_cells, max_datagram}
 use Rattle.window.specs.declared.ReliableWindow.{ReliableWindow}
-use Rattle.window.specs.declared.Insert.{Insert}
-use Rattle.window.specs.declared.Insert.TheVariants as Insert
 use Rattle.window.specs.Proper.{Sized}
 use Rattle.window.specs.Window.{window_of, accepted, Insertion, give, insert_of}
 use Rattle.frame.specs.declared.Placed.{Placed}
@@ -17,19 +17,11 @@ use Rattle.receiver.specs.Parts.{next_at, profile_at, profile_for}
 use Rattle.receiver.specs.Receive.{frames_in, accept_all, bytes_left}
 use Rattle.recv_steps.specs.declared.Tally.{Tally}
 use Rattle.recv_steps.specs.declared.Framed.{Framed}
-use Rattle.recv_steps.specs.declared.Framed.TheVariants.{Beyond, Done}
 use Rattle.recv_steps.specs.Work.{work_of}
 
 -- a frame's reliable number inserted; a frame without one leaves the window as it is
 unfoldable pub number_in : ReliableWindow → Placed → Insertion
 number_in w p = cond (carries_reliable p.frame.kind) (insert_of w p.frame.reliable) (give w)
-
--- refusal 7's case
-abbrev pub is_beyond : Insert → Bool
-is_beyond Insert.Accepted = false
-is_beyond Insert.TooLarge = false
-is_beyond Insert.Old = false
-is_beyond Insert.Beyond = true
 
 -- What holds when a datagram's frames begin: no refusal before 7 applies.
 pub record Begun (low : ℕ) (bits ns : List ℕ) (rs : List Row) (turn : ℕ) (d : List ℕ) : Type 0 where
@@ -43,7 +35,7 @@ pub record Begun (low : ℕ) (bits ns : List ℕ) (rs : List Row) (turn : ℕ) (
 
 -- the counts that they begin with
 abbrev pub begun_tally : ℕ → Tally
-begun_tally turn = record { turn = turn; ready = 0; dropped = 0; full = 0 }
+begun_tally turn = record { turn = turn; ready = 0; dropped = 0; full = false }
 
 -- What holds when they are done: the working state is that of the definition, so is the window of reliable numbers, and the profile stays.
 pub record Passes (low : ℕ) (bits ns : List ℕ) (rs : List Row) (turn : ℕ) (d : List ℕ) (low' : ℕ) (y : Tally) (left : ℕ)
@@ -55,7 +47,7 @@ pub record Passes (low : ℕ) (bits ns : List ℕ) (rs : List Row) (turn : ℕ) 
   pub end : left ≡ bytes_left (profile_for ns) d
   pub profile : profile_at ns' ≡ profile_at ns
 
--- what the frames come to, with the bits, the nexts and the rows afterwards
-unfoldable pub Ran : ℕ → List ℕ → List ℕ → List Row → ℕ → List ℕ → Framed → List ℕ → List ℕ → List Row → Type 0
-Ran low bits ns rs turn d Beyond bits' ns' rs' = accept_all (window_of low bits) (frames_in (profile_for ns) d) ≡ none
-Ran low bits ns rs turn d (Done low' y left) bits' ns' rs' = Passes low bits ns rs turn d low' y left bits' ns' rs'
+-- what the frames come to, with the bits, the nexts and the rows afterwards: 7 where a number is beyond reach
+unfoldable pub Ran : ℕ → List ℕ → List ℕ → List Row → ℕ → List ℕ → Result Framed Refusal → List ℕ → List ℕ → List Row → Type 0
+Ran low bits ns rs turn d (Err r) bits' ns' rs' = (r ≡ ReliableBeyond) × (accept_all (window_of low bits) (frames_in (profile_for ns) d) ≡ none)
+Ran low bits ns rs turn d (Ok f) bits' ns' rs' = Passes low bits ns rs turn d f.low f.counts f.left bits' ns' rs'

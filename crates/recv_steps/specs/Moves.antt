@@ -6,8 +6,6 @@ use Rattle.bare.specs.Frame.{Frame, in_limits}
 use Rattle.cells.specs.Cell.{Slot, open_as, bears, all_there, clash, put_slot, slot_of, turn_to, open_use, ready_use}
 use Rattle.cells.specs.Datagram.{Work, Fate, fate_of, drop_one, place, made, roomy, kept, keep_in}
 use Rattle.cells.proofs.SoundCore.{Core}
-use Rattle.window.specs.declared.Insert.{Insert}
-use Rattle.window.specs.declared.Insert.TheVariants.{Accepted, TooLarge, Old, Beyond}
 use Rattle.receiver.specs.Parts.{profile_at}
 use Rattle.receiver.specs.Receive.{frame_in}
 use Rattle.rows.specs.declared.Row.{Row}
@@ -57,10 +55,3 @@ by_fate g f w = g (fate_of f w) f w
 -- steps 2 to 4
 unfoldable pub limited : Frame → Work → Work
 limited f w = cond (in_limits f) (keep_in f w) (drop_one w)
-
--- steps 2 to 4 of a frame whose number was inserted with this answer: "Reliable number accepted before: drop."
-unfoldable pub by_insert : Insert → Frame → Work → Work
-by_insert Accepted f w = limited f w
-by_insert TooLarge f w = drop_one w
-by_insert Old f w = drop_one w
-by_insert Beyond f w = drop_one w

@@ -1,6 +1,8 @@
--- What a receive on rows comes to: document 01's answer for each case of the code's, and what the call leaves of all that it was lent.
-use Rattle.std.specs.Prelude.{ℕ, Bool, false, cond, ◌||◌, List, map, eqb, length, replicate}
+-- What a receive on rows comes to: its answer, and what the call leaves of all that it was lent.
+use Rattle.std.specs.Prelude.{ℕ, Bool, false, cond, ◌||◌, List, map, eqb, length, replicate, Result, Ok, Err}
 use Rattle.base.specs.Answer.{Answer, refused, gives}
+use Rattle.base.specs.declared.refusal.Refusal.{Refusal}
+use Rattle.base.specs.Refusals.{answer_by}
 use Rattle.base.specs.If.{if_true}
 use Rattle.ack.specs.Write.{ascending}
 use Rattle.rows.specs.declared.Row.{Row}
@@ -11,23 +13,26 @@ use Rattle.receiver.specs.Queue.{unsent_of}
 use Rattle.receiver.specs.Parts.{nexts_of, arrays_fit}
 use Rattle.receiver.specs.Receive.{Report, Received, refused_result}
 use Rattle.recv_prefix.specs.Receiving.{receive_first}
-use Rattle.recv_steps.specs.declared.Receive.{Receive}
-use Rattle.recv_steps.specs.declared.Receive.TheVariants.{NotSound, TooShort, TooLong, NotDatagram, Old, Beyond, UnsentFull}
-use Rattle.recv_steps.specs.declared.Receive.TheVariants.{ReliableBeyond, NoRoom, Accepted}
+use Rattle.recv_steps.specs.declared.Received as Code
 use Rattle.recv_steps.specs.declared.PassedRows.{PassedRows}
 
--- document 01's numbers and values
-unfoldable pub receive_answer : Receive → Answer Report
-receive_answer NotSound = refused 9
-receive_answer TooShort = refused 1
-receive_answer TooLong = refused 2
-receive_answer NotDatagram = refused 3
-receive_answer Old = refused 4
-receive_answer Beyond = refused 5
-receive_answer UnsentFull = refused 6
-receive_answer ReliableBeyond = refused 7
-receive_answer NoRoom = refused 8
-receive_answer (Accepted ready dropped left) = gives (record { ready = ready; dropped = dropped; left = left })
+-- document 01's values
+unfoldable pub report_of : Code.Received → Report
+report_of r = record { ready = r.ready; dropped = r.dropped; left = r.left }
+
+-- what the call answers, without the rest
+abbrev pub received_of : Result PassedRows Refusal → Result Code.Received Refusal
+received_of (Ok p) = Ok p.received
+received_of (Err r) = Err r
+
+-- low of the window of reliable numbers, and whether the unsent numbers ascend; where the call refuses, low stays, and it does not say
+abbrev pub low_left : ℕ → Result PassedRows Refusal → ℕ
+low_left low (Ok p) = p.low
+low_left low (Err r) = low
+
+abbrev pub ascends_left : Result PassedRows Refusal → Bool
+ascends_left (Ok p) = p.ascending
+ascends_left (Err r) = false
 
 -- the answer, low and bits of the window of reliable numbers, whether the unsent numbers ascend, the nexts and memories, the rows, the
 -- words after them, and the store
@@ -41,13 +46,13 @@ pub record RowsReceived : Type 0 where
   pub after : List ℕ
   pub store : List ℕ
 
--- a call's outcome, of what it returns and of the last values of what it was lent
-unfoldable pub rows_passed : PassedRows → List ℕ → List ℕ → List Row → List ℕ → List ℕ → RowsReceived
-rows_passed r bits nexts rows after store =
+-- a call's outcome, of the window's low before it, of what it returns and of the last values of what it was lent
+unfoldable pub rows_passed : ℕ → Result PassedRows Refusal → List ℕ → List ℕ → List Row → List ℕ → List ℕ → RowsReceived
+rows_passed low r bits nexts rows after store =
     record {
-      answer = receive_answer r.answer;
-      low = r.low;
-      ascending = r.ascending;
+      answer = answer_by report_of (received_of r);
+      low = low_left low r;
+      ascending = ascends_left r;
       bits = bits;
       nexts = nexts;
       rows = rows;

@@ -1,5 +1,6 @@
 -- A receive on rows, from one refusal to the next: what is known when the later ones are asked, and what is returned.
-use Rattle.std.specs.Prelude.{ℕ, ◌<◌, ◌≤◌, ◌≡◌, Bool, true, false, List, [], map, length, get_or}
+use Rattle.std.specs.Prelude.{ℕ, ◌<◌, ◌≤◌, ◌≡◌, Bool, true, false, List, [], map, length, get_or, Result}
+use Rattle.base.specs.declared.refusal.Refusal.{Refusal}
 use Rattle.base.specs.Limits.{min_datagram, max_datagram, max_unsent, window_places}
 use Rattle.base.specs.Lists.{count_of}
 use Rattle.base.specs.Numbers.{distance}
@@ -8,31 +9,29 @@ use Rattle.ack.specs.Write.{ascending}
 use Rattle.cells.specs.Records.{before_cell}
 use Rattle.rows.specs.declared.Row.{Row}
 use Rattle.rows.specs.Rows.{rows_of, cells_in, cell_of, mark_row, change_rows}
-use Rattle.receiver.specs.declared.Heads.{Heads}
 use Rattle.receiver.specs.declared.RecvQueue.{RecvQueue}
 use Rattle.receiver.specs.Parts.{arrays_fit}
 use Rattle.receiver.specs.Queue.{unsent_of}
 use Rattle.receiver.specs.Receive.{datagram_number, is_datagram, sound_call, receive_of}
 use Rattle.row_tests.specs.Uses.{uses}
-use Rattle.recv_steps.specs.declared.Tally.{Tally}
-use Rattle.recv_steps.specs.declared.Receive.{Receive}
-use Rattle.recv_steps.specs.declared.Receive.TheVariants.{Accepted}
+use Rattle.recv_steps.specs.declared.Framed.{Framed}
 use Rattle.recv_steps.specs.declared.PassedRows.{PassedRows}
 use Rattle.recv_steps.specs.Flush.{stored}
 use Rattle.recv_steps.specs.Outcome.{rows_passed, rows_outcome}
 use Rattle.cells.specs.Cell.{ready_use}
 
--- what a datagram comes to that is refused, and one that is accepted
-abbrev pub refusal : Heads → Receive → PassedRows
-refusal h a = record { answer = a; low = h.reliables; ascending = false }
-
-abbrev pub acceptance : ℕ → Bool → Tally → ℕ → PassedRows
-acceptance low ascends x left = record { answer = Accepted x.ready x.dropped left; low = low; ascending = ascends }
+-- what a datagram comes to that is accepted
+abbrev pub acceptance : Framed → Bool → PassedRows
+acceptance f ascends = record {
+  received = record { ready = f.counts.ready; dropped = f.counts.dropped; left = f.left };
+  low = f.low;
+  ascending = ascends;
+}
 
 -- r, and the bits, the nexts, the rows of the words and the store afterwards, are what the definition says of all rows of the words; q was
 -- made of the nexts and memories ns
-pub record Receives (q : RecvQueue) (ns ws st d : List ℕ) (r : PassedRows) (bits ns' ws' st' : List ℕ) : Type 0 where
-  pub is : rows_passed r bits ns' (rows_of ws') [] st' ≡ rows_outcome q ns (rows_of ws) [] (receive_of q (cells_in ws) st d)
+pub record Receives (q : RecvQueue) (ns ws st d : List ℕ) (r : Result PassedRows Refusal) (bits ns' ws' st' : List ℕ) : Type 0 where
+  pub is : rows_passed q.reliables.low r bits ns' (rows_of ws') [] st' ≡ rows_outcome q ns (rows_of ws) [] (receive_of q (cells_in ws) st d)
 
 -- refusal 9 does not apply; ascends: so do the unsent numbers
 pub record Judged (q : RecvQueue) (ns ws st : List ℕ) (ascends : Bool) : Type 0 where

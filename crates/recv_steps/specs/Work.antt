@@ -1,5 +1,5 @@
 -- What a datagram's counts, nexts, memories, profile and rows mean: the working state of the receiver with cells.
-use Rattle.std.specs.Prelude.{ℕ, Bool, List, eqb}
+use Rattle.std.specs.Prelude.{ℕ, Bool, List}
 use Rattle.cells.specs.Datagram.{Work, Fate, late, early, due, newer, free}
 use Rattle.rows.specs.declared.Row.{Row}
 use Rattle.row_slots.specs.Slots.{slots_in}
@@ -16,7 +16,7 @@ work_of a x ns rs store d =
           record { profile = profile_for ns; accepted = a; next = next_at ns; newest = newest_at ns; slots = slots_in rs store d };
       counts = record { ready = x.ready; dropped = x.dropped };
       turn = x.turn;
-      full = eqb x.full 1;
+      full = x.full;
     }
 
 -- what the code found of a message in step 4

@@ -9,7 +9,7 @@ ghost use Rattle.recv_steps.specs.declared.Tally.{Tally};
 ghost use Rattle.recv_steps.specs.Work.{work_of, fate_is};
 ghost use Rattle.recv_steps.specs.CountChanges.{dropped_one, filled_up, made_one, risen};
 ghost use Rattle.base.specs.Lists.{any};
-ghost use Rattle.bare.specs.Frame.{in_limits, ordered, sequenced};
+ghost use Rattle.bare.specs.Frame.{in_limits};
 ghost use Rattle.cells.specs.Cell.{is_free, put_slot, slot_of};
 ghost use Rattle.cells.specs.Datagram.{fate_of};
 ghost use Rattle.rows.specs.Rows.{rows_of};
@@ -26,51 +26,69 @@ mod steps;
 
 pub use steps::datagram::receive::receive_rows;
 
-// Refusals: 9, 1, 2, 3, 4, 5, 6, 7, 8.
-#[derive(Clone, Copy)]
-pub enum Receive {
-    NotSound,
-    TooShort,
-    TooLong,
-    NotDatagram,
-    Old,
-    Beyond,
-    UnsentFull,
-    ReliableBeyond,
-    NoRoom,
-    Accepted {
-        ready: u32,
-        dropped: u32,
-        left: usize,
-    },
+// What an accepted datagram comes to: how many messages were made ready and how many frames dropped, and the bytes left.
+#[derive(Clone, Copy, Debug, PartialEq, Eq)]
+pub struct Received {
+    pub ready: u32,
+    pub dropped: u32,
+    pub left: usize,
 }
 
-// What receive on rows answers: low of the window of reliable numbers, and whether the unsent numbers ascend.
-#[derive(Clone, Copy)]
+// What receive on rows gives: low of the window of reliable numbers, and whether the unsent numbers ascend.
+#[derive(Clone, Copy, Debug, PartialEq, Eq)]
 pub struct PassedRows {
-    pub answer: Receive,
+    pub received: Received,
     pub low: u32,
     pub ascending: bool,
 }
 
-// What a datagram's frames count. turn: that of the next message made ready. full is 1 where a body found no cell.
+// What a datagram's frames count. turn: that of the next message made ready. full: a body found no cell.
 #[derive(Clone, Copy)]
 struct Tally {
     turn: u32,
     ready: u32,
     dropped: u32,
-    full: u32,
+    full: bool,
 }
 
-// What the frames come to: a reliable number above low + 2,048; else, all worked on, the window's low, the counts and the bytes left.
+impl Tally {
+    #[tactic(auto, unfolding(crate::specs::CountChanges::dropped_one))]
+    fn drop_one(self) -> Tally
+        requires { self.dropped + 1 < 2 ^ 32 }
+        ensures { result ≡ dropped_one self }
+    {
+        Tally {
+            dropped: self.dropped + 1,
+            ..self
+        }
+    }
+
+    #[tactic(auto, unfolding(crate::specs::CountChanges::filled_up))]
+    fn fill_up(self) -> Tally
+        ensures { result ≡ filled_up self }
+    {
+        Tally { full: true, ..self }
+    }
+
+    #[tactic(auto, unfolding(crate::specs::CountChanges::made_one))]
+    fn make_one(self) -> Tally
+        requires { (self.turn + 1 < 2 ^ 32) × (self.ready + 1 < 2 ^ 32) }
+        ensures { result ≡ made_one self }
+    {
+        Tally {
+            turn: self.turn + 1,
+            ready: self.ready + 1,
+            ..self
+        }
+    }
+}
+
+// What the frames come to, all worked on: the window's low, the counts and the bytes left.
 #[derive(Clone, Copy)]
-enum Framed {
-    Beyond,
-    Done {
-        low: u32,
-        counts: Tally,
-        left: usize,
-    },
+struct Framed {
+    low: u32,
+    counts: Tally,
+    left: usize,
 }
 
 // What step 4 does with a message: drop it, hold it, make it ready with the held ones that follow, make it ready and remember its sequence
@@ -84,34 +102,7 @@ enum Course {
     Free,
 }
 
-// ---- counts and nexts
-
-fn drop_one(s: Tally) -> Tally
-    requires { s.dropped + 1 < 2 ^ 32 }
-    ensures { result ≡ dropped_one s }
-{
-    Tally {
-        dropped: s.dropped + 1,
-        ..s
-    }
-}
-
-fn fill_up(s: Tally) -> Tally
-    ensures { result ≡ filled_up s }
-{
-    Tally { full: 1, ..s }
-}
-
-fn make_one(s: Tally) -> Tally
-    requires { (s.turn + 1 < 2 ^ 32) × (s.ready + 1 < 2 ^ 32) }
-    ensures { result ≡ made_one s }
-{
-    Tally {
-        turn: s.turn + 1,
-        ready: s.ready + 1,
-        ..s
-    }
-}
+// ---- nexts
 
 fn next_of(nexts: &[u32], channel: u32) -> u32
     requires channel_lt_max_ord_chans { channel < max_ord_chans }
@@ -121,6 +112,7 @@ fn next_of(nexts: &[u32], channel: u32) -> u32
     nexts[2 * channel as usize]
 }
 
+#[tactic(auto, unfolding(crate::specs::CountChanges::risen))]
 fn rise(nexts: &mut [u32], channel: u32)
     requires channel_lt_max_ord_chans { channel < max_ord_chans }
     requires nexts_len { length nexts.old ≡ many_nexts }
@@ -133,6 +125,7 @@ fn rise(nexts: &mut [u32], channel: u32)
 
 // ---- a frame
 
+#[tactic(auto, unfolding(bare::specs::Frame::in_limits, receiver::specs::Receive::frame_in))]
 fn in_limits(placed: Placed) -> bool
     ensures { (d : List ℕ) → result ≡ in_limits (frame_in d placed) }
 {
@@ -142,52 +135,27 @@ fn in_limits(placed: Placed) -> bool
     (f.channel < base::MAX_ORD_CHANS) & (!f.piece | few)
 }
 
-fn is_ordered(kind: u8) -> bool
-    ensures { result ≡ ordered kind }
-{
-    (kind == 3) | (kind == 7)
-}
-
-fn is_sequenced(kind: u8) -> bool
-    ensures { result ≡ sequenced kind }
-{
-    (kind == 1) | (kind == 4)
-}
-
-fn index_of(placed: Placed) -> u32
-    ensures { result ≡ (row_for placed 0 0).index }
-{
-    if placed.frame.piece {
-        return placed.frame.meta.index;
-    }
-    0
-}
-
-fn count_of(placed: Placed) -> u32
-    ensures { result ≡ (row_for placed 0 0).count }
-{
-    if placed.frame.piece {
-        return placed.frame.meta.count;
-    }
-    1
-}
-
 fn row_of(placed: Placed, used: u32, turn: u32) -> Row
     requires { ReadablePlaced placed }
     ensures { result ≡ row_for placed used turn }
 {
     let f = placed.frame;
+    let (index, count) = if f.piece {
+        (f.meta.index, f.meta.count)
+    } else {
+        (0, 1)
+    };
     Row {
-        used: used,
-        kind: f.kind as u32,
-        channel: f.channel as u32,
-        id: f.meta.id as u32,
-        index: index_of(placed),
-        count: count_of(placed),
+        used,
+        kind: f.kind.into(),
+        channel: f.channel.into(),
+        id: f.meta.id.into(),
+        index,
+        count,
         length: placed.len as u32,
         sequence: f.sequence,
         order: f.order,
-        turn: turn,
+        turn,
         place: placed.start as u32 + 1,
     }
 }
@@ -216,25 +184,29 @@ fn fate_of(words: &[u32], nexts: &[u32], placed: Placed) -> Course
         ≡ fate_of (frame_in d placed) (work_of a x nexts.now (rows_of words.now) store d) }
 {
     let f = placed.frame;
-    if is_ordered(f.kind) {
-        let channel = f.channel as u32;
-        let next = next_of(nexts, channel);
-        if f.order < next {
-            return Course::Late;
+    match f.kind {
+        // ordered
+        3 | 7 => {
+            let channel = f.channel.into();
+            let next = next_of(nexts, channel);
+            if f.order < next {
+                return Course::Late;
+            }
+            if row_scans::any_held(words, channel, f.order) {
+                return Course::Late;
+            }
+            if f.order == next {
+                return Course::Due;
+            }
+            Course::Early
         }
-        if row_scans::any_held(words, channel, f.order) {
-            return Course::Late;
+        // sequenced
+        1 | 4 => {
+            if recv_memory::is_older(nexts, f.kind, f.channel, f.sequence) {
+                return Course::Late;
+            }
+            Course::Newer
         }
-        if f.order == next {
-            return Course::Due;
-        }
-        return Course::Early;
+        _ => Course::Free,
     }
-    if is_sequenced(f.kind) {
-        if recv_memory::is_older(nexts, f.kind, f.channel, f.sequence) {
-            return Course::Late;
-        }
-        return Course::Newer;
-    }
-    Course::Free
 }

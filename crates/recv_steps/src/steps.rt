@@ -6,13 +6,12 @@ ghost use Rattle.rows.specs.Rows.{row_count, rows_of};
 ghost use Rattle.receiver.specs.Receive.{frame_in};
 ghost use Rattle.recv_steps.specs.CountChanges.{made_one, CanCount, Rises};
 ghost use Rattle.recv_steps.specs.Placing.{Stands, ReadablePlaced, Limited};
-ghost use Rattle.recv_steps.specs.Moves.{Moves, by_fate, Counted, Sane, Beside, put_piece, turn_ready, limited, by_insert};
+ghost use Rattle.recv_steps.specs.Moves.{Moves, by_fate, Counted, Sane, Beside, put_piece, turn_ready, limited};
 ghost use Rattle.cells.specs.Datagram as Datagram;
 
 use super::{Course, Tally};
 use frame::Placed;
 use rows::ROW;
-use window::Insert;
 
 pub mod datagram;
 
@@ -26,17 +25,14 @@ fn follows(words: &mut [u32], nexts: &mut [u32], s: Tally, channel: u32) -> Tall
         result nexts.new (rows_of words.new) }
 {
     super::rise(nexts, channel);
-    let mut left = words.len() / ROW;
     let mut t = s;
-    while 0 < left {
+    for _ in 0..words.len() / ROW {
         let next = super::next_of(nexts, channel);
-        if row_sweeps::turn_held(words, channel, next, t.turn) {
-            super::rise(nexts, channel);
-            t = super::make_one(t);
-            left -= 1;
-        } else {
+        if !row_sweeps::turn_held(words, channel, next, t.turn) {
             return t;
         }
+        super::rise(nexts, channel);
+        t = t.make_one();
     }
     t
 }
@@ -50,7 +46,7 @@ fn hold(words: &mut [u32], s: Tally, placed: Placed) -> Tally
     if super::put_frame(words, placed, cells::HELD, 0) {
         return s;
     }
-    super::fill_up(s)
+    s.fill_up()
 }
 
 // A whole frame is made ready that no other follows.
@@ -61,9 +57,9 @@ fn ready(words: &mut [u32], s: Tally, placed: Placed) -> Tally
         (rows_of words.old) result ns (rows_of words.new) }
 {
     if super::put_frame(words, placed, cells::READY, s.turn) {
-        return super::make_one(s);
+        return s.make_one();
     }
-    super::fill_up(s)
+    s.fill_up()
 }
 
 // A whole frame of the channel's next message is made ready, and the held ones follow.
@@ -77,10 +73,10 @@ fn ready_due(words: &mut [u32], nexts: &mut [u32], s: Tally, placed: Placed) -> 
         s nexts.old (rows_of words.old) result nexts.new (rows_of words.new) }
 {
     if super::put_frame(words, placed, cells::READY, s.turn) {
-        let t = super::make_one(s);
-        return follows(words, nexts, t, placed.frame.channel as u32);
+        let t = s.make_one();
+        return follows(words, nexts, t, placed.frame.channel.into());
     }
-    super::fill_up(s)
+    s.fill_up()
 }
 
 // A whole frame is a message at once.
@@ -94,7 +90,7 @@ fn whole(words: &mut [u32], nexts: &mut [u32], s: Tally, placed: Placed) -> Tall
         s nexts.old (rows_of words.old) result nexts.new (rows_of words.new) }
 {
     match super::fate_of(words, nexts, placed) {
-        Course::Late => super::drop_one(s),
+        Course::Late => s.drop_one(),
         Course::Early => hold(words, s, placed),
         Course::Due => ready_due(words, nexts, s, placed),
         Course::Newer => {
@@ -113,7 +109,7 @@ fn turn_ready(words: &mut [u32], s: Tally, id: u32) -> Tally
     ensures is { (ns d : List ℕ) → Moves d (turn_ready id) s ns (rows_of words.old) result ns (rows_of words.new) }
 {
     row_sweeps::turn_open(words, id, cells::READY, s.turn);
-    super::make_one(s)
+    s.make_one()
 }
 
 // A joined message's cells are there already.
@@ -126,11 +122,11 @@ fn joins(words: &mut [u32], nexts: &mut [u32], s: Tally, placed: Placed) -> Tall
     ensures { (d : List ℕ) → Moves d (by_fate Datagram.joins (frame_in d placed)) s nexts.old (rows_of words.old)
         result nexts.new (rows_of words.new) }
 {
-    let id = placed.frame.meta.id as u32;
+    let id = placed.frame.meta.id.into();
     match super::fate_of(words, nexts, placed) {
         Course::Late => {
             row_sweeps::turn_open(words, id, cells::RELEASED, 0);
-            super::drop_one(s)
+            s.drop_one()
         }
         Course::Early => {
             row_sweeps::turn_open(words, id, cells::HELD, 0);
@@ -138,14 +134,14 @@ fn joins(words: &mut [u32], nexts: &mut [u32], s: Tally, placed: Placed) -> Tall
         }
         Course::Due => {
             let t = turn_ready(words, s, id);
-            follows(words, nexts, t, placed.frame.channel as u32)
+            follows(words, nexts, t, placed.frame.channel.into())
         }
         Course::Newer => {
             let f = placed.frame;
             recv_memory::remember(nexts, f.kind, f.channel, f.sequence);
             turn_ready(words, s, id)
         }
-        Course::Free => { turn_ready(words, s, id) }
+        Course::Free => turn_ready(words, s, id),
     }
 }
 
@@ -160,7 +156,7 @@ fn kept(words: &mut [u32], nexts: &mut [u32], s: Tally, placed: Placed) -> Tally
         s nexts.old (rows_of words.old) result nexts.new (rows_of words.new) }
 {
     let m = placed.frame.meta;
-    let n = row_scans::count_open(words, m.id as u32);
+    let n = row_scans::count_open(words, m.id.into());
     if n == m.count as usize {
         return joins(words, nexts, s, placed);
     }
@@ -183,7 +179,7 @@ fn put_piece(words: &mut [u32], nexts: &mut [u32], s: Tally, placed: Placed) -> 
     if super::put_frame(words, placed, cells::OPEN, 0) {
         return kept(words, nexts, s, placed);
     }
-    super::fill_up(s)
+    s.fill_up()
 }
 
 // Step 3, for a piece within the limits.
@@ -199,7 +195,7 @@ fn piece(words: &mut [u32], nexts: &mut [u32], s: Tally, placed: Placed) -> Tall
 {
     let row = super::row_of(placed, cells::OPEN, 0);
     if row_scans::any_clash(words, row) {
-        return super::drop_one(s);
+        return s.drop_one();
     }
     put_piece(words, nexts, s, placed)
 }
@@ -219,22 +215,5 @@ fn keep_in(words: &mut [u32], nexts: &mut [u32], s: Tally, placed: Placed) -> Ta
         }
         return whole(words, nexts, s, placed);
     }
-    super::drop_one(s)
-}
-
-// Steps 2 to 4 of a frame whose reliable number, if it carries one, was inserted with this answer.
-fn step(words: &mut [u32], nexts: &mut [u32], s: Tally, placed: Placed, answer: Insert) -> Tally
-    requires readable_placed { ReadablePlaced placed }
-    requires words_bound { row_count words.old ≤ max_cells }
-    requires can_count { CanCount (max_cells + 2) s }
-    requires rises { Rises (max_cells + 1) nexts.old }
-    ensures { (d : List ℕ) → Stands d placed → Sane d (rows_of words.old) → Moves d (by_insert answer (frame_in d placed))
-        s nexts.old (rows_of words.old) result nexts.new (rows_of words.new) }
-{
-    match answer {
-        Insert::Accepted => keep_in(words, nexts, s, placed),
-        Insert::TooLarge => super::drop_one(s),
-        Insert::Old => super::drop_one(s),
-        Insert::Beyond => super::drop_one(s),
-    }
+    s.drop_one()
 }

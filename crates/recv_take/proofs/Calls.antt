@@ -10,6 +10,10 @@ use native.Mathlib.Omega.{arith}
 use lib.Dec.{eqb}
 use lib.ListN.{length}
 use borrow.Author.Tests.{eq-eqb, ltb-true}
+use Rattle.std.specs.Prelude.{Result, Err}
+use Rattle.std.specs.Result.{is_ok}
+use Rattle.base.specs.declared.refusal.Refusal.{Refusal}
+use Rattle.base.specs.declared.refusal.Refusal.TheVariants.{NotSound, NoneReady}
 use Rattle.base.specs.Limits.{cell_bytes, max_frags}
 use Rattle.base.specs.Lists.{find, any}
 use Rattle.base.proofs.Choices.{cases, case_option, and_left, and_right, and_both}
@@ -33,15 +37,14 @@ use Rattle.rows.specs.declared.Row.{Row}
 use Rattle.rows.specs.Whole.{whole_row}
 use Rattle.row_scans.specs.Ready.{first_ready}
 use Rattle.row_scans.proofs.Ready.{index-there, ready-is, ready-none}
-use Rattle.sound_queue.specs.declared.QueueSound.{QueueSound}
 use Rattle.sound_queue.specs.Sound.{queue_sound_of}
+use Rattle.sound_queue.proofs.Rules.{told_is_ok}
 use Rattle.receiver.specs.declared.RecvQueue.{RecvQueue}
 use Rattle.receiver.specs.Queue.{next_of, sound_queue}
 use Rattle.receiver.specs.Receive.{sound_call}
 use Rattle.receiver.specs.Take.{take_refuses, take_of}
 use Rattle.receiver.proofs.Receives.{store_is, cells-sound}
-use Rattle.recv_take.specs.declared.Take.TheVariants.{NotSound, NoneReady}
-use Rattle.recv_take.specs.Outcome.{take_answer, RowsTaken, taken_rows, outcome_at, earliest_turn}
+use Rattle.recv_take.specs.Outcome.{RowsTaken, taken_rows, outcome_at, earliest_turn}
 use Rattle.recv_take.specs.Pieces.{piece_at, PieceFits, Takeable, take_turn}
 use Rattle.recv_take.proofs.Turns.{ready-used, first-turn}
 
@@ -132,24 +135,20 @@ module _ (q : RecvQueue) (ws st : List ℕ) {fit : Bool} (e : fit ≡ lengths (r
   unfolding sound_call
   lengths-not f = rw (cells-length ws, ← e, f)
 
-  module _ (f : fit ≡ true) (r : QueueSound) (g : r ≡ queue_sound_of q) where
-    tells : r.sound ≡ sound_queue q
-    unfolding queue_sound_of
-    tells = ap (λ (x : QueueSound). x.sound) g
-
-    pub queue-not : r.sound ≡ false → false ≡ sound_call q (cells_in ws) st
+  module _ (f : fit ≡ true) (r : Result Bool Refusal) (g : r ≡ queue_sound_of q) (b : Bool) (h : b ≡ is_ok r) where
+    pub queue-not : b ≡ false → b ≡ sound_call q (cells_in ws) st
     unfolding sound_call
-    queue-not h = rw (cells-length ws, ← e, f, ← tells, h)
+    queue-not k = rw (cells-length ws, ← e, f, ← told_is_ok q r g, ← h, k)
 
-    pub cells-decide : r.sound ≡ true → (s : Bool) → s ≡ sound_cells (cells_in ws) (next_of q) → s ≡ sound_call q (cells_in ws) st
+    pub cells-decide : b ≡ true → (s : Bool) → s ≡ sound_cells (cells_in ws) (next_of q) → s ≡ sound_call q (cells_in ws) st
     unfolding sound_call
-    cells-decide h s k = rw (cells-length ws, ← e, f, ← tells, h) k
+    cells-decide k s i = rw (cells-length ws, ← e, f, ← told_is_ok q r g, ← h, k) i
 
 -- ---- the code's three ways
 
 module _ (q : RecvQueue) (cs : List Cell) (st buffer : List ℕ) {b : Bool} (is : b ≡ sound_call q cs st) where
-  pub took-9 : b ≡ false → taken_rows (record { answer = NotSound; turn = 0 }) buffer ≡ outcome_at (earliest_turn cs) (take_of q cs st buffer)
-  unfolding taken_rows outcome_at take_answer take_of
+  pub took-9 : b ≡ false → taken_rows (Err NotSound) buffer ≡ outcome_at (earliest_turn cs) (take_of q cs st buffer)
+  unfolding taken_rows outcome_at take_of
   took-9 f = ap (outcome_at (earliest_turn cs)) (true-no _ _ _ _ (sym is ∙ f) refl)
 
 -- i is where the scan ended.
@@ -158,9 +157,9 @@ module _ (q : RecvQueue) (ws st buffer : List ℕ) {b : Bool} (is : b ≡ sound_
   abbrev cs : List Cell
   cs = cells_in ws
 
-  pub took-20 : row_count ws ≤ i → taken_rows (record { answer = NoneReady; turn = 0 }) buffer ≡ outcome_at (earliest_turn cs)
+  pub took-20 : row_count ws ≤ i → taken_rows (Err NoneReady) buffer ≡ outcome_at (earliest_turn cs)
       (take_of q cs st buffer)
-  unfolding taken_rows outcome_at take_answer take_of
+  unfolding taken_rows outcome_at take_of
   took-20 le = ap (outcome_at (earliest_turn cs)) given
     where
       none-ready : earliest_cell cs ≡ none

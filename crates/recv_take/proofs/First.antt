@@ -8,7 +8,11 @@ use native.Mathlib.Omega.{arith}
 use lib.Dec.{leb, eqb}
 use lib.ListN.{length, take}
 use borrow.Author.Tests.{leb-true, eqb-true}
+use Rattle.std.specs.Prelude.{Result, Err}
 use Rattle.base.specs.Answer.{Answer, refused, gives}
+use Rattle.base.specs.declared.refusal.Refusal.{Refusal}
+use Rattle.base.specs.declared.refusal.Refusal.TheVariants.{NotSound}
+use Rattle.base.specs.Refusals.{answer_by}
 use Rattle.base.specs.Limits.{max_cells, cell_bytes}
 use Rattle.base.proofs.Choices.{by_bool, and_left, and_right}
 use Rattle.base.proofs.Ifs.{true-yes, true-no, le_yes, le-no}
@@ -26,10 +30,9 @@ use Rattle.receiver.specs.declared.RecvQueue.{RecvQueue}
 use Rattle.receiver.specs.Take.{Handed, TakeResult, handed, take_of}
 use Rattle.receiver.proofs.AnswerCases.{by-true, by-lt, by_le, take-ways}
 use Rattle.recv_prefix.specs.Taking.{take_first}
-use Rattle.recv_take.specs.declared.Take.TheVariants.{NotSound}
 use Rattle.recv_take.specs.declared.TakenRows.{TakenRows}
-use Rattle.recv_take.specs.Outcome.{take_answer, take_result, RowsTaken, taken_rows, turn_taken, outcome_at, earliest_turn, take_rows_of}
-use Rattle.recv_take.specs.Outcome.{records_left}
+use Rattle.recv_take.specs.Outcome.{handed_of, take_result, RowsTaken, without_turn, turn_given, taken_rows, turn_taken, outcome_at}
+use Rattle.recv_take.specs.Outcome.{earliest_turn, take_rows_of, records_left}
 use Rattle.recv_take.proofs.Calls.{slots-earliest}
 
 -- ---- rows and cells at hand
@@ -52,8 +55,8 @@ cells-few n m bytes fit e le = let a = leb-true n max_cells (and_left (leb n max
 -- ---- the code's three ways: b says whether the lengths of all n cells fit, and m is how many records are at hand
 
 module _ (q : RecvQueue) (k n : ℕ) (ws st out : List ℕ) {b : Bool} (fit : b ≡ lengths n (length st)) where
-  pub unfit-takes : b ≡ false → taken_rows (record { answer = NotSound; turn = 0 }) out ≡ take_rows_of q k n ws st out
-  unfolding taken_rows take_answer take_rows_of take_first outcome_at
+  pub unfit-takes : b ≡ false → taken_rows (Err NotSound) out ≡ take_rows_of q k n ws st out
+  unfolding taken_rows take_rows_of take_first outcome_at
   unfit-takes e = ap (outcome_at (earliest_turn (first_cells k ws))) (true-no _ _ _ _ (sym fit ∙ e) refl)
 
   module _ {m : ℕ} (e : b ≡ true) (are : m ≡ rows_in k (length ws)) where
@@ -61,8 +64,8 @@ module _ (q : RecvQueue) (k n : ℕ) (ws st out : List ℕ) {b : Bool} (fit : b 
     many = first-length k ws ∙ sym are
 
     -- there are fewer cells than records at hand
-    pub over-takes : n < m → taken_rows (record { answer = NotSound; turn = 0 }) out ≡ take_rows_of q k n ws st out
-    unfolding taken_rows take_answer take_rows_of take_first outcome_at
+    pub over-takes : n < m → taken_rows (Err NotSound) out ≡ take_rows_of q k n ws st out
+    unfolding taken_rows take_rows_of take_first outcome_at
     over-takes lt = ap (outcome_at (earliest_turn (first_cells k ws))) (true-yes _ _ _ _ (sym fit ∙ e) (le-no _ _ _ _ _ (rw many lt) refl))
 
     pub part-takes : m ≤ n → (x : RowsTaken) → x ≡ outcome_at (earliest_turn (cells_in (take (row_words * m) ws)))
@@ -101,16 +104,16 @@ first-leaves q n cs st buffer =
     (λ e. refl)
 
 -- What a take over the first rows says, with the records that it leaves, is the take over the first records.
-pub whole_take : (q : RecvQueue) (k n : ℕ) (ws st buffer : List ℕ) (r : TakenRows) (out : List ℕ) → taken_rows r out ≡ take_rows_of q k n ws st
-    buffer
-    → take_result r.answer (records_left (take_answer r.answer) r.turn (first_cells k ws)) out ≡ take_first q n (first_cells k ws) st
-    buffer
+pub whole_take : (q : RecvQueue) (k n : ℕ) (ws st buffer : List ℕ) (r : Result TakenRows Refusal) (out : List ℕ) → taken_rows r out
+    ≡ take_rows_of q k n ws st buffer
+    → take_result (without_turn r) (records_left (answer_by handed_of (without_turn r)) (turn_given r) (first_cells k ws)) out
+    ≡ take_first q n (first_cells k ws) st buffer
 unfolding taken_rows take_rows_of take_result outcome_at
 whole_take q k n ws st buffer r out e =
     let x : TakeResult = take_first q n (first_cells k ws) st buffer in
     let cs : List Cell = first_cells k ws in
-    let a : take_answer r.answer ≡ x.answer = ap (λ (y : RowsTaken). y.answer) e in
-    let t : r.turn ≡ turn_taken x.answer (earliest_turn cs) = ap (λ (y : RowsTaken). y.turn) e in
+    let a : answer_by handed_of (without_turn r) ≡ x.answer = ap (λ (y : RowsTaken). y.answer) e in
+    let t : turn_given r ≡ turn_taken x.answer (earliest_turn cs) = ap (λ (y : RowsTaken). y.turn) e in
     let o : out ≡ x.joined = ap (λ (y : RowsTaken). y.joined) e in
     rw (a, t, o) (ap (λ (l : List Cell). record { answer = x.answer; records = l; joined = x.joined })
     (left x.answer (earliest_turn cs) cs ∙ sym (first-leaves q n cs st buffer)))

@@ -11,6 +11,8 @@ use lib.Dec.{eqb}
 use lib.ListN.{length, take, drop, length-append, length-take, length-drop}
 use lib.Seq.{drop-drop}
 use borrow.Author.Tests.{eqb-true, eq-eqb, ne_eqb}
+use Rattle.std.specs.Prelude.{Ok, Err}
+use Rattle.base.specs.declared.refusal.Refusal.TheVariants.{NoRoom}
 use Rattle.base.specs.Limits.{cell_bytes, max_frags}
 use Rattle.base.specs.Lists.{option, find}
 use Rattle.base.specs.Put.{put, and_then}
@@ -25,8 +27,8 @@ use Rattle.rows.specs.declared.Row.{Row}
 use Rattle.rows.specs.Rows.{cell_of, cells_in}
 use Rattle.rows.specs.Whole.{whole_row}
 use Rattle.receiver.specs.Take.{handed}
-use Rattle.recv_take.specs.declared.Take.TheVariants.{ShortBuffer, InStore, Joined}
-use Rattle.recv_take.specs.Outcome.{take_answer, taken_rows, outcome_at}
+use Rattle.recv_take.specs.declared.Taken.TheVariants.{InStore, Joined}
+use Rattle.recv_take.specs.Outcome.{handed_of, taken_rows, outcome_at}
 use Rattle.recv_take.specs.Pieces.{piece_at, piece_bytes, length_to, joined_to, PieceFits, Takeable, take_turn}
 use Rattle.recv_take.proofs.Pieces.{piece-row, piece-ends}
 
@@ -156,11 +158,11 @@ module _ (t : ℕ) (ws st buffer : List ℕ) (j : ℕ) (r : Row) (v : Takeable t
       (sym (piece-row t ws 0 j r found is))
 
   -- "handed back as part of the store"
-  pub took-store : r.count ≡ 1 → taken_rows (record {
-    answer = InStore r.kind r.channel r.order (j * cell_bytes) r.length;
+  pub took-store : r.count ≡ 1 → taken_rows (Ok (record {
+    taken = InStore r.kind r.channel r.order (j * cell_bytes) r.length;
     turn = t;
-  }) buffer ≡ outcome_at t (take_turn t (cells_in ws) st buffer)
-  unfolding taken_rows outcome_at take_answer handed cell_of
+  })) buffer ≡ outcome_at t (take_turn t (cells_in ws) st buffer)
+  unfolding taken_rows outcome_at handed_of handed cell_of
   took-store one = rw (hands, eq-eqb r.count 1 one, found)
 
   module _ (several : r.count ≡ 1 → ⊥) (len : ℕ) (long : len ≡ length_to t (cells_in ws) r.count) where
@@ -168,18 +170,18 @@ module _ (t : ℕ) (ws st buffer : List ℕ) (j : ℕ) (r : Row) (v : Takeable t
     len_is = long ∙ sym (joined-long t (cells_in ws) st v r.count)
 
     -- "12 joining buffer shorter than a message of several pieces"
-    pub took-short : length buffer < len → taken_rows (record { answer = ShortBuffer; turn = 0 }) buffer
+    pub took-short : length buffer < len → taken_rows (Err NoRoom) buffer
         ≡ outcome_at t (take_turn t (cells_in ws) st buffer)
-    unfolding taken_rows outcome_at take_answer handed cell_of
+    unfolding taken_rows outcome_at handed_of handed cell_of
     took-short l =
         rw (hands, ne_eqb r.count 1 several)
         (ap (outcome_at t) (by-lt-yes (length buffer) (length (joined_to t (cells_in ws) st r.count)) len _ _ _ len_is l refl))
 
     -- "or of the joining buffer"
     pub took-joined : len ≤ length buffer → (out : List ℕ) → out ≡ put buffer 0 (joined_to t (cells_in ws) st r.count)
-        → taken_rows (record { answer = Joined r.kind r.channel r.order len; turn = t }) out
+        → taken_rows (Ok (record { taken = Joined r.kind r.channel r.order len; turn = t })) out
         ≡ outcome_at t (take_turn t (cells_in ws) st buffer)
-    unfolding taken_rows outcome_at take_answer handed cell_of
+    unfolding taken_rows outcome_at handed_of handed cell_of
     took-joined l out f =
         rw (hands, ne_eqb r.count 1 several)
         (rw (len_is, f) (ap (outcome_at t) (by-lt-no (length buffer) (length (joined_to t (cells_in ws) st r.count)) len _ _ _ len_is

@@ -1,6 +1,8 @@
--- What document 01 says for each case of a take's answer, and what a call leaves.
-use Rattle.std.specs.Prelude.{ℕ, List}
+-- What a take's answer is in document 01's words, and what a call leaves.
+use Rattle.std.specs.Prelude.{ℕ, List, Result, Ok, Err}
 use Rattle.base.specs.Answer.{Answer, refused, gives}
+use Rattle.base.specs.declared.refusal.Refusal.{Refusal}
+use Rattle.base.specs.Refusals.{answer_by}
 use Rattle.base.specs.Lists.{option}
 use Rattle.cells.specs.Cell.{Cell, ready_as, bears, empty_cell}
 use Rattle.cells.specs.Records.{change_cells, earliest_cell}
@@ -8,27 +10,23 @@ use Rattle.row_slots.specs.First.{first_cells}
 use Rattle.receiver.specs.declared.RecvQueue.{RecvQueue}
 use Rattle.receiver.specs.Take.{in_store, in_joined, Handed, TakeResult}
 use Rattle.recv_prefix.specs.Taking.{take_first}
-use Rattle.recv_take.specs.declared.Take.{Take}
-use Rattle.recv_take.specs.declared.Take.TheVariants.{NotSound, NoneReady, ShortBuffer, InStore, Joined}
+use Rattle.recv_take.specs.declared.Taken.{Taken}
+use Rattle.recv_take.specs.declared.Taken.TheVariants.{InStore, Joined}
 use Rattle.recv_take.specs.declared.TakenRows.{TakenRows}
 
--- "9; 20 none ready; 12 joining buffer shorter than a message of several pieces"; else where the message stands, with its kind, channel and
--- order number
-unfoldable pub take_answer : Take → Answer Handed
-take_answer NotSound = refused 9
-take_answer NoneReady = refused 20
-take_answer ShortBuffer = refused 12
-take_answer (InStore kind channel order start len) = gives (record {
+-- where the message stands, with its kind, channel and order number
+unfoldable pub handed_of : Taken → Handed
+handed_of (InStore kind channel order start len) = record {
   kind = kind;
   channel = channel;
   order = order;
   body = in_store start len;
-})
-take_answer (Joined kind channel order len) = gives (record { kind = kind; channel = channel; order = order; body = in_joined len })
+}
+handed_of (Joined kind channel order len) = record { kind = kind; channel = channel; order = order; body = in_joined len }
 
 -- a call's outcome, of its answer and of the last values of records and joining buffer
-unfoldable pub take_result : Take → List Cell → List ℕ → TakeResult
-take_result a rs buffer = record { answer = take_answer a; records = rs; joined = buffer }
+unfoldable pub take_result : Result Taken Refusal → List Cell → List ℕ → TakeResult
+take_result a rs buffer = record { answer = answer_by handed_of a; records = rs; joined = buffer }
 
 -- What a take over rows leaves: its answer, the turn of the message that it gave, and the joining buffer. It only reads the rows.
 pub record RowsTaken : Type 0 where
@@ -36,9 +34,19 @@ pub record RowsTaken : Type 0 where
   pub turn : ℕ
   pub joined : List ℕ
 
+-- the message without the turn
+abbrev pub without_turn : Result TakenRows Refusal → Result Taken Refusal
+without_turn (Ok t) = Ok t.taken
+without_turn (Err r) = Err r
+
+-- the turn of the message; 0 where none is given
+abbrev pub turn_given : Result TakenRows Refusal → ℕ
+turn_given (Ok t) = t.turn
+turn_given (Err r) = 0
+
 -- the same, of what the call returns and of the buffer's last value
-unfoldable pub taken_rows : TakenRows → List ℕ → RowsTaken
-taken_rows r buffer = record { answer = take_answer r.answer; turn = r.turn; joined = buffer }
+unfoldable pub taken_rows : Result TakenRows Refusal → List ℕ → RowsTaken
+taken_rows r buffer = record { answer = answer_by handed_of (without_turn r); turn = turn_given r; joined = buffer }
 
 -- the turn t of the message that a take gives; 0 where it gives none
 abbrev pub turn_taken : Answer Handed → ℕ → ℕ

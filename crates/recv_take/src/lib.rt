@@ -15,15 +15,13 @@ ghost use Rattle.receiver.specs.Take.{take_of};
 ghost use Rattle.recv_take.specs.Outcome.{taken_rows, earliest_turn, outcome_at, take_rows_of};
 ghost use Rattle.recv_take.specs.Pieces.{piece_at, piece_bytes, length_to, joined_to, AllWithin, Takeable, take_turn};
 
+use base::Refusal;
 use receiver::Heads;
 use rows::{ROW, Row};
 
-// Where the body stands: a part of the store, or the front of the joining buffer. Refusals: 9, 20, 12.
-#[derive(Clone, Copy)]
-pub enum Take {
-    NotSound,
-    NoneReady,
-    ShortBuffer,
+// A message handed back. Its body is a part of the store, or the front of the joining buffer.
+#[derive(Clone, Copy, Debug, PartialEq, Eq)]
+pub enum Taken {
     InStore {
         kind: u8,
         channel: u8,
@@ -39,14 +37,14 @@ pub enum Take {
     },
 }
 
-// turn: that of the message given, so that its records can be freed; 0 where none is.
-#[derive(Clone, Copy)]
+// turn: that of the message, so that its records can be freed.
+#[derive(Clone, Copy, Debug, PartialEq, Eq)]
 pub struct TakenRows {
-    pub answer: Take,
+    pub taken: Taken,
     pub turn: u32,
 }
 
-// Take over the first k rows, which are the first of so many cells' records. They are only read.
+// Take over the first k rows, which are the first of so many cells' records. They are only read. Refusals: 9, 20, 12.
 pub fn take_rows(
     h: Heads,
     dbits: &[u8],
@@ -58,23 +56,17 @@ pub fn take_rows(
     cells: usize,
     store: &[u8],
     joined: &mut [u8],
-) -> TakenRows
+) -> Result<TakenRows, Refusal>
     ensures { taken_rows result joined.new
         ≡ take_rows_of (queue_of h dbits.now rbits.now nexts.now unsent.now) k cells
         words.now store.now joined.old }
 {
-    if sound_call::lengths_fit(cells, store.len()) {} else {
-        return TakenRows {
-            answer: Take::NotSound,
-            turn: 0,
-        };
+    if !sound_call::lengths_fit(cells, store.len()) {
+        return Err(Refusal::NotSound);
     }
     let m = row_slots::rows_in(k, words.len());
     if cells < m {
-        return TakenRows {
-            answer: Take::NotSound,
-            turn: 0,
-        };
+        return Err(Refusal::NotSound);
     }
     take_part(
         h,
@@ -98,23 +90,17 @@ fn take_part(
     words: &[u32],
     store: &[u8],
     joined: &mut [u8],
-) -> TakenRows
+) -> Result<TakenRows, Refusal>
     ensures { taken_rows result joined.new ≡ outcome_at (earliest_turn (cells_in words.now))
         (take_of (queue_of h dbits.now rbits.now nexts.now unsent.now)
         (cells_in words.now) store.now joined.old) }
 {
-    if is_sound(h, dbits, rbits, nexts, unsent, words, store) {} else {
-        return TakenRows {
-            answer: Take::NotSound,
-            turn: 0,
-        };
+    if !is_sound(h, dbits, rbits, nexts, unsent, words, store) {
+        return Err(Refusal::NotSound);
     }
     let i = row_scans::first_ready(words);
     if words.len() / ROW <= i {
-        return TakenRows {
-            answer: Take::NoneReady,
-            turn: 0,
-        };
+        return Err(Refusal::NoneReady);
     }
     let first = rows::whole_row(words, i);
     take_turn(words, i, first, store, joined)
@@ -133,18 +119,21 @@ fn is_sound(
     ensures { result ≡ sound_call (queue_of h dbits.now rbits.now nexts.now unsent.now)
         (cells_in words.now) store.now }
 {
-    if sound_call::lengths_fit(words.len() / ROW, store.len()) {} else {
+    if !sound_call::lengths_fit(words.len() / ROW, store.len()) {
         return false;
     }
-    let q = sound_queue::sound_queue(h, dbits, rbits, nexts, unsent);
-    if q.sound {} else {
-        return false;
-    }
-    sound_cells::sound_cells(words, nexts)
+    sound_queue::sound_queue(h, dbits, rbits, nexts, unsent).is_ok()
+        && sound_cells::sound_cells(words, nexts)
 }
 
 // The ready message whose first cell is i: one body stays in its cell, several are joined in the buffer.
-fn take_turn(words: &[u32], i: usize, first: Row, store: &[u8], joined: &mut [u8]) -> TakenRows
+fn take_turn(
+    words: &[u32],
+    i: usize,
+    first: Row,
+    store: &[u8],
+    joined: &mut [u8],
+) -> Result<TakenRows, Refusal>
     requires takeable { Takeable first.turn (cells_in words.now) store.now }
     requires i_value { i ≡ index_of (at (ready_as first.turn) 0) (cells_in words.now) }
     requires first_value { first ≡ whole_row words.now i }
@@ -152,8 +141,8 @@ fn take_turn(words: &[u32], i: usize, first: Row, store: &[u8], joined: &mut [u8
         ≡ outcome_at first.turn (take_turn first.turn (cells_in words.now) store.now joined.old) }
 {
     if first.count == 1 {
-        return TakenRows {
-            answer: Take::InStore {
+        return Ok(TakenRows {
+            taken: Taken::InStore {
                 kind: first.kind as u8,
                 channel: first.channel as u8,
                 order: first.order,
@@ -161,25 +150,22 @@ fn take_turn(words: &[u32], i: usize, first: Row, store: &[u8], joined: &mut [u8
                 len: first.length as usize,
             },
             turn: first.turn,
-        };
+        });
     }
     let len = joined_length(words, first.turn, first.count);
     if joined.len() < len {
-        return TakenRows {
-            answer: Take::ShortBuffer,
-            turn: 0,
-        };
+        return Err(Refusal::NoRoom);
     }
     join_pieces(words, first.turn, first.count, store, joined);
-    TakenRows {
-        answer: Take::Joined {
+    Ok(TakenRows {
+        taken: Taken::Joined {
             kind: first.kind as u8,
             channel: first.channel as u8,
             order: first.order,
             len,
         },
         turn: first.turn,
-    }
+    })
 }
 
 // How many bytes the message has.
@@ -189,10 +175,8 @@ fn joined_length(words: &[u32], turn: u32, count: u32) -> usize
     ensures { result ≡ length_to turn (cells_in words.now) count }
 {
     let mut len: usize = 0;
-    let mut i: u32 = 0;
-    while i < count {
+    for i in 0..count {
         len += piece_length(words, turn, i);
-        i += 1;
     }
     len
 }
@@ -213,10 +197,8 @@ fn join_pieces(words: &[u32], turn: u32, count: u32, store: &[u8], joined: &mut 
         count) }
 {
     let mut p: usize = 0;
-    let mut i: u32 = 0;
-    while i < count {
+    for i in 0..count {
         p = put_piece(words, turn, i, store, joined, p);
-        i += 1;
     }
 }
 
@@ -237,5 +219,5 @@ fn put_piece(
     let r = rows::whole_row(words, i);
     let start = i * base::CELL_BYTES;
     let end = start + r.length as usize;
-    base::put_bytes(joined, p, &store[start..end])
+    base::put_all(joined, p, &store[start..end])
 }

@@ -2,15 +2,26 @@
 -- Assumes nothing.
 use mathlib.Core.Path.{◌≡◌, refl, sym, ◌∙◌, ap}
 use mathlib.Core.Bool.{Bool, true, false, cond, not, ◌&&◌}
-use Prim.Native.Nat.{ℕ, zero, suc, ◌+◌, ◌%◌, ◌≤◌, ◌<◌, zero-le}
+use mathlib.Core.List.{List}
+use Prim.Native.Nat.{ℕ, ◌+◌, ◌%◌, ◌≤◌, ◌<◌, zero-le}
 use native.Mathlib.Nat.{le_refl, mod-lt}
+use native.Mathlib.Decide.{dec_lt}
 use native.Mathlib.Omega.{arith}
 use lib.Dec.{ltb, eqb, lit<}
+use lib.ListN.{get_or}
 use borrow.Author.Tests.{ltb-true, ltb-false, ne_eqb}
+use Rattle.std.specs.Prelude.{Result, Ok, Err}
+use Rattle.std.specs.Result.{result_unwrap_or}
+use Rattle.base.specs.Answer.{refused, gives}
+use Rattle.base.specs.Refusals.{number_of, answer}
+use Rattle.base.specs.declared.refusal.Refusal.{Refusal}
+use Rattle.base.specs.Limits.{profiles}
+use Rattle.base.proofs.Ifs.{lt_yes, lt_no}
+use Rattle.reliability.proofs.Table.{tab, at}
 use Rattle.reliability.specs.declared.KindFields.{KindFields}
 use Rattle.reliability.specs.declared.Profile.{Profile}
 use Rattle.reliability.specs.declared.Profile.TheVariants.{Console, Cpp}
-use Rattle.reliability.specs.Profiles.{profile_of, profile_number}
+use Rattle.reliability.specs.Profiles.{profile_of, profile_number, profile_named}
 use Rattle.reliability.specs.Kinds.{when, has_reliable, has_sequence, has_order, after_reliable, after_sequence, row_of, fields_of, Small}
 
 when-le : (b : Bool) (n : ℕ) → when b n ≤ n
@@ -86,18 +97,11 @@ pub row_is : (p : Profile) (k n : ℕ) (r : KindFields) → k % 8 ≡ n → r �
 unfolding fields_of
 row_is p k n r i e = (rw i e, rw e (small p n))
 
--- n is none of 1 to m
-abbrev NoneOf : ℕ → ℕ → Type 0
-NoneOf n zero = Unit {0}
-NoneOf n (suc m) = NoneOf n m × (n ≡ suc m → ⊥)
-
-none_of : (n m : ℕ) → n < suc m → NoneOf n m → n ≡ 0
-none_of n zero h none = omega arith
-none_of n (suc m) h none = none_of n m (omega (arith, none.1)) none.0
-
--- a kind that is none of 1 to 7 is 0
-pub none-else : (k : ℕ) → NoneOf (k % 8) 7 → k % 8 ≡ 0
-none-else k none = none_of (k % 8) 7 (mod-lt k (lit< tt)) none
+-- the row that a profile's table has at a kind's place
+pub row-found : (p q : Profile) (k n : ℕ) (rows : List KindFields) (d : KindFields) → p ≡ q → rows ≡ tab (row_of q) 0 8 → n ≡ k % 8
+    → get_or rows n d ≡ fields_of p k
+row-found p q k n rows d same e i =
+    rw (same, i) (row_is q k (k % 8) _ refl (at (row_of q) 8 rows e (k % 8) d (mod-lt k (lit< tt)))).0
 
 -- ---- profiles as numbers
 
@@ -110,17 +114,49 @@ pub profile-known : (p : Profile) → profile_number p < 2
 profile-known Console = lit< tt
 profile-known Cpp = lit< tt
 
-pub cpp-is-1 : (n : ℕ) → n ≡ 1 → Cpp ≡ profile_of n
-unfolding profile_of
-cpp-is-1 n e = sym (ap (λ m. cond (eqb m 1) Cpp Console) e)
+-- the three answers of a number that is asked for a profile
+pub named-console : (n : ℕ) → n ≡ 0 → gives Console ≡ profile_named n
+unfolding profile_named profile_of
+named-console n e = rw e (lt_yes 0 profiles _ _ _ (lit< tt) refl)
 
-pub console-else : (n : ℕ) → (n ≡ 1 → ⊥) → Console ≡ profile_of n
+pub named-cpp : (n : ℕ) → n ≡ 1 → gives Cpp ≡ profile_named n
+unfolding profile_named profile_of
+named-cpp n e = rw e (lt_yes 1 profiles _ _ _ (lit< tt) refl)
+
+pub named-none : (n : ℕ) → (n ≡ 0 → ⊥) → (n ≡ 1 → ⊥) → refused 9 ≡ profile_named n
+unfolding profile_named
+named-none n a b = lt_no n profiles _ _ _ (omega arith) refl
+
+-- and what each of them tells of the number
+pub named-told : (n : ℕ) (p : Profile) → gives p ≡ profile_named n → (n < profiles) × (p ≡ profile_of n)
+unfolding profile_named
+named-told n p e = go (dec_lt n profiles)
+  where
+    go : Dec (n < profiles) → (n < profiles) × (p ≡ profile_of n)
+    go (yes h) =
+        let same : gives p ≡ gives (profile_of n) = e ∙ sym (lt_yes n profiles _ _ _ h refl) in
+        (h, cc)
+    go (no h) =
+        let other : gives p ≡ refused 9 = e ∙ sym (lt_no n profiles _ _ _ (omega arith) refl) in
+        cc
+
+pub refused-told : (n m : ℕ) → refused m ≡ profile_named n → (profiles ≤ n) × (m ≡ 9)
+unfolding profile_named
+refused-told n m e = go (dec_lt n profiles)
+  where
+    go : Dec (n < profiles) → (profiles ≤ n) × (m ≡ 9)
+    go (yes h) =
+        let other : refused m ≡ gives (profile_of n) = e ∙ sym (lt_yes n profiles _ _ _ h refl) in
+        cc
+    go (no h) =
+        let same : refused m ≡ refused 9 = e ∙ sym (lt_no n profiles _ _ _ (omega arith) refl) in
+        (omega arith, cc)
+
+console-else : (n : ℕ) → (n ≡ 1 → ⊥) → Console ≡ profile_of n
 unfolding profile_of
 console-else n e = sym (ap (λ b. cond b Cpp Console) (ne_eqb n 1 e))
 
--- a profile's own row is the row, as code that told the profile finds it
-pub row-console : (p : Profile) (k : ℕ) (r : KindFields) → p ≡ Console → r ≡ fields_of Console k → r ≡ fields_of p k
-row-console p k r same e = e ∙ sym (ap (λ x. fields_of x k) same)
-
-pub row-cpp : (p : Profile) (k : ℕ) (r : KindFields) → p ≡ Cpp → r ≡ fields_of Cpp k → r ≡ fields_of p k
-row-cpp p k r same e = e ∙ sym (ap (λ x. fields_of x k) same)
+-- a number is read as the profile that it names, or as the console's
+pub read-named : (n : ℕ) (r : Result Profile Refusal) → answer r ≡ profile_named n → result_unwrap_or r Console ≡ profile_of n
+read-named n (Ok p) e = (named-told n p e).1
+read-named n (Err m) e = let h = refused-told n (number_of m) e in console-else n (λ i. omega arith)

@@ -1,5 +1,6 @@
 pub mod Fronts
 pub mod Items
 pub mod Lines
+pub mod Replays
 pub mod Sums
 pub mod Tallies

@@ -1,10 +1,10 @@
 -- Checksums. What is kept of h is its rest, so that no step needs a bound on it.
-use Rattle.std.specs.Prelude.{ℕ, ◌+◌, ◌*◌, ◌%◌, List, [], ◌∷◌}
+use Rattle.std.specs.Prelude.{ℕ, ◌+◌, ◌*◌, ◌%◌, List}
+use Rattle.std.specs.List.{fold}
 
 -- the elements one after another, from h on
-unfoldable pub folded : (ℕ → ℕ → ℕ) → ℕ → List ℕ → ℕ
-folded f h [] = h
-folded f h (x ∷ xs) = folded f (f h x) xs
+abbrev pub folded : (ℕ → ℕ → ℕ) → ℕ → List ℕ → ℕ
+folded f h s = fold f h s
 
 -- "h = (h * 257 + byte + 1) mod 4294967291 over the bytes, from h = 0"
 abbrev pub mixed_with : ℕ → ℕ → ℕ

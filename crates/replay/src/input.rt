@@ -11,6 +11,7 @@ pub fn read_full<R: Read>(input: &mut R, buf: &mut [u8]) -> io::Result<usize>
     ensures { IfOk result (λ n. IsPrefixLen n buf.new) }
 {
     let mut done = 0;
+    // A `while`: how far a turn goes is what its read gives.
     while done < buf.len() {
         let n = input.read(&mut buf[done..])?;
         if n == 0 {

@@ -8,113 +8,96 @@
 
 #![tactic(auto)]
 
-use ack::{AckCursor, AckHeader, AckStep, Record};
+use ack::{AckCursor, Header, Record, Step};
 use std::io;
 
 // At most so many bytes of the input are read.
 const INPUT: usize = 65536;
 
-// Tags, each with what its payload holds and in how many bytes.
-// bytes
-const READ: u8 = 1;
+// The list has room for one number more than a list may have.
+const LIST: usize = 2049;
 
-// output (2), whether it is a NACK (1), numbers (4 each)
-const WRITE_LIST: u8 = 2;
+const OUTPUT: usize = 8300;
 
-// output (2), whether it is a NACK (1), how many numbers (2), the number before the first (4), their step (4)
-const WRITE_RUN: u8 = 3;
+// What an item asks for, with what its payload holds and in how many bytes.
+#[derive(Clone, Copy)]
+enum Item {
+    // bytes
+    Read,
+    // output (2), whether it is a NACK (1), numbers (4 each)
+    WriteList,
+    // output (2), whether it is a NACK (1), how many numbers (2), the number before the first (4), their step (4)
+    WriteRun,
+}
 
-fn show_record(rt: &impl Print, record: Record, records: AckCursor) {
-    let at = records.at as u64;
-    let left = records.left as u64;
-    match record {
-        Record::Single(r) => {
-            replay::line(rt, b"single", 0, &[r.sequence as u64, at, left]);
-        }
-        Record::Range(r) => {
-            replay::line(rt, b"range", 0, &[r.start as u64, r.end as u64, at, left]);
+impl TryFrom<u8> for Item {
+    type Error = u8;
+
+    fn try_from(tag: u8) -> Result<Item, u8> {
+        match tag {
+            1 => Ok(Item::Read),
+            2 => Ok(Item::WriteList),
+            3 => Ok(Item::WriteRun),
+            _ => Err(tag),
         }
     }
 }
 
-fn refused(rt: &impl Print, word: &[u8], number: u64) {
-    replay::line(rt, word, number, &[]);
-}
-
-fn show_step(rt: &impl Print, step: AckStep) {
-    match step {
-        AckStep::Next { record, records } => show_record(rt, record, records),
-        AckStep::End => refused(rt, b"end", 0),
-        AckStep::Cut => refused(rt, b"record", 1),
-        AckStep::UnknownType => refused(rt, b"record", 10),
-        AckStep::Reversed => refused(rt, b"record", 11),
+fn show_step(rt: &impl Print, step: Step) {
+    let at = step.records.at as u64;
+    let left = u64::from(step.records.left);
+    match step.record {
+        Record::Single(r) => {
+            replay::line(rt, b"single", 0, &[u64::from(r.sequence), at, left]);
+        }
+        Record::Range(r) => {
+            let values = [u64::from(r.start), u64::from(r.end), at, left];
+            replay::line(rt, b"range", 0, &values);
+        }
     }
 }
 
 // Every step until one gives no record; a 16-bit count allows no more than these.
 fn read_records(rt: &impl Print, s: &[u8], first: AckCursor) {
     let mut records = first;
-    let mut turns: u32 = 65536;
-    while 0 < turns {
-        turns -= 1;
-        let step = ack::read_record(s, records);
-        show_step(rt, step);
-        match step {
-            AckStep::Next {
-                record: _,
-                records: after,
-            } => records = after,
-            _ => return,
+    for _ in 0..=u16::MAX {
+        match ack::read_record(s, records) {
+            Ok(Some(step)) => {
+                show_step(rt, step);
+                records = step.records;
+            }
+            Ok(None) => {
+                replay::line(rt, b"end", 0, &[]);
+                return;
+            }
+            Err(refusal) => {
+                replay::refused(rt, b"record", refusal);
+                return;
+            }
         }
-    }
-}
-
-fn show_header(rt: &impl Print, header: AckHeader) {
-    match header {
-        AckHeader::Found { nack, records } => {
-            let kind = if nack { 1 } else { 0 };
-            replay::line(
-                rt,
-                b"ack",
-                0,
-                &[kind, records.at as u64, records.left as u64],
-            );
-        }
-        AckHeader::Cut => refused(rt, b"ack", 1),
-        AckHeader::NotAck => refused(rt, b"ack", 3),
     }
 }
 
 fn read(rt: &impl Print, s: &[u8]) {
-    let header = ack::read_header(s);
-    show_header(rt, header);
-    if let AckHeader::Found { nack: _, records } = header {
-        read_records(rt, s, records);
+    match ack::read_header(s) {
+        Ok(Header { nack, records }) => {
+            let values = [u64::from(nack), records.at as u64, u64::from(records.left)];
+            replay::line(rt, b"ack", 0, &values);
+            read_records(rt, s, records);
+        }
+        Err(refusal) => {
+            replay::refused(rt, b"ack", refusal);
+        }
     }
 }
 
-// Number i of a list, where x is the one before it.
-fn number_at(tag: u8, p: &[u8], i: usize, x: u32) -> u32 {
-    if tag == WRITE_LIST {
-        return base::be32_at(p, 3 + 4 * (i % 65536));
-    }
-    std::num::wrapping_add_u32(x, base::be32_at(p, 9))
-}
-
-fn fill(list: &mut [u32], tag: u8, p: &[u8]) {
-    let mut x = base::be32_at(p, 5);
-    let mut i = 0;
-    while i < list.len() {
-        x = number_at(tag, p, i, x);
-        list[i] = x;
-        i += 1;
-    }
-}
-
-fn write(rt: &impl Print, tag: u8, p: &[u8], list: &mut [u32], out: &mut [u8]) {
-    fill(list, tag, p);
+// Writes a list as the payload's front says.
+fn write(rt: &impl Print, p: &[u8], list: &[u32]) {
+    let mut space = [0xEEu8; OUTPUT];
+    let room = replay::within(&space, usize::from(base::be16_at(p, 0)));
+    let out = &mut space[..room];
     let written = exports::poghduka_write_list(out, base::byte(p, 2) != 0, list);
-    let number = written.number as u64;
+    let number = u64::from(written.number);
     replay::line_with(
         rt,
         b"list",
@@ -124,44 +107,43 @@ fn write(rt: &impl Print, tag: u8, p: &[u8], list: &mut [u32], out: &mut [u8]) {
     );
 }
 
-// The 3 bytes before the numbers of WRITE_LIST are less than one of them.
-fn count_of(tag: u8, p: &[u8]) -> usize {
-    if tag == WRITE_LIST {
-        return p.len() / 4;
+fn write_list(rt: &impl Print, p: &[u8]) {
+    let mut list = [0u32; LIST];
+    let numbers = replay::part(p, 3, p.len()).chunks(4);
+    let n = replay::within(&list, numbers.len());
+    for (number, bytes) in list.iter_mut().zip(numbers) {
+        *number = base::be32_at(bytes, 0);
     }
-    base::be16_at(p, 3) as usize
+    write(rt, p, &list[..n]);
 }
 
-// The list has room for one number more than a list may have.
-fn write_item(rt: &impl Print, tag: u8, p: &[u8]) {
-    let mut list = [0u32; 2049];
-    let n = replay::within_list(&list, count_of(tag, p));
-    let mut space = [0xEEu8; 8300];
-    let room = replay::within(&space, base::be16_at(p, 0) as usize);
-    write(rt, tag, p, &mut list[..n], &mut space[..room]);
+fn write_run(rt: &impl Print, p: &[u8]) {
+    let mut list = [0u32; LIST];
+    let n = replay::within(&list, usize::from(base::be16_at(p, 3)));
+    let mut x = base::be32_at(p, 5);
+    for number in list.iter_mut() {
+        x = x.wrapping_add(base::be32_at(p, 9));
+        *number = x;
+    }
+    write(rt, p, &list[..n]);
 }
 
 // An unknown tag gives no answer.
 fn replay_item(rt: &impl Print, tag: u8, p: &[u8]) {
-    match tag {
-        READ => read(rt, p),
-        WRITE_LIST | WRITE_RUN => write_item(rt, tag, p),
-        _ => {}
-    }
-}
-
-fn replay(rt: &impl Print, s: &[u8]) {
-    let mut at = 0;
-    while at < s.len() {
-        let item = replay::item_at(s, at);
-        replay_item(rt, item.tag, replay::part(s, item.start, item.end));
-        at = item.end;
+    match Item::try_from(tag) {
+        Ok(Item::Read) => read(rt, p),
+        Ok(Item::WriteList) => write_list(rt, p),
+        Ok(Item::WriteRun) => write_run(rt, p),
+        Err(_) => {}
     }
 }
 
 fn main(rt: HostRuntime) -> io::Result<()> {
     let mut input = [0u8; INPUT];
-    let n = replay::read_full(&mut rt.stdin(), &mut input)?;
-    replay(&rt, &input[..n]);
+    replay::replay(
+        &mut rt.stdin(),
+        &mut input,
+        |tag, p| replay_item(&rt, tag, p),
+    )?;
     Ok(())
 }

@@ -8,72 +8,88 @@
 
 #![tactic(auto)]
 
-use exports::SplitPiece;
-use exports_frames::{FrameFound, FrameWritten};
+use exports_frames::FrameFound;
 use frame::{FragmentMeta, Frame};
 use std::io;
 
 // At most so many bytes of the input are read.
 const INPUT: usize = 65536;
 
-// Tags, each with what its payload holds and in how many bytes.
-// profile (4), place (2), bytes: the frame at the place is read, and the frames from there on
-const READ: u8 = 1;
-
-// profile (4), output (2), place (2), kind (1), reliable, sequence and order number (4 each), channel (1), whether it is a piece (1),
-// count (4), id (2), index (4), length (2) and seed (2) of the body
-const WRITE: u8 = 2;
-
-// output (2), number (4)
-const HEAD: u8 = 3;
-
-// length (2) of the data, mtu (2), k (4)
-const SPLIT: u8 = 4;
-
-// profile (4), length (2), bytes: READ, from place 0, of a pattern that long whose first bytes are the given ones
-const LONG: u8 = 5;
-
 const DATA_SEED: u16 = 11029;
 
 // The longest data that an item may ask for: its length has 16 bits.
 const DATA: usize = 65536;
 
+const OUTPUT: usize = 8300;
+
+const HEAD_OUTPUT: usize = 8;
+
+// What an item asks for, with what its payload holds and in how many bytes.
+#[derive(Clone, Copy)]
+enum Item {
+    // profile (4), place (2), bytes: the frame at the place is read, and the frames from there on
+    Read,
+    // profile (4), output (2), place (2), kind (1), reliable, sequence and order number (4 each), channel (1), whether it is a piece (1),
+    // count (4), id (2), index (4), length (2) and seed (2) of the body
+    Write,
+    // output (2), number (4)
+    Head,
+    // length (2) of the data, mtu (2), k (4)
+    Split,
+    // profile (4), length (2), bytes: Read, from place 0, of a pattern that long whose first bytes are the given ones
+    Long,
+}
+
+impl TryFrom<u8> for Item {
+    type Error = u8;
+
+    fn try_from(tag: u8) -> Result<Item, u8> {
+        match tag {
+            1 => Ok(Item::Read),
+            2 => Ok(Item::Write),
+            3 => Ok(Item::Head),
+            4 => Ok(Item::Split),
+            5 => Ok(Item::Long),
+            _ => Err(tag),
+        }
+    }
+}
+
 // Makes a body, the data of a split, or the bytes of a long frame: a pattern whose bytes repeat only after 65,536.
 fn fill(out: &mut [u8], seed: u16) {
-    let mut x = seed as u32;
-    let mut i = 0;
-    while i < out.len() {
-        x = (x % 65536 * 5 + 1) % 65536;
-        out[i] = (x / 256) as u8;
-        i += 1;
+    let mut x = seed;
+    for byte in out.iter_mut() {
+        x = x.wrapping_mul(5).wrapping_add(1);
+        let [high, _] = x.to_be_bytes();
+        *byte = high;
     }
+}
+
+// The front that is as long as the payload asks for at this place, or as there are bytes.
+fn front<'a>(space: &'a mut [u8], p: &[u8], at: usize) -> &'a mut [u8] {
+    let n = replay::within(space, usize::from(base::be16_at(p, at)));
+    &mut space[..n]
 }
 
 fn show_frame(rt: &impl Print, found: FrameFound, s: &[u8]) {
     let placed = found.placed;
     let f = placed.frame;
-    let m = f.meta;
     let values = [
-        f.kind as u64,
-        f.reliable as u64,
-        f.sequence as u64,
-        f.order as u64,
-        f.channel as u64,
-        if f.piece { 1 } else { 0 },
-        m.count as u64,
-        m.id as u64,
-        m.index as u64,
+        u64::from(f.kind),
+        u64::from(f.reliable),
+        u64::from(f.sequence),
+        u64::from(f.order),
+        u64::from(f.channel),
+        u64::from(f.piece),
+        u64::from(f.meta.count),
+        u64::from(f.meta.id),
+        u64::from(f.meta.index),
         placed.start as u64,
         placed.len as u64,
         found.next as u64,
     ];
-    replay::line_with(
-        rt,
-        b"frame",
-        0,
-        &values,
-        replay::part(s, placed.start, found.next),
-    );
+    let body = replay::part(s, placed.start, found.next);
+    replay::line_with(rt, b"frame", 0, &values, body);
 }
 
 fn read_one(rt: &impl Print, profile: u32, s: &[u8], at: usize) {
@@ -81,145 +97,104 @@ fn read_one(rt: &impl Print, profile: u32, s: &[u8], at: usize) {
     if found.number == 0 {
         show_frame(rt, found, s);
     } else {
-        replay::line(rt, b"frame", found.number as u64, &[]);
+        replay::line(rt, b"frame", u64::from(found.number), &[]);
     }
 }
 
 fn read(rt: &impl Print, profile: u32, s: &[u8], at: usize) {
     read_one(rt, profile, s, at);
     let found = exports_frames::poghduka_read_frames(profile, s, at);
-    let number = found.number as u64;
+    let number = u64::from(found.number);
     let values = [found.count as u64, found.left as u64];
     replay::line(rt, b"frames", number, replay::given(number, &values));
 }
 
 fn read_item(rt: &impl Print, p: &[u8]) {
-    let at = base::be16_at(p, 4) as usize;
+    let at = usize::from(base::be16_at(p, 4));
     read(rt, base::be32_at(p, 0), replay::part(p, 6, p.len()), at);
-}
-
-fn read_long(rt: &impl Print, profile: u32, s: &mut [u8], first: &[u8]) {
-    fill(s, DATA_SEED);
-    base::put_bytes(s, 0, first);
-    read(rt, profile, s, 0);
 }
 
 fn long_item(rt: &impl Print, p: &[u8]) {
     let mut data = [0u8; DATA];
-    let n = replay::within(&data, base::be16_at(p, 4) as usize);
-    read_long(
-        rt,
-        base::be32_at(p, 0),
-        &mut data[..n],
-        replay::part(p, 6, p.len()),
-    );
+    let s = front(&mut data, p, 4);
+    fill(s, DATA_SEED);
+    base::put_all(s, 0, replay::part(p, 6, p.len()));
+    read(rt, base::be32_at(p, 0), s, 0);
 }
 
 fn frame_of(p: &[u8]) -> Frame {
-    let kind = base::byte(p, 8);
-    let reliable = base::be32_at(p, 9);
-    let sequence = base::be32_at(p, 13);
-    let order = base::be32_at(p, 17);
-    let channel = base::byte(p, 21);
-    let piece = base::byte(p, 22) != 0;
-    let count = base::be32_at(p, 23);
-    let id = base::be16_at(p, 27);
-    let index = base::be32_at(p, 29);
-    let meta = FragmentMeta { count, id, index };
     Frame {
-        kind,
-        reliable,
-        sequence,
-        order,
-        channel,
-        piece,
-        meta,
+        kind: base::byte(p, 8),
+        reliable: base::be32_at(p, 9),
+        sequence: base::be32_at(p, 13),
+        order: base::be32_at(p, 17),
+        channel: base::byte(p, 21),
+        piece: base::byte(p, 22) != 0,
+        meta: FragmentMeta {
+            count: base::be32_at(p, 23),
+            id: base::be16_at(p, 27),
+            index: base::be32_at(p, 29),
+        },
     }
-}
-
-fn show_written(rt: &impl Print, written: FrameWritten, out: &[u8]) {
-    let number = written.number as u64;
-    let values = [written.next as u64];
-    replay::line_with(rt, b"write", number, replay::given(number, &values), out);
-}
-
-fn write(rt: &impl Print, p: &[u8], body: &mut [u8], out: &mut [u8]) {
-    fill(body, base::be16_at(p, 35));
-    let profile = base::be32_at(p, 0);
-    let at = base::be16_at(p, 6) as usize;
-    let written = exports_frames::poghduka_write_frame(profile, out, at, frame_of(p), body);
-    show_written(rt, written, out);
 }
 
 fn write_item(rt: &impl Print, p: &[u8]) {
     let mut data = [0u8; DATA];
-    let n = replay::within(&data, base::be16_at(p, 33) as usize);
-    let mut space = [0xEEu8; 8300];
-    let room = replay::within(&space, base::be16_at(p, 4) as usize);
-    write(rt, p, &mut data[..n], &mut space[..room]);
-}
-
-fn write_head(rt: &impl Print, number: u32, out: &mut [u8]) {
-    let answer = exports_frames::poghduka_write_head(out, number);
-    replay::line_with(rt, b"head", answer as u64, &[], out);
+    let body = front(&mut data, p, 33);
+    fill(body, base::be16_at(p, 35));
+    let mut space = [0xEEu8; OUTPUT];
+    let out = front(&mut space, p, 4);
+    let at = usize::from(base::be16_at(p, 6));
+    let profile = base::be32_at(p, 0);
+    let written = exports_frames::poghduka_write_frame(profile, out, at, frame_of(p), body);
+    let number = u64::from(written.number);
+    let values = [written.next as u64];
+    replay::line_with(rt, b"write", number, replay::given(number, &values), out);
 }
 
 fn head_item(rt: &impl Print, p: &[u8]) {
-    let mut space = [0xEEu8; 8];
-    let room = replay::within(&space, base::be16_at(p, 0) as usize);
-    write_head(rt, base::be32_at(p, 2), &mut space[..room]);
-}
-
-fn show_piece(rt: &impl Print, piece: SplitPiece, body: &[u8]) {
-    let number = piece.number as u64;
-    let values = [
-        piece.start as u64,
-        piece.len as u64,
-        piece.count as u64,
-        piece.index as u64,
-    ];
-    replay::line_with(rt, b"piece", number, replay::given(number, &values), body);
-}
-
-fn split(rt: &impl Print, buffer: &mut [u8], mtu: u16, k: u32) {
-    fill(buffer, DATA_SEED);
-    show_piece(
-        rt,
-        exports::poghduka_split_piece(buffer, mtu, k),
-        split::split_part(buffer, mtu, k),
-    );
+    let mut space = [0xEEu8; HEAD_OUTPUT];
+    let out = front(&mut space, p, 0);
+    let number = exports_frames::poghduka_write_head(out, base::be32_at(p, 2));
+    replay::line_with(rt, b"head", u64::from(number), &[], out);
 }
 
 fn split_item(rt: &impl Print, p: &[u8]) {
     let mut data = [0u8; DATA];
-    let n = replay::within(&data, base::be16_at(p, 0) as usize);
-    split(rt, &mut data[..n], base::be16_at(p, 2), base::be32_at(p, 4));
+    let buffer = front(&mut data, p, 0);
+    fill(buffer, DATA_SEED);
+    let mtu = base::be16_at(p, 2);
+    let k = base::be32_at(p, 4);
+    let piece = exports::poghduka_split_piece(buffer, mtu, k);
+    let number = u64::from(piece.number);
+    let values = [
+        piece.start as u64,
+        piece.len as u64,
+        u64::from(piece.count),
+        u64::from(piece.index),
+    ];
+    let body = split::split_part(buffer, mtu, k);
+    replay::line_with(rt, b"piece", number, replay::given(number, &values), body);
 }
 
 // An unknown tag gives no answer.
 fn replay_item(rt: &impl Print, tag: u8, p: &[u8]) {
-    match tag {
-        READ => read_item(rt, p),
-        WRITE => write_item(rt, p),
-        HEAD => head_item(rt, p),
-        SPLIT => split_item(rt, p),
-        LONG => long_item(rt, p),
-        _ => {}
-    }
-}
-
-fn replay(rt: &impl Print, s: &[u8]) {
-    let mut at = 0;
-    while at < s.len() {
-        let item = replay::item_at(s, at);
-        replay_item(rt, item.tag, replay::part(s, item.start, item.end));
-        at = item.end;
+    match Item::try_from(tag) {
+        Ok(Item::Read) => read_item(rt, p),
+        Ok(Item::Write) => write_item(rt, p),
+        Ok(Item::Head) => head_item(rt, p),
+        Ok(Item::Split) => split_item(rt, p),
+        Ok(Item::Long) => long_item(rt, p),
+        Err(_) => {}
     }
 }
 
 fn main(rt: HostRuntime) -> io::Result<()> {
     let mut input = [0u8; INPUT];
-    let n = replay::read_full(&mut rt.stdin(), &mut input)?;
-    replay(&rt, &input[..n]);
+    replay::replay(
+        &mut rt.stdin(),
+        &mut input,
+        |tag, p| replay_item(&rt, tag, p),
+    )?;
     Ok(())
 }

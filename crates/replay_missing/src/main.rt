@@ -19,142 +19,137 @@ const BITS: usize = 512;
 
 const LIST: usize = 2100;
 
-// The shapes in which the bit of one place is flipped.
-const ONE_SET: u8 = 8;
-
-const ONE_CLEAR: u8 = 9;
-
-// The next number that is drawn; its top 8 bits, of 32, are the byte.
-fn drawn(x: u64) -> u64 {
-    (x % 4294967296 * 1664525 + 1013904223) % 4294967296
+// What the bits are made of. An unknown shape has no place set.
+#[derive(Clone, Copy)]
+enum Shape {
+    Clear,
+    Full,
+    Drawn,
+    Sparse,
+    Dense,
+    MostlyFull,
+    MostlyClear,
+    EverySecond,
+    // all clear but the item's place
+    OneSet,
+    // all set but the item's place
+    OneClear,
 }
 
-fn top_byte(x: u64) -> u8 {
-    (x / 16777216 % 256) as u8
+impl From<u8> for Shape {
+    fn from(shape: u8) -> Shape {
+        match shape {
+            1 => Shape::Full,
+            2 => Shape::Drawn,
+            3 => Shape::Sparse,
+            4 => Shape::Dense,
+            5 => Shape::MostlyFull,
+            6 => Shape::MostlyClear,
+            7 => Shape::EverySecond,
+            8 => Shape::OneSet,
+            9 => Shape::OneClear,
+            _ => Shape::Clear,
+        }
+    }
+}
+
+// The next number that is drawn; its top 8 bits are the byte.
+fn drawn(x: u32) -> u32 {
+    x.wrapping_mul(1664525).wrapping_add(1013904223)
+}
+
+fn top_byte(x: u32) -> u8 {
+    let [top, _, _, _] = x.to_be_bytes();
+    top
 }
 
 // Mostly x: where a is small it is y.
 fn mostly(a: u8, x: u8, y: u8) -> u8 {
-    if a < 16 {
-        return y;
-    }
-    x
+    if a < 16 { y } else { x }
 }
 
-fn shaped(shape: u8, a: u8, b: u8, c: u8) -> u8 {
+// A byte of this shape, of three bytes that were drawn for it.
+fn shaped(shape: Shape, a: u8, b: u8, c: u8) -> u8 {
     match shape {
-        1 | ONE_CLEAR => 255,
-        2 => a,
-        3 => a & b & c,
-        4 => a | b | c,
-        5 => mostly(a, 255, b),
-        6 => mostly(a, 0, b),
-        7 => 85,
-        _ => 0,
+        Shape::Clear | Shape::OneSet => 0,
+        Shape::Full | Shape::OneClear => 255,
+        Shape::Drawn => a,
+        Shape::Sparse => a & b & c,
+        Shape::Dense => a | b | c,
+        Shape::MostlyFull => mostly(a, 255, b),
+        Shape::MostlyClear => mostly(a, 0, b),
+        Shape::EverySecond => 85,
     }
 }
 
-fn fill(bits: &mut [u8], shape: u8, seed: u32) {
-    let mut x = seed as u64;
-    let mut i = 0;
-    while i < bits.len() {
+fn fill(bits: &mut [u8], shape: Shape, seed: u32) {
+    let mut x = seed;
+    for byte in bits.iter_mut() {
         let a = drawn(x);
         let b = drawn(a);
         x = drawn(b);
-        bits[i] = shaped(shape, top_byte(a), top_byte(b), top_byte(x));
-        i += 1;
+        *byte = shaped(shape, top_byte(a), top_byte(b), top_byte(x));
     }
 }
 
 fn flip(bits: &mut [u8], place: u16) {
-    let at = (place / 8) as usize;
-    if at < bits.len() {
-        let b = bits[at];
-        bits[at] = b ^ (1u8 << (place % 8));
+    if let Some(byte) = bits.get_mut(usize::from(place / 8)) {
+        *byte ^= 1 << (place % 8);
     }
 }
 
-fn make(bits: &mut [u8], shape: u8, place: u16, seed: u32) {
+fn make(bits: &mut [u8], shape: Shape, place: u16, seed: u32) {
     fill(bits, shape, seed);
-    if (shape == ONE_SET) | (shape == ONE_CLEAR) {
+    if matches!(shape, Shape::OneSet | Shape::OneClear) {
         flip(bits, place);
     }
-}
-
-fn same(a: &[u32], b: &[u32]) -> bool {
-    let mut all = a.len() == b.len();
-    let mut i = 0;
-    while i < a.len() {
-        all = all & (a[i] == number_at(b, i));
-        i += 1;
-    }
-    all
-}
-
-// No missing number is 2^32 - 1.
-fn number_at(list: &[u32], i: usize) -> u32 {
-    if i < list.len() {
-        return list[i];
-    }
-    4294967295
 }
 
 // Both forms on one window, each into a list of its own.
 fn compare(rt: &impl Print, low: u32, bits: &[u8], by_words: &mut [u32], plain: &mut [u32]) {
     let count = window::missing_in(low, bits, by_words);
     let other = missing_plain::missing_in(low, bits, plain);
-    let agree = (count == other) & same(by_words, plain);
+    let agree = count == other && &*by_words == &*plain;
     let sum = replay::checksum(by_words);
-    replay::line(rt, b"missing", 0, &[count as u64, agree as u64, sum]);
-}
-
-fn make_and_compare(
-    rt: &impl Print,
-    p: &[u8],
-    bits: &mut [u8],
-    by_words: &mut [u32],
-    plain: &mut [u32],
-) {
-    make(
-        bits,
-        base::byte(p, 8),
-        base::be16_at(p, 9),
-        base::be32_at(p, 11),
-    );
-    compare(rt, base::be32_at(p, 0), bits, by_words, plain);
+    replay::line(rt, b"missing", 0, &[count as u64, u64::from(agree), sum]);
 }
 
 // The fronts that the item asks for.
-fn run(rt: &impl Print, p: &[u8], bits: &mut [u8], by_words: &mut [u32], plain: &mut [u32]) {
-    let n = replay::within(bits, base::be16_at(p, 4) as usize);
-    let room = base::be16_at(p, 6) as usize;
-    let a = replay::within_list(by_words, room);
-    let b = replay::within_list(plain, room);
-    make_and_compare(rt, p, &mut bits[..n], &mut by_words[..a], &mut plain[..b]);
+fn window_item(rt: &impl Print, p: &[u8]) {
+    let mut bits = [0u8; BITS];
+    let n = replay::within(&bits, usize::from(base::be16_at(p, 4)));
+    let shape = Shape::from(base::byte(p, 8));
+    make(
+        &mut bits[..n],
+        shape,
+        base::be16_at(p, 9),
+        base::be32_at(p, 11),
+    );
+    let mut by_words = [base::NUMBERS_24; LIST];
+    let mut plain = by_words;
+    let room = replay::within(&plain, usize::from(base::be16_at(p, 6)));
+    compare(
+        rt,
+        base::be32_at(p, 0),
+        &bits[..n],
+        &mut by_words[..room],
+        &mut plain[..room],
+    );
 }
 
 // An unknown tag gives no answer.
 fn replay_item(rt: &impl Print, tag: u8, p: &[u8]) {
     if tag == WINDOW {
-        let mut bits = [0u8; BITS];
-        let mut by_words = [base::NUMBERS_24; LIST];
-        let mut plain = [base::NUMBERS_24; LIST];
-        run(rt, p, &mut bits, &mut by_words, &mut plain);
-    }
-}
-
-fn replay(rt: &impl Print, s: &[u8]) {
-    let mut at = 0;
-    while at < s.len() {
-        let item = replay::item_at(s, at);
-        replay_item(rt, item.tag, replay::part(s, item.start, item.end));
-        at = item.end;
+        window_item(rt, p);
     }
 }
 
 fn main(rt: HostRuntime) -> io::Result<()> {
     let mut input = [0u8; INPUT];
-    let n = replay::read_full(&mut rt.stdin(), &mut input)?;
-    replay(&rt, &input[..n]);
+    replay::replay(
+        &mut rt.stdin(),
+        &mut input,
+        |tag, p| replay_item(&rt, tag, p),
+    )?;
     Ok(())
 }

@@ -7,15 +7,9 @@ ghost use Rattle.std.specs.Prelude.{◌≡◌};
 ghost use Rattle.cells.specs.Sound.{lengths};
 
 // "1 to 4,096 cells of 1,500 bytes"; "the store is exactly one cell for each record".
-#[tactic(auto, using(crate::proofs::Calls::no_cells, crate::proofs::Calls::many_cells))]
+#[tactic(auto, unfolding(cells::specs::Sound::lengths))]
 pub fn lengths_fit(cells: usize, bytes: usize) -> bool
     ensures { result ≡ lengths cells bytes }
 {
-    if cells < 1 {
-        return false;
-    }
-    if base::MAX_CELLS < cells {
-        return false;
-    }
-    bytes == base::CELL_BYTES * cells
+    1 <= cells && cells <= base::MAX_CELLS && bytes == base::CELL_BYTES * cells
 }

@@ -1,2 +1,3 @@
 pub mod Ascending
-pub mod SoundCases
+pub mod Chains
+pub mod Rules

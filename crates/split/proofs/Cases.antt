@@ -1,53 +1,49 @@
--- What `split_piece` and `split_part` return, with the facts as the code finds them: r, s, l and t are what its calls returned.
+-- What `split_piece` and `split_part` return, with the facts as the code finds them: r is what `div_ceil` returned, a the answer.
 -- Assumes nothing.
-use mathlib.Core.Path.{◌≡◌, sym, refl}
+use mathlib.Core.Path.{◌≡◌, ◌∙◌, sym, ap, refl}
 use mathlib.Core.List.{List, []}
 use Prim.Native.Nat.{ℕ, ◌+◌, ◌-◌, ◌*◌, ◌<◌, ◌≤◌, min}
+use native.Mathlib.Nat.{add-sub_cancel_left}
 use native.Mathlib.Omega.{arith}
 use lib.ListN.{length, take, drop}
+use Rattle.std.specs.Int.{div_ceil}
+use Rattle.base.specs.Answer.{Answer, refused, gives}
 use Rattle.base.specs.Limits.{min_mtu, max_mtu, max_frags}
 use Rattle.base.proofs.Ifs.{lt_yes, lt_no, le-no}
-use Rattle.split.specs.declared.Piece.{Piece}
-use Rattle.split.specs.declared.Piece.TheVariants.{Part, BadMtu, FitsOneChunk, TooManyPieces, BeyondLast}
-use Rattle.split.specs.Split.{chunk, chunks_of, split_piece_of, bytes_of, part_of, Splits, piece_answer}
+use Rattle.split.specs.declared.Fragment.{Fragment}
+use Rattle.split.specs.Split.{chunk, count, split_piece_of, bytes_of, part_of, Splits}
+use Rattle.split.proofs.Chunks.{rounded-up}
 use Rattle.split.proofs.Laws.{piece-given, piece-beyond, Within, piece-within}
 
-module _ (n mtu k : ℕ) (least : min_mtu ≤ mtu) (most : mtu ≤ max_mtu) (over : chunk mtu < n) (r : ℕ) (counted : r ≡ chunks_of n (chunk mtu))
-  where
-    pub too_many : max_frags < r → piece_answer TooManyPieces ≡ split_piece_of n mtu k
-    unfolding piece_answer split_piece_of
-    too_many h = lt_no _ _ _ _ _ least (lt_no _ _ _ _ _ most (le-no _ _ _ _ _ over (lt_yes _ _ _ _ _ (omega arith) refl)))
+module _ (n mtu k : ℕ) (least : min_mtu ≤ mtu) (most : mtu ≤ max_mtu) (c : ℕ) (d : c ≡ chunk mtu) (over : c < n) (r : ℕ)
+    (counted : r ≡ div_ceil n c) where
+  count-is : r ≡ count n mtu
+  count-is = counted ∙ ap (div_ceil n) d ∙ rounded-up n (chunk mtu) (omega arith)
 
-    splits : r ≤ max_frags → Splits n mtu
-    splits few = record { least = least; most = most; over = over; few = omega arith }
+  pub too_many : max_frags < r → refused 18 ≡ split_piece_of n mtu k
+  unfolding split_piece_of
+  too_many h = let e = count-is in
+      lt_no _ _ _ _ _ least (lt_no _ _ _ _ _ most (le-no _ _ _ _ _ (omega arith) (lt_yes _ _ _ _ _ (omega arith) refl)))
 
-    pub beyond-last : r ≤ max_frags → r ≤ k → piece_answer BeyondLast ≡ split_piece_of n mtu k
-    unfolding piece_answer
-    beyond-last few h = sym (piece-beyond n mtu (splits few) k (omega arith))
+  splits : r ≤ max_frags → Splits n mtu
+  splits few = let e = count-is in record { least = least; most = most; over = omega arith; few = omega arith }
 
-    pub given : r ≤ max_frags → k < r → (s : ℕ) → (s ≡ k * chunk mtu) × (s < n) → (l : ℕ) → l ≡ min (chunk mtu) (n - s)
-        → piece_answer (Part s l r k) ≡ split_piece_of n mtu k
-    unfolding piece_answer
-    given few h s b l e = rw (piece-given n mtu (splits few) k (omega arith), e, b.0, counted)
+  pub beyond-last : r ≤ max_frags → r ≤ k → refused 19 ≡ split_piece_of n mtu k
+  beyond-last few h = let e = count-is in sym (piece-beyond n mtu (splits few) k (omega arith))
 
--- the arm `_` of a `match` knows its cases by their places in the enum, and `Part` has place 0
+  pub given : r ≤ max_frags → k < r → (l : ℕ) → l ≡ min c (n - k * c)
+      → gives (record { start = k * c; len = l; count = r; index = k }) ≡ split_piece_of n mtu k
+  given few h l e = rw (piece-given n mtu (splits few) k (let z = count-is in omega arith), e, count-is, d)
 
-module _ (s : List ℕ) (mtu k : ℕ) (p : Piece) (answered : piece_answer p ≡ split_piece_of (length s) mtu k) where
-  pub end-within : (a l c i : ℕ) → p ≡ Part a l c i → a + l ≤ length s
-  unfolding piece_answer Within
-  end-within a l c i e = rw (← answered, e) at (piece-within (length s) mtu k)
+module _ (s : List ℕ) (mtu k : ℕ) (a : Answer Fragment) (answered : a ≡ split_piece_of (length s) mtu k) where
+  pub end-within : (f : Fragment) → a ≡ gives f → f.start + f.len ≤ length s
+  unfolding Within
+  end-within f e = rw (← answered, e) at (piece-within (length s) mtu k)
 
-  pub part-given : (a l c i : ℕ) → p ≡ Part a l c i → (t : List ℕ) → t ≡ take l (drop a s) → t ≡ part_of s mtu k
-  unfolding piece_answer part_of bytes_of
-  part-given a l c i e t h = rw (← answered, e) h
+  pub part-given : (f : Fragment) → a ≡ gives f → take (f.start + f.len - f.start) (drop f.start s) ≡ part_of s mtu k
+  unfolding part_of bytes_of
+  part-given f e = rw (← answered, e, add-sub_cancel_left)
 
-  pub part_none : ((a l c i : ℕ) → p ≡ Part a l c i → ⊥) → [] ≡ part_of s mtu k
-  unfolding part_of piece_answer bytes_of
-  part_none h = rw (← answered) (none p h)
-    where
-      none : (q : Piece) → ((a l c i : ℕ) → q ≡ Part a l c i → ⊥) → [] ≡ bytes_of s (piece_answer q)
-      none (Part a l c i) t = absurd (t a l c i refl)
-      none BadMtu t = refl
-      none FitsOneChunk t = refl
-      none TooManyPieces t = refl
-      none BeyondLast t = refl
+  pub part_none : (r : ℕ) → a ≡ refused r → [] ≡ part_of s mtu k
+  unfolding part_of bytes_of
+  part_none r e = rw (← answered, e)

@@ -2,18 +2,29 @@
 -- Assumes nothing.
 use lib.ListN.{length, take}
 use mathlib.Core.List.{List, [], ◌∷◌}
-use mathlib.Core.Path.{◌≡◌, sym, ap}
+use mathlib.Core.Path.{◌≡◌, ap}
 use Prim.Native.Nat.{ℕ, suc, ◌+◌, ◌-◌, ◌*◌, ◌/◌, ◌<◌, ◌≤◌, zero, min}
-use native.Mathlib.Nat.{add-div_right, le-div_iff_mul-le, lt-div-mul-add, suc-mul, zero-min, min-zero, suc-min-suc}
+use native.Mathlib.Nat.{le-div_iff_mul-le, lt-div-mul-add, suc-mul, zero-min, min-zero, suc-min-suc}
+use native.Mathlib.Decide.{dec_lt}
 use native.Mathlib.Omega.{arith}
+use Rattle.std.proofs.lemmas.Grind.{div_ceil_times}
+use Rattle.std.specs.Int.{div_ceil}
 use Rattle.split.specs.Split.{chunks_of}
 
--- the code's way to round up, which adds 1 and not c - 1
-pub rounded-up : (n c : ℕ) → (0 < n) × (0 < c) → (n - 1) / c + 1 ≡ chunks_of n c
+-- std's way to round up
+pub rounded-up : (n c : ℕ) → 0 < c → div_ceil n c ≡ chunks_of n c
 unfolding chunks_of
-rounded-up n c h =
-    let e : n + (c - 1) ≡ n - 1 + c = omega arith in
-    rw e (sym (add-div_right (n - 1) h.1))
+rounded-up n c h = by (dec_lt (div_ceil n c) ((n + (c - 1)) / c))
+  where
+    by : Dec (div_ceil n c < (n + (c - 1)) / c) → div_ceil n c ≡ (n + (c - 1)) / c
+    by (yes k) =
+        let (low, high) = div_ceil_times n c h in
+        let m : suc (div_ceil n c) * c ≤ n + (c - 1) = (le-div_iff_mul-le h).0 k in
+        absurd (omega (arith, suc-mul (div_ceil n c) c))
+    by (no k) =
+        let (low, high) = div_ceil_times n c h in
+        let m : div_ceil n c ≤ (n + (c - 1)) / c = (le-div_iff_mul-le h).1 (omega arith) in
+        omega arith
 
 module _ (n c : ℕ) (pos : 0 < c) where
   -- each chunk starts within the data

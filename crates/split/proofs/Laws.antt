@@ -12,7 +12,8 @@ use Rattle.base.specs.Answer.{Answer, refused, gives}
 use Rattle.base.specs.If.{if_le}
 use Rattle.base.specs.Limits.{min_mtu, max_mtu, max_frags}
 use Rattle.base.proofs.Ifs.{lt_no, le_yes, le-no}
-use Rattle.split.specs.Split.{chunk, count, Fragment, fragment, split_piece_of, bytes_of, part_of, first_parts, Splits}
+use Rattle.split.specs.declared.Fragment.{Fragment}
+use Rattle.split.specs.Split.{chunk, count, fragment, split_piece_of, bytes_of, part_of, first_parts, Splits}
 use Rattle.base.proofs.IfCases.{lt_both, le-both}
 use Rattle.split.proofs.Chunks.{take_min}
 use Rattle.split.proofs.Chunks.{start-within, chunks-hold, two-or-more}

@@ -4,8 +4,7 @@ use Rattle.std.specs.Prelude.{ℕ, zero, suc, ◌+◌, ◌-◌, ◌*◌, ◌/◌
 use Rattle.base.specs.Answer.{Answer, refused, gives}
 use Rattle.base.specs.If.{if_lt, if_le}
 use Rattle.base.specs.Limits.{min_mtu, max_mtu, frame_overhead, max_frags}
-use Rattle.split.specs.declared.Piece.{Piece}
-use Rattle.split.specs.declared.Piece.TheVariants.{Part, BadMtu, FitsOneChunk, TooManyPieces, BeyondLast}
+use Rattle.split.specs.declared.Fragment.{Fragment}
 
 -- "chunk mtu - 60": how many bytes each piece takes, the last one at most so many
 abbrev pub chunk : ℕ → ℕ
@@ -19,14 +18,8 @@ chunks_of n c = (n + (c - 1)) / c
 abbrev pub count : ℕ → ℕ → ℕ
 count n mtu = chunks_of n (chunk mtu)
 
--- one piece: where its body starts in the data and how long it is, and the count and index that its frame carries
-pub record Fragment : Type 0 where
-  pub start : ℕ
-  pub len : ℕ
-  pub count : ℕ
-  pub index : ℕ
-
--- piece k of n bytes: from k chunks on one chunk, or what is left of the data where that is less
+-- one piece, where its body starts in the data and how long it is, and the count and index that its frame carries: piece k of n bytes
+-- is, from k chunks on one chunk, or what is left of the data where that is less
 abbrev pub fragment : ℕ → ℕ → ℕ → Fragment
 fragment n mtu k = record { start = k * chunk mtu; len = min (chunk mtu) (n - k * chunk mtu); count = count n mtu; index = k }
 
@@ -60,11 +53,3 @@ pub record Splits (n mtu : ℕ) : Type 0 where
   pub most : mtu ≤ max_mtu
   pub over : chunk mtu < n
   pub few : count n mtu ≤ max_frags
-
--- document 01's number or values for each case of the code's answer
-unfoldable pub piece_answer : Piece → Answer Fragment
-piece_answer (Part s l c i) = gives (record { start = s; len = l; count = c; index = i })
-piece_answer BadMtu = refused 16
-piece_answer FitsOneChunk = refused 17
-piece_answer TooManyPieces = refused 18
-piece_answer BeyondLast = refused 19

@@ -1,69 +1,50 @@
--- The laws of a byte's bits: a clear bit is set by adding its power of two, and a set one cleared by subtracting it.
+-- The laws of a byte's bits: a clear bit is set by adding its power of two, and a set one cleared by subtracting it. Either way it is
+-- turned.
 -- Assumes nothing.
-use mathlib.Core.Path.{◌≡◌, ◌∙◌, sym, ap, refl}
-use Prim.Native.Nat.{ℕ, zero, suc, ◌+◌, ◌-◌, ◌*◌, ◌/◌, ◌%◌, ◌^◌, ◌<◌, ◌≤◌}
-use native.Mathlib.Nat.{le_of_suc-le-suc, not-suc-le-zero}
-use native.Mathlib.Numerals.{one-add}
+use mathlib.Core.Path.{◌≡◌, ◌∙◌}
+use Prim.Native.Nat.{ℕ, ◌+◌, ◌-◌, ◌%◌, ◌^◌, ◌<◌}
 use native.Mathlib.Omega.{arith}
-use lib.Pow.{shr-shr, pow-add}
+use lib.Bits.{bit_xor, xor_add_and}
+use lib.Pow.{pow-lt}
+use Rattle.std.proofs.lemmas.Nat.{xor_lt}
+use Rattle.std.proofs.lemmas.Nat.Bits.{bit_at-lt, bit_at_xor, bit_at-pow_same, bit_at-pow_other, and_pow}
 use Rattle.window.specs.Places.{bit}
 
-pub two-pow : (j : ℕ) → 2 ^ suc j ≡ 2 * 2 ^ j
-two-pow j = rw (← one-add j) (pow-add 2 1 j)
+module _ (b j : ℕ) where
+  pub bit-small : bit b j < 2
+  unfolding bit
+  bit-small = bit_at-lt b j
 
-bit-zero : (b : ℕ) → bit b 0 ≡ b % 2
-unfolding bit
-bit-zero b = omega arith
+  pub turn-set : bit b j ≡ 0 → bit_xor b (2 ^ j) ≡ b + 2 ^ j
+  unfolding bit
+  turn-set h = let e = and_pow b j in omega (arith, xor_add_and b (2 ^ j), rw h at e)
 
-bit-suc : (b j : ℕ) → bit b (suc j) ≡ bit (b / 2) j
-unfolding bit
-bit-suc b j = ap (λ (x : ℕ). x % 2) (ap (λ (k : ℕ). b / 2 ^ k) (sym (one-add j)) ∙ sym (shr-shr b 1 j))
+  pub turn-clear : bit b j ≡ 1 → bit_xor b (2 ^ j) ≡ b - 2 ^ j
+  unfolding bit
+  turn-clear h = let e = and_pow b j in omega (arith, xor_add_and b (2 ^ j), rw h at e)
 
-pub bit-small : (b j : ℕ) → bit b j < 2
-unfolding bit
-bit-small b j = omega arith
+  turned : bit (bit_xor b (2 ^ j)) j ≡ (bit b j + 1) % 2
+  unfolding bit
+  turned = bit_at_xor b (2 ^ j) j ∙ rw bit_at-pow_same
 
-half_up : (b j : ℕ) → (b + 2 ^ suc j) / 2 ≡ b / 2 + 2 ^ j
-half_up b j = omega (arith, two-pow j)
+  pub bit-set : bit b j ≡ 0 → bit (b + 2 ^ j) j ≡ 1
+  bit-set h = rw (← turn-set h, turned, h)
 
-pub bit-set : (b j : ℕ) → bit b j ≡ 0 → bit (b + 2 ^ j) j ≡ 1
-bit-set b zero h = omega (arith, bit-zero b, bit-zero (b + 1))
-bit-set b (suc j) h = rw (bit-suc, half_up) (bit-set (b / 2) j (rw bit-suc at h))
+  pub bit-clear : bit b j ≡ 1 → bit (b - 2 ^ j) j ≡ 0
+  bit-clear h = rw (← turn-clear h, turned, h)
 
-pub bit-set-other : (b i j : ℕ) → (i ≡ j → ⊥) → bit b j ≡ 0 → bit (b + 2 ^ j) i ≡ bit b i
-bit-set-other b zero zero n h = absurd (n refl)
-bit-set-other b zero (suc j) n h = omega (arith, two-pow j, bit-zero b, bit-zero (b + 2 ^ suc j))
-bit-set-other b (suc i) zero n h =
-    let e : (b + 1) / 2 ≡ b / 2 = omega (arith, bit-zero b) in
-    bit-suc (b + 1) i ∙ ap (λ (x : ℕ). bit x i) e ∙ sym (bit-suc b i)
-bit-set-other b (suc i) (suc j) n h =
-    bit-suc (b + 2 ^ suc j) i ∙ rw half_up (bit-set-other (b / 2) i j (λ e. n (ap suc e)) (rw bit-suc at h)) ∙ sym (bit-suc b i)
+-- the other bits stay
+module _ (b i j : ℕ) (d : i ≡ j → ⊥) where
+  turned-other : bit (bit_xor b (2 ^ j)) i ≡ bit b i
+  unfolding bit
+  turned-other = omega (arith, bit_at_xor b (2 ^ j) i, bit_at-pow_other j i d, bit_at-lt b i)
 
--- a bit that is 1 has its power in the number
-pub bit_le : (b j : ℕ) → bit b j ≡ 1 → 2 ^ j ≤ b
-bit_le b zero h = omega (arith, bit-zero b)
-bit_le b (suc j) h = omega (arith, two-pow j, bit_le (b / 2) j (rw bit-suc at h))
+  pub bit-set-other : bit b j ≡ 0 → bit (b + 2 ^ j) i ≡ bit b i
+  bit-set-other h = rw (← turn-set b j h, turned-other)
 
-half_down : (b j : ℕ) → (b - 2 ^ suc j) / 2 ≡ b / 2 - 2 ^ j
-half_down b j = omega (arith, two-pow j)
-
-pub bit-clear : (b j : ℕ) → bit b j ≡ 1 → bit (b - 2 ^ j) j ≡ 0
-bit-clear b zero h = omega (arith, bit-zero b, bit-zero (b - 1))
-bit-clear b (suc j) h = rw (bit-suc, half_down) (bit-clear (b / 2) j (rw bit-suc at h))
-
-pub bit-clear-other : (b i j : ℕ) → (i ≡ j → ⊥) → bit b j ≡ 1 → bit (b - 2 ^ j) i ≡ bit b i
-bit-clear-other b zero zero n h = absurd (n refl)
-bit-clear-other b zero (suc j) n h = omega (arith, two-pow j, bit_le b (suc j) h, bit-zero b, bit-zero (b - 2 ^ suc j))
-bit-clear-other b (suc i) zero n h =
-    let e : (b - 1) / 2 ≡ b / 2 = omega (arith, bit-zero b) in
-    bit-suc (b - 1) i ∙ ap (λ (x : ℕ). bit x i) e ∙ sym (bit-suc b i)
-bit-clear-other b (suc i) (suc j) n h =
-    bit-suc (b - 2 ^ suc j) i ∙ rw half_down (bit-clear-other (b / 2) i j (λ e. n (ap suc e)) (rw bit-suc at h)) ∙ sym (bit-suc b i)
+  pub bit-clear-other : bit b j ≡ 1 → bit (b - 2 ^ j) i ≡ bit b i
+  bit-clear-other h = rw (← turn-clear b j h, turned-other)
 
 -- a clear bit set leaves a number of k bits one of k bits
 pub bit-fits : (k b j : ℕ) → b < 2 ^ k → j < k → bit b j ≡ 0 → b + 2 ^ j < 2 ^ k
-bit-fits zero b j p q h = absurd (not-suc-le-zero q)
-bit-fits (suc k) b zero p q h = omega (arith, two-pow k, bit-zero b)
-bit-fits (suc k) b (suc j) p q h =
-    let r : b / 2 < 2 ^ k = omega (arith, two-pow k) in
-    omega (arith, two-pow k, two-pow j, bit-fits k (b / 2) j r (le_of_suc-le-suc q) (rw bit-suc at h))
+bit-fits k b j p q h = rw (← turn-set b j h) (xor_lt k b (2 ^ j) p (pow-lt q))

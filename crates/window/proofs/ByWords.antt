@@ -3,32 +3,31 @@
 use mathlib.Core.Path.{◌≡◌, ◌∙◌, sym, ap, refl}
 use mathlib.Core.Bool.{Bool, true, false}
 use mathlib.Core.List.{List, [], ◌∷◌, ◌++◌}
-use Prim.Native.Nat.{ℕ, zero, suc, ◌+◌, ◌-◌, ◌*◌, ◌/◌, ◌%◌, ◌^◌, ◌<◌, ◌≤◌}
-use native.Mathlib.Nat.{add-zero, zero-add, add-suc, suc-add, one-mul, zero-mul}
+use Prim.Native.Nat.{ℕ, zero, suc, ◌+◌, ◌-◌, ◌*◌, ◌/◌, ◌%◌, ◌^◌, ◌<◌, ◌≤◌, min}
+use native.Mathlib.Nat.{le_refl, add-zero, zero-add, suc-add, pow-suc}
 use native.Mathlib.Decide.{dec_lt}
 use native.Mathlib.Omega.{arith}
-use mir.Val.{Fits}
-use mir.Syntax.{w32, w64}
+use mir.Syntax.{w64}
 use lib.Bits.{bit_and}
-use lib.Count.{count_trailing_zeros, count_leading_zeros, leading_top}
-use lib.ListN.{length}
-use lib.Pow.{pow_pos, pow_mono}
+use lib.Count.{count_trailing_zeros}
+use Rattle.std.specs.Int.{bit_at, bit_not}
+use Rattle.std.proofs.lemmas.Nat.Bits.{bit_at_lowest, bit_at-suc, bit_at-zero, bit_at-lt, bit_at_and, bit_at_not, bit_at_above}
+use Rattle.std.proofs.lemmas.Nat.Bits.{bit_at_cat_high}
+use Rattle.std.proofs.lemmas.Nat.Bits.{bit_at_mask_inside, bit_at_mask_below, bit_at_mask_above, same_from_bits}
 use Rattle.base.specs.If.{if_true}
 use Rattle.base.specs.Limits.{numbers24, window_places}
-use Rattle.base.specs.Numbers.{ahead}
 use Rattle.base.specs.Put.{and_then, Run}
-use Rattle.base.proofs.Puts.{run_none, run-then, run-cons, run_long}
+use Rattle.base.proofs.Puts.{run_none, run-then, run-cons}
+use Rattle.base.proofs.Runs.{Left, left_less, left-none}
 use Rattle.window.specs.Places.{place_set}
-use Rattle.window.specs.Window.{accepted}
-use Rattle.window.specs.Missing.{least, highest, unless_accepted, missing_of, searched, missing}
-use Rattle.window.specs.Words.{word_places, place_at, places_from, clear_of, ones_from, bit_length}
+use Rattle.window.specs.Window.{window_of, accepted}
+use Rattle.window.specs.Missing.{highest, unless_accepted, missing_of, searched, missing}
+use Rattle.window.specs.Words.{word_places, place_at, places_from, clear_of, ones_from}
 use Rattle.window.specs.declared.ReliableWindow.{ReliableWindow}
 use Rattle.window.proofs.Accepted.{accepted-low, accepted-place}
-use Rattle.window.proofs.Bits.{two-pow}
-use Rattle.window.proofs.Missing.{highest-within}
+use Rattle.window.proofs.Missing.{highest-within, highest-is}
 use Rattle.window.proofs.Places.{is_set, is-clear}
-use Rattle.window.proofs.Steps.{least-left, least-right, below-least}
-use Rattle.window.proofs.WordBits.{place-small, places-small, places-join, ones_none, ones-wide, ones_odd, ones-even, ones-lowest, rest-less}
+use Rattle.window.proofs.WordBits.{places-small, places-bit, ones_none, ones_odd, ones-even, ones-lowest}
 
 -- ---- the numbers whose places are clear
 module _ (bits : List ℕ) where
@@ -61,119 +60,98 @@ module _ (bits : List ℕ) where
   unfolding clear_of
   clear-last n c = let d : suc c ≡ c + 1 = omega arith in ap (clear_of bits n) d ∙ clear-join n c 1
 
-  -- they are the bits that are 1 where the places are taken from all ones: its lowest bit is the place of n turned round
-  less-places : (n c x : ℕ) → x ≡ 2 ^ suc c - 1 - places_from bits n (suc c)
-      → (x % 2 ≡ 1 - place_at bits n) × (x / 2 ≡ 2 ^ c - 1 - places_from bits (suc n) c)
-  unfolding places_from
-  less-places n c x e =
-      let s = places-small bits (suc n) c in
-      let p = place-small bits n in
-      let q = two-pow c in
-      (omega arith, omega arith)
-
-  clear-ones : (n c : ℕ) → ones_from n c (2 ^ c - 1 - places_from bits n c) ≡ clear_of bits n c
-  unfolding ones_from clear_of if_true
-  clear-ones n zero = refl
-  clear-ones n (suc c) =
-      let x : ℕ = 2 ^ suc c - 1 - places_from bits n (suc c) in
-      let r = less-places n c x refl in
-      go x (place_set bits n) refl r.0 (rw r.1 (clear-ones (suc n) c))
+  -- they are the numbers of the bits that are 1, where the d bits from lo on are 1 for the clear places and all others are 0
+  ones-low : (n d k x : ℕ) → ((i : ℕ) → i < d → bit_at x i ≡ 1 - place_at bits (n + i)) → ((i : ℕ) → d ≤ i → bit_at x i ≡ 0)
+      → ones_from n (d + k) x ≡ clear_of bits n d
+  unfolding clear_of if_true
+  ones-low n zero k x g h =
+      let z : x ≡ 0 = same_from_bits x 0 (λ i. h i (omega arith) ∙ sym (bit_at-zero i)) in
+      rw (z, zero-add) (ones_none n k)
+  ones-low n (suc d) k x g h =
+      rw suc-add (go (place_set bits n) refl
+      (ones-low (suc n) d k (x / 2) (λ i l. half i (g (suc i) (omega arith))) (λ i l. sym (bit_at-suc x i) ∙ h (suc i) (omega arith))))
     where
-      go : (x : ℕ) (t : Bool) → place_set bits n ≡ t → x % 2 ≡ 1 - place_at bits n → ones_from (suc n) c (x / 2) ≡ clear_of bits (suc n) c
-          → ones_from n (suc c) x ≡ if_true t (clear_of bits (suc n) c) (n ∷ clear_of bits (suc n) c)
-      go x true t e h = ones-even n c x (omega (arith, place-one n t)) ∙ h
-      go x false t e h = ones_odd n c x (omega (arith, place-zero n t)) ∙ ap (λ (l : List ℕ). n ∷ l) h
+      half : (i : ℕ) → bit_at x (suc i) ≡ 1 - place_at bits (n + suc i) → bit_at (x / 2) i ≡ 1 - place_at bits (suc n + i)
+      half i e = let m : n + suc i ≡ suc n + i = omega arith in rw (← m) (sym (bit_at-suc x i) ∙ e)
 
--- ---- put one by one: whatever puts the rest of the numbers, the bits of x, from here on puts them all
-pub record Left (n p ones : ℕ) (l : List ℕ) (x q : ℕ) (L : List ℕ) : Type 0 where
-  pub small : x < 2 ^ 64
-  pub then : (r : ℕ) (M : List ℕ) → Run q (ones_from n word_places x) L r M → Run p (ones_from n word_places ones) l r M
+      first : x % 2 ≡ 1 - place_at bits n
+      first = let e = g zero (omega arith) in sym (bit_at_lowest x) ∙ rw add-zero at e
 
-module _ (n p ones : ℕ) (l : List ℕ) where
-  pub left-all : Fits w64 ones → Left n p ones l ones p l
-  left-all f = record { small = f.fits; then = λ r M a. a }
+      go : (t : Bool) → place_set bits n ≡ t → ones_from (suc n) (d + k) (x / 2) ≡ clear_of bits (suc n) d
+          → ones_from n (suc (d + k)) x ≡ if_true t (clear_of bits (suc n) d) (n ∷ clear_of bits (suc n) d)
+      go true t e = ones-even n (d + k) x (omega (arith, first, place-one n t)) ∙ e
+      go false t e = ones_odd n (d + k) x (omega (arith, first, place-zero n t)) ∙ ap (λ (l : List ℕ). n ∷ l) e
 
-  pub left-next : (x y q : ℕ) (L : List ℕ) (r : ℕ) (M : List ℕ) → Left n p ones l x q L → 0 < x
-      → Run q ((n + count_trailing_zeros word_places x) ∷ []) L r M → y ≡ bit_and x (x - 1) → Left n p ones l y r M
-  left-next x y q L r M left h a e =
-      record {
-        small = omega (arith, rest-less x h, left.small);
-        then = λ s N b. left.then s N
-            (rw (ones-lowest n word_places x h left.small, ← e)
-            (run-cons q (n + count_trailing_zeros word_places x) (ones_from n word_places y) L r M s N a b));
-      }
+  ones-clear : (n lo d k x : ℕ) → ((i : ℕ) → i < lo → bit_at x i ≡ 0)
+      → ((i : ℕ) → lo ≤ i → i < lo + d → bit_at x i ≡ 1 - place_at bits (n + i)) → ((i : ℕ) → lo + d ≤ i → bit_at x i ≡ 0)
+      → ones_from n (lo + (d + k)) x ≡ clear_of bits (n + lo) d
+  ones-clear n zero d k x f g h =
+      rw (zero-add, add-zero) (ones-low n d k x (λ i l. g i (omega arith) (omega arith)) (λ i l. h i (omega arith)))
+  ones-clear n (suc lo) d k x f g h =
+      let z : x % 2 ≡ 0 = sym (bit_at_lowest x) ∙ f zero (omega arith) in
+      let e : n + suc lo ≡ suc n + lo = omega arith in
+      rw (suc-add, e) (ones-even n (lo + (d + k)) x z ∙ ones-clear (suc n) lo d k (x / 2)
+      (λ i l. sym (bit_at-suc x i) ∙ f (suc i) (omega arith))
+      (λ i l m. let q : suc n + i ≡ n + suc i = omega arith in rw q (sym (bit_at-suc x i) ∙ g (suc i) (omega arith) (omega arith)))
+      (λ i l. sym (bit_at-suc x i) ∙ h (suc i) (omega arith)))
 
-  pub left-none : (x q : ℕ) (L : List ℕ) → x ≤ 0 → Left n p ones l x q L → Run p (ones_from n word_places ones) l q L
-  left-none x q L h left =
-      let z : x ≡ 0 = omega arith in
-      left.then q L (run_none q (ones_from n word_places x) L (rw z (ones_none n word_places)))
-
-  pub left-long : (x q : ℕ) (L : List ℕ) → x ≤ 0 → Left n p ones l x q L → length L ≡ length l
-  left-long x q L h left = run_long p (ones_from n word_places ones) l q L (left-none x q L h left)
-
--- ---- the places of one word, as they are put
-module _ (bits : List ℕ) (n c a s : ℕ) (e : a ≡ 2 ^ c - 1) (f : s ≡ places_from bits n c) where
-  pub places-fit : s ≤ a
-  places-fit = omega (arith, places-small bits n c)
-
-  pub put-places : (p : ℕ) (l : List ℕ) (q : ℕ) (m : List ℕ) → n % word_places + c ≤ word_places → Run p (ones_from n word_places (a - s)) l q m
-      → Run p (clear_of bits n c) l q m
-  put-places p l q m h r =
-      let y : a - s ≡ 2 ^ c - 1 - places_from bits n c = omega arith in
-      let b : a - s < 2 ^ c = omega (arith, places-small bits n c) in
-      let d : word_places ≡ c + (word_places - c) = omega arith in
-      let o : ones_from n word_places (a - s) ≡ clear_of bits n c =
-      ap (λ (j : ℕ). ones_from n j (a - s)) d ∙ ones-wide n c (word_places - c) (a - s) b ∙ rw y (clear-ones bits n c) in
-      rw o at r
-
--- ---- how many numbers from n on stand in its word, of those that are left: some, none past the word's end, and not more than are left
-module _ (end k n c : ℕ) (e : c ≡ least (word_places - n % word_places) (end - k)) where
-  pub up-some : k < end → 0 < c
-  up-some h = rw e (below-least (word_places - n % word_places) (end - k) 0 (omega arith) (omega arith))
-
-  pub up-in-word : n % word_places + c ≤ word_places
-  up-in-word = omega (arith, least-left (word_places - n % word_places) (end - k))
-
-  pub up-within : k ≤ end → k + c ≤ end
-  up-within h = omega (arith, least-right (word_places - n % word_places) (end - k))
-
-  pub up_fits : k ≤ end → end ≤ window_places → Fits w32 (k + c)
-  up_fits h i = record { fits = omega (arith, up-within h) }
-
-  pub up-less : k < end → end - (k + c) < end - k
-  up-less h = omega (arith, up-some h, up-within (omega arith))
-
--- the same from n on down
-module _ (low k m c : ℕ) (a : m ≡ ahead low k) (e : c ≡ least (m % word_places + 1) k) where
-  pub down-some : 0 < k → 0 < c
-  down-some h = rw e (below-least (m % word_places + 1) k 0 (omega arith) h)
-
-  pub down-within : c ≤ k
-  down-within = omega (arith, least-right (m % word_places + 1) k)
-
-  pub down-in-word : (n : ℕ) → 0 < k → n ≡ ahead low (k - c + 1) → n % word_places + c ≤ word_places
-  down-in-word n h f = omega (arith, least-left (m % word_places + 1) k, down-within, down-some h)
-
-  pub down-less : 0 < k → k - c < k
-  down-less h = omega (arith, down-within, down-some h)
-
--- ---- the numbers above low, word by word
-module _ (bits : List ℕ) (low end : ℕ) where
-  pub above-none : (p q k : ℕ) (l : List ℕ) → k ≡ 1 → q ≡ p → Run p (clear_of bits (low + 1) (k - 1)) l q l
-  unfolding clear_of
-  above-none p q k l e f = rw (e, f) (run_none p (clear_of bits (low + 1) 0) l refl)
-
-  pub above_more : (p k n c : ℕ) (l : List ℕ) (q : ℕ) (L : List ℕ) (r : ℕ) (M : List ℕ) → 0 < k → n ≡ ahead low k
-      → Run q (clear_of bits n c) L r M → Run p (clear_of bits (low + 1) (k - 1)) l q L → Run p (clear_of bits (low + 1) (k + c - 1)) l r M
+-- ---- put one by one, the lowest first
+module _ (p n : ℕ) (bs l : List ℕ) (x q : ℕ) (L : List ℕ) (a : Left p bs l q (ones_from n word_places x) L) where
+  pub lowest-put : 0 < x → x < 2 ^ 64 → (r : ℕ) (M : List ℕ) → Run q ((n + count_trailing_zeros word_places x) ∷ []) L r M
+      → Left p bs l r (ones_from n word_places (bit_and x (x - 1))) M
   unfolding and_then
-  above_more p k n c l q L r M h e a b =
-      let d : k + c - 1 ≡ k - 1 + c = omega arith in
-      let f : low + 1 + (k - 1) ≡ n = omega arith in
-      rw (d, clear-join bits (low + 1) (k - 1) c, f) (run-then p (clear_of bits (low + 1) (k - 1)) (clear_of bits n c) l q L r M b a)
+  lowest-put h f r M b =
+      let y = rw (ones-lowest n word_places x h f) at a in
+      left_less p bs l q ((n + count_trailing_zeros word_places x) ∷ []) (ones_from n word_places (bit_and x (x - 1))) L r M b y
 
-  pub above-end : (p k : ℕ) (l : List ℕ) (q : ℕ) (L : List ℕ) → k ≤ end → end ≤ k → Run p (clear_of bits (low + 1) (k - 1)) l q L
-      → Run p (clear_of bits (low + 1) (end - 1)) l q L
-  above-end p k l q L h i r = let e : k ≡ end = omega arith in rw e at r
+  pub all-put : x ≤ 0 → Run p bs l q L
+  all-put h = let z : x ≡ 0 = omega arith in left-none p bs l q _ L (rw z (ones_none n word_places)) a
+
+-- ---- a word w of the places from n on, and m, which has the bits from lo on and below hi
+module _ (bits : List ℕ) (n lo hi m w : ℕ) (o : lo ≤ hi) (t : hi ≤ word_places) (e : m ≡ 2 ^ hi - 2 ^ lo)
+    (f : w ≡ places_from bits n word_places) where
+  inside : (v i : ℕ) → lo ≤ i → i < hi → bit_at (bit_and m v) i ≡ bit_at v i
+  inside v i a b = rw e (omega (arith, bit_at_and (2 ^ hi - 2 ^ lo) v i, bit_at_mask_inside lo hi i a b, bit_at-lt v i))
+
+  below : (v i : ℕ) → i < lo → bit_at (bit_and m v) i ≡ 0
+  below v i a = rw e (omega (arith, bit_at_and (2 ^ hi - 2 ^ lo) v i, bit_at_mask_below lo hi i a))
+
+  above : (v i : ℕ) → hi ≤ i → bit_at (bit_and m v) i ≡ 0
+  above v i a = rw e (omega (arith, bit_at_and (2 ^ hi - 2 ^ lo) v i, bit_at_mask_above lo hi i a))
+
+  -- the numbers whose places are clear
+  pub word-clear : ones_from n word_places (bit_and m (bit_not w64 w)) ≡ clear_of bits (n + lo) (hi - lo)
+  word-clear =
+      let d : word_places ≡ lo + (hi - lo + (word_places - hi)) = omega arith in
+      ap (λ (c : ℕ). ones_from n c (bit_and m (bit_not w64 w))) d
+      ∙ ones-clear bits n lo (hi - lo) (word_places - hi) (bit_and m (bit_not w64 w)) (below (bit_not w64 w))
+      (λ i a b. inside (bit_not w64 w) i a (omega arith) ∙ bit_at_not w64 w i (rw f (places-small bits n word_places)) (omega arith)
+      ∙ rw (f, places-bit bits n word_places i (omega arith)))
+      (λ i a. above (bit_not w64 w) i (omega arith))
+
+  -- those whose places are set
+  pub word_set : (i : ℕ) → lo ≤ i → i < hi → bit_at (bit_and m w) i ≡ place_at bits (n + i)
+  word_set i a b = inside w i a b ∙ rw (f, places-bit bits n word_places i (omega arith))
+
+-- ---- the numbers above low, word by word: the first of from..to, those before the word n
+pub above-none : (bits : List ℕ) (from k p : ℕ) (l : List ℕ) → k ≡ 0 → Run p (clear_of bits from k) l p l
+above-none bits from k p l e = run_none p (clear_of bits from k) l (rw e (clear_none bits from))
+
+module _ (bits : List ℕ) (from to p : ℕ) (l : List ℕ) where
+  pub above-more : (j m w q : ℕ) (L : List ℕ) (r : ℕ) (M : List ℕ) → from < (j + 1) * word_places → j * word_places < to → from ≤ to
+      → m ≡ 2 ^ min word_places (to - j * word_places) - 2 ^ (from - j * word_places) → w ≡ places_from bits (j * word_places) word_places
+      → Run p (clear_of bits from (min (j * word_places) to - from)) l q L
+      → Run q (ones_from (j * word_places) word_places (bit_and m (bit_not w64 w))) L r M
+      → Run p (clear_of bits from (min ((j + 1) * word_places) to - from)) l r M
+  unfolding and_then
+  above-more j m w q L r M k h o e f a b =
+      let n : ℕ = j * word_places in
+      let c : ℕ = min word_places (to - n) - (from - n) in
+      let d : min ((j + 1) * word_places) to - from ≡ min n to - from + c = omega arith in
+      let g : from + (min n to - from) ≡ n + (from - n) = omega arith in
+      let y = rw (word-clear bits n (from - n) (min word_places (to - n)) m w (omega arith) (omega arith) e f) at b in
+      rw (d, clear-join bits from (min n to - from) c, g)
+      (run-then p (clear_of bits from (min n to - from)) (clear_of bits (n + (from - n)) c) l q L r M a y)
 
 module _ (w : ReliableWindow) where
   missing-clear : (c : ℕ) → c ≤ window_places → missing_of w (suc c) ≡ w.low ∷ clear_of w.bits (w.low + 1) c
@@ -186,13 +164,13 @@ module _ (w : ReliableWindow) where
       rw (missing-clear c (omega arith), a, n, clear-last w.bits (w.low + 1) c)
 
   -- the whole list: low, and the clear ones above it; or nothing
-  module _ (h end : ℕ) (f : h ≡ highest w window_places) (g : end ≡ least h (numbers24 - w.low)) where
-    end_is : end ≡ least (highest w window_places) (numbers24 - w.low)
+  module _ (h end : ℕ) (f : h ≡ highest w window_places) (g : end ≡ min h (numbers24 - w.low)) where
+    end_is : end ≡ min (highest w window_places) (numbers24 - w.low)
     end_is = rw f at g
 
     pub end-small : end ≤ window_places
     end-small =
-        omega (arith, highest-within w window_places, end_is, least-left (highest w window_places) (numbers24 - w.low))
+        omega (arith, highest-within w window_places, end_is)
 
     pub list-empty : end ≡ 0 → (l : List ℕ) → Run 0 (missing w) l 0 l
     unfolding missing missing_of
@@ -206,77 +184,83 @@ module _ (w : ReliableWindow) where
         rw (d, missing-clear (end - 1) (omega (arith, end-small)))
         (run-cons 0 w.low (clear_of w.bits (w.low + 1) (end - 1)) l q L r M a b)
 
--- ---- the highest accepted number, word by word from the last place down
-module _ (bits : List ℕ) (m c : ℕ) where
-  top-at : places_from bits m (suc c) ≡ place_at bits (m + c) * 2 ^ c + places_from bits m c
-  unfolding places_from
-  top-at = let d : suc c ≡ c + 1 = omega arith in ap (places_from bits m) d ∙ places-join bits m c 1 ∙ rw zero-add
-
-  top_set : place_set bits (m + c) ≡ true → places_from bits m (suc c) ≡ 2 ^ c + places_from bits m c
-  top_set t = top-at ∙ rw (place-one bits (m + c) t, one-mul)
-
-  top-clear : place_set bits (m + c) ≡ false → places_from bits m (suc c) ≡ places_from bits m c
-  top-clear t = top-at ∙ rw (place-zero bits (m + c) t, zero-mul, zero-add)
-
-module _ (w : ReliableWindow) (j : ℕ) where
-  -- the last of c places above j
-  last-place : (c : ℕ) → place_set w.bits (w.low + suc (j + c)) ≡ place_set w.bits (w.low + (j + 1) + c)
-  last-place c = let e : w.low + suc (j + c) ≡ w.low + (j + 1) + c = omega arith in ap (place_set w.bits) e
-
-  highest-clear : (c : ℕ) → places_from w.bits (w.low + (j + 1)) c ≡ 0 → highest w (j + c) ≡ highest w j
-  unfolding highest if_true
-  highest-clear zero h = rw add-zero
-  highest-clear (suc c) h = rw (add-suc, last-place c) (go (place_set w.bits (w.low + (j + 1) + c)) refl (highest-clear c))
+-- ---- the highest accepted number, word by word from the last one down: s is the set places of from..to of the word n
+module _ (bits : List ℕ) (x : ℕ) where
+  clear-place_set : place_at bits x ≡ 0 → place_set bits x ≡ false
+  clear-place_set e = go (place_set bits x) refl
     where
-      go : (t : Bool) → place_set w.bits (w.low + (j + 1) + c) ≡ t
-          → (places_from w.bits (w.low + (j + 1)) c ≡ 0 → highest w (j + c) ≡ highest w j)
-          → if_true t (suc (j + c)) (highest w (j + c)) ≡ highest w j
-      go true t later = absurd (omega (arith, pow_pos c, top_set w.bits (w.low + (j + 1)) c t))
-      go false t later = later (sym (top-clear w.bits (w.low + (j + 1)) c t) ∙ h)
+      go : (t : Bool) → place_set bits x ≡ t → t ≡ false
+      go true f = absurd (omega (arith, place-one bits x f))
+      go false f = refl
 
-  highest-top : (c t : ℕ) → 2 ^ t ≤ places_from w.bits (w.low + (j + 1)) c → places_from w.bits (w.low + (j + 1)) c < 2 ^ suc t
-      → highest w (j + c) ≡ j + suc t
-  unfolding highest if_true
-  highest-top zero t h k = absurd (omega (arith, pow_pos t, places-small w.bits (w.low + (j + 1)) 0))
-  highest-top (suc c) t h k = rw (add-suc, last-place c) (go (place_set w.bits (w.low + (j + 1) + c)) refl (highest-top c t))
+  set-place_set : place_at bits x ≡ 1 → place_set bits x ≡ true
+  set-place_set e = go (place_set bits x) refl
     where
-      below : places_from w.bits (w.low + (j + 1)) (suc c) < 2 ^ suc c
-      below = places-small w.bits (w.low + (j + 1)) (suc c)
+      go : (t : Bool) → place_set bits x ≡ t → t ≡ true
+      go true f = refl
+      go false f = absurd (omega (arith, place-zero bits x f))
 
-      same : place_set w.bits (w.low + (j + 1) + c) ≡ true → Dec (c < t) → Dec (t < c) → c ≡ t
-      same s (yes a) b = absurd (omega (arith, below, pow_mono {i = suc c} {j = t} a))
-      same s (no a) (yes b) = absurd (omega (arith, top_set w.bits (w.low + (j + 1)) c s, pow_mono {i = suc t} {j = c} b))
-      same s (no a) (no b) = omega arith
+module _ (bits : List ℕ) (low n m w s : ℕ) (k : low + 1 < n + word_places) (h : n < low + 1 + window_places)
+    (e : m ≡ 2 ^ min word_places (low + 1 + window_places - n) - 2 ^ (low + 1 - n)) (f : w ≡ places_from bits n word_places)
+    (g : s ≡ bit_and m w)
+    (after : (x : ℕ) → low + 1 ≤ x → n + word_places ≤ x → x < low + 1 + window_places → place_set bits x ≡ false) where
+  kept : (i : ℕ) → low + 1 ≤ n + i → n + i < low + 1 + window_places → i < word_places → bit_at s i ≡ place_at bits (n + i)
+  kept i a b c = rw g (word_set bits n _ _ m w (omega arith) (omega arith) e f i (omega arith) (omega arith))
 
-      go : (s : Bool) → place_set w.bits (w.low + (j + 1) + c) ≡ s
-          → (2 ^ t ≤ places_from w.bits (w.low + (j + 1)) c → places_from w.bits (w.low + (j + 1)) c < 2 ^ suc t
-          → highest w (j + c) ≡ j + suc t)
-          → if_true s (suc (j + c)) (highest w (j + c)) ≡ j + suc t
-      go true s later = let e : c ≡ t = same s (dec_lt c t) (dec_lt t c) in omega arith
-      go false s later =
-          let e : places_from w.bits (w.low + (j + 1)) (suc c) ≡ places_from w.bits (w.low + (j + 1)) c =
-          top-clear w.bits (w.low + (j + 1)) c s in
-          later (rw e at h) (rw e at k)
+  before : (i : ℕ) → n + i < low + 1 → bit_at s i ≡ 0
+  before i a = rw g (below bits n _ _ m w (omega arith) (omega arith) e f w i (omega arith))
 
--- the scan goes on below a word of clear places, and ends at the highest that is set
-module _ (w : ReliableWindow) (t k m c n x : ℕ) (i : m ≡ ahead w.low k) (j : c ≡ least (m % word_places + 1) k)
-    (a : n ≡ ahead w.low (k - c + 1)) (e : x ≡ places_from w.bits n c) (s : highest w k ≡ t) where
-  from-below : highest w (k - c + c) ≡ t
-  from-below = let d : k - c + c ≡ k = omega (arith, down-within w.low k m c i j) in rw d s
+  beyond : (i : ℕ) → low + 1 + window_places ≤ n + i → bit_at s i ≡ 0
+  beyond i a = rw g (above bits n _ _ m w (omega arith) (omega arith) e f w i (omega arith))
 
-  pub word-clear : x ≤ 0 → highest w (k - c) ≡ t
-  word-clear z =
-      let y : x ≡ 0 = omega arith in
-      let p : places_from w.bits (w.low + (k - c + 1)) c ≡ 0 = rw a at (sym e ∙ y) in
-      sym (highest-clear w (k - c) c p) ∙ from-below
-
-  pub word_set : 0 < x → Fits w64 x → (l : ℕ) → l ≡ bit_length x → k - c + l ≡ t
-  word_set z f l g = go (leading_top word_places x z f.fits)
+  -- the places of this word and of those above it are clear, where no bit of it from i on is 1
+  clear-on : (i : ℕ) → ((j : ℕ) → i ≤ j → bit_at s j ≡ 0) → (x : ℕ) → low + 1 ≤ x → n + i ≤ x → x < low + 1 + window_places
+      → place_set bits x ≡ false
+  clear-on i z x a b c = go (dec_lt x (n + word_places))
     where
-      p : x ≡ places_from w.bits (w.low + (k - c + 1)) c
-      p = rw a at e
+      go : Dec (x < n + word_places) → place_set bits x ≡ false
+      go (yes l) =
+          let y : n + (x - n) ≡ x = omega arith in
+          let p = kept (x - n) (omega arith) (omega arith) (omega arith) in
+          clear-place_set bits x (sym (rw y at p) ∙ z (x - n) (omega arith))
+      go (no l) = after x a (omega arith) c
 
-      go : ((u : ℕ) × (count_leading_zeros word_places x + suc u ≡ word_places) × (2 ^ u ≤ x) × (x < 2 ^ suc u)) → k - c + l ≡ t
-      go (u, d, lo, hi) =
-          let y : k - c + l ≡ k - c + suc u = omega arith in
-          y ∙ sym (highest-top w (k - c) c u (rw p at lo) (rw p at hi)) ∙ from-below
+  pub highest-on : s ≡ 0 → (x : ℕ) → low + 1 ≤ x → n ≤ x → x < low + 1 + window_places → place_set bits x ≡ false
+  highest-on z x a b c = clear-on 0 (λ j _. rw z (bit_at-zero j)) x a (omega arith) c
+
+  module _ (t : ℕ) (lower : 2 ^ t ≤ s) (upper : s < 2 * 2 ^ t) (short : t < word_places) where
+    top : bit_at s t ≡ 1
+    top =
+        let d : 1 * 2 ^ t + (s - 2 ^ t) ≡ s = omega arith in
+        let z : t - t ≡ 0 = omega arith in
+        let p = bit_at_cat_high 1 t (s - 2 ^ t) t (omega arith) (le_refl t) in
+        rw d at (rw z at p)
+
+    pub found-above : low < n + t
+    found-above = go (dec_lt (n + t) (low + 1))
+      where
+        go : Dec (n + t < low + 1) → low < n + t
+        go (yes l) = absurd (omega (arith, top, before t l))
+        go (no l) = omega arith
+
+    found-within : n + t < low + 1 + window_places
+    found-within = go (dec_lt (n + t) (low + 1 + window_places))
+      where
+        go : Dec (n + t < low + 1 + window_places) → n + t < low + 1 + window_places
+        go (yes l) = l
+        go (no l) = absurd (omega (arith, top, beyond t (omega arith)))
+
+    pub highest-found : n + t - low ≡ highest (window_of low bits) window_places
+    highest-found =
+        let y : low + (n + t - low) ≡ n + t = omega (arith, found-above) in
+        let u : s < 2 ^ suc t = omega (arith, pow-suc 2 t) in
+        highest-is (window_of low bits) window_places (n + t - low) (omega (arith, found-within))
+        (λ _. rw y (set-place_set bits (n + t) (sym (kept t (omega (arith, found-above)) found-within short) ∙ top)))
+        (λ i a b. clear-on (suc t) (λ j q. bit_at_above s (suc t) j u q) (low + i) (omega arith) (omega arith) (omega arith))
+
+pub highest-none : (bits : List ℕ) (low k : ℕ) → k ≤ low + 1
+    → ((x : ℕ) → low + 1 ≤ x → k ≤ x → x < low + 1 + window_places → place_set bits x ≡ false)
+    → 0 ≡ highest (window_of low bits) window_places
+highest-none bits low k h c =
+    highest-is (window_of low bits) window_places 0 (omega arith) (λ a. absurd (omega arith))
+    (λ i a b. c (low + i) (omega arith) (omega arith) (omega arith))

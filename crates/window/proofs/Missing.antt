@@ -21,7 +21,6 @@ use Rattle.window.specs.Proper.{Proper}
 use Rattle.window.specs.declared.ReliableWindow.{ReliableWindow}
 use Rattle.window.proofs.Accepted.{accepted-place, accepted-above, low-le}
 use Rattle.window.proofs.Laws.{low_first, proper-accepted}
-use Rattle.window.proofs.Steps.{least-left, least-right, below-least}
 
 -- ---- the highest accepted number
 module _ (w : ReliableWindow) where
@@ -55,6 +54,16 @@ module _ (w : ReliableWindow) where
       go true e d later l = absurd (omega arith)
       go false e (yes d) later l = rw d e
       go false e (no d) later l = later (omega arith) l
+
+  -- it is the only one that is set, or 0, and has none above it that is set
+  pub highest-is : (k h : ℕ) → h ≤ k → (0 < h → place_set w.bits (w.low + h) ≡ true)
+      → ((i : ℕ) → h < i → i ≤ k → place_set w.bits (w.low + i) ≡ false) → h ≡ highest w k
+  highest-is k h l s c = go (dec_lt h (highest w k)) (dec_lt (highest w k) h)
+    where
+      go : Dec (h < highest w k) → Dec (highest w k < h) → h ≡ highest w k
+      go (yes a) b = absurd (true≢false (sym (highest-set k (omega arith)) ∙ c (highest w k) a (highest-within k)))
+      go (no a) (yes b) = absurd (true≢false (sym (s (omega arith)) ∙ above-highest k h l b))
+      go (no a) (no b) = omega arith
 
 -- an accepted number above low is at most the highest, and the highest is accepted
 module _ (w : ReliableWindow) where
@@ -170,7 +179,7 @@ ascends-of w (suc k) = rw add-suc (go (accepted w (w.low + k)) (ascends-of w k))
 -- ---- the missing list
 module _ (w : ReliableWindow) where
   searched-highest : searched w ≤ highest w window_places
-  searched-highest = least-left (highest w window_places) (numbers24 - w.low)
+  searched-highest = omega arith
 
   -- m is missing exactly where it was never accepted and some number above it was
   pub missing-member : Proper w → (m : ℕ) → Memᴰ m (missing w) ↔ (accepted w m ≡ false) × ((x : ℕ) × (m < x) × (accepted w x ≡ true))
@@ -185,8 +194,7 @@ module _ (w : ReliableWindow) where
           let l : w.low ≤ m = low-le w m e.0 in
           let a : e.1.0 ≤ w.low + highest w window_places = accepted-within-highest w e.1.0 (omega arith) e.1.2 in
           let b : e.1.0 < numbers24 = proper-accepted w p e.1.0 e.1.2 in
-          let s : m - w.low < searched w = below-least (highest w window_places) (numbers24 - w.low) (m - w.low) (omega arith)
-          (omega arith) in
+          let s : m - w.low < searched w = omega arith in
           (l, omega arith, e.0)
 
   -- the missing numbers ascend
@@ -204,7 +212,7 @@ module _ (w : ReliableWindow) where
   unfolding missing
   missing-limit m i =
       let e : Lacking w (searched w) m = (member_of w (searched w) m).0 i in
-      omega (arith, least-right (highest w window_places) (numbers24 - w.low))
+      omega arith
 
   -- none is missing exactly where no number above low is accepted
   pub missing-none : Proper w → missing w ≡ [] ↔ ((x : ℕ) → w.low < x → accepted w x ≡ false)

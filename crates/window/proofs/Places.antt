@@ -3,12 +3,11 @@
 use mathlib.Core.Path.{◌≡◌, ◌∙◌, sym, ap}
 use mathlib.Core.Bool.{true, false}
 use mathlib.Core.List.{List}
-use Prim.Native.Nat.{ℕ, ◌+◌, ◌-◌, ◌%◌, ◌^◌, ◌<◌, ◌≤◌}
+use Prim.Native.Nat.{ℕ, ◌%◌, ◌^◌, ◌<◌, ◌≤◌}
 use native.Mathlib.Decide.{ℕ_discrete}
 use native.Mathlib.Nat.{zero-div}
 use native.Mathlib.Omega.{arith}
-use mir.Val.{Fits}
-use mir.Syntax.{w8}
+use lib.Bits.{bit_xor}
 use lib.Dec.{eqb}
 use lib.ListN.{get_or, set, length, get_or-replicate}
 use lib.Seq.{get_or-set_same, get_or-set_other, set_out}
@@ -16,7 +15,7 @@ use borrow.Author.Tests.{eqb-true, eqb-false}
 use Rattle.base.specs.Limits.{window_places}
 use Rattle.window.specs.Places.{bit, place_byte, place_bit, place_set, set_place, clear_place}
 use Rattle.window.specs.Window.{new_window}
-use Rattle.window.proofs.Bits.{bit-small, bit-set, bit-set-other, bit_le, bit-clear, bit-clear-other, bit-fits}
+use Rattle.window.proofs.Bits.{bit-small, turn-set, turn-clear, bit-set, bit-set-other, bit-clear, bit-clear-other}
 
 -- numbers that are 2,048 apart have one place
 pub same_place : (bits : List ℕ) (m n : ℕ) → m % window_places ≡ n % window_places → place_set bits m ≡ place_set bits n
@@ -39,37 +38,25 @@ module _ (bits : List ℕ) (n : ℕ) where
       let d : bit (get_or bits (place_byte n) 0) (place_bit n) ≡ 1 → ⊥ = eqb-false _ 1 t in
       omega (arith, bit-small (get_or bits (place_byte n) 0) (place_bit n))
 
--- the byte that is stored, with the facts as the code finds them: it is a byte; a place past the end is not stored
-module _ (bits : List ℕ) (n at b : ℕ) (e : at ≡ place_byte n) (f : b ≡ get_or bits at 0) where
-  here : b ≡ get_or bits (place_byte n) 0
-  here = rw e at f
+-- the place turned, with the facts as the code finds them; one past the end is not stored
+module _ (bits : List ℕ) (n at : ℕ) (e : at ≡ place_byte n) where
+  module _ (p : ℕ) (q : p ≡ 2 ^ place_bit n) where
+    pub turn-sets : place_set bits n ≡ false → set bits at (bit_xor (get_or bits at 0) p) ≡ set_place bits n
+    unfolding set_place
+    turn-sets t = rw (e, q, turn-set _ _ (is-clear bits n t))
 
-  pub set-fits : place_set bits n ≡ false → (p : ℕ) → p ≡ 2 ^ place_bit n → Fits w8 b → Fits w8 (b + p)
-  set-fits t p q g =
-      record {
-        fits = rw (here, q) (bit-fits 8 (get_or bits (place_byte n) 0) (place_bit n) (rw here at g.fits) (omega arith)
-            (is-clear bits n t));
-      }
+    pub turn-clears : place_set bits n ≡ true → set bits at (bit_xor (get_or bits at 0) p) ≡ clear_place bits n
+    unfolding clear_place
+    turn-clears t = rw (e, q, turn-clear _ _ (is_set bits n t))
 
-  pub clear-fits : place_set bits n ≡ true → (p : ℕ) → p ≡ 2 ^ place_bit n → p ≤ b
-  clear-fits t p q = rw (here, q) (bit_le _ _ (is_set bits n t))
+  module _ (past : length bits ≤ at) where
+    pub set-past : bits ≡ set_place bits n
+    unfolding set_place
+    set-past = sym (set_out bits (place_byte n) _ (rw e at past))
 
-  pub set_is : (p : ℕ) → p ≡ 2 ^ place_bit n → set bits at (b + p) ≡ set_place bits n
-  unfolding set_place
-  set_is p q = rw (here, e, q)
-
-  pub clear-is : (p : ℕ) → p ≡ 2 ^ place_bit n → set bits at (b - p) ≡ clear_place bits n
-  unfolding clear_place
-  clear-is p q = rw (here, e, q)
-
-module _ (bits : List ℕ) (n at : ℕ) (past : length bits ≤ at) (e : at ≡ place_byte n) where
-  pub set_past : bits ≡ set_place bits n
-  unfolding set_place
-  set_past = sym (set_out bits (place_byte n) _ (rw e at past))
-
-  pub clear-past : bits ≡ clear_place bits n
-  unfolding clear_place
-  clear-past = sym (set_out bits (place_byte n) _ (rw e at past))
+    pub clear-past : bits ≡ clear_place bits n
+    unfolding clear_place
+    clear-past = sym (set_out bits (place_byte n) _ (rw e at past))
 
 module _ (bits : List ℕ) (n : ℕ) (long : length bits ≡ 256) where
   store_same : (v : ℕ) → place_set (set bits (place_byte n) v) n ≡ eqb (bit v (place_bit n)) 1

@@ -1,16 +1,12 @@
 -- Document 01: "Missing numbers are the datagram numbers never accepted below the highest accepted; none before the first."
-use Rattle.std.specs.Prelude.{ℕ, zero, suc, ◌-◌, List, [], ◌∷◌}
-use Rattle.base.specs.If.{if_true, if_le}
+use Rattle.std.specs.Prelude.{ℕ, zero, suc, ◌-◌, List, [], ◌∷◌, min}
+use Rattle.base.specs.If.{if_true}
 use Rattle.base.specs.Limits.{numbers24, window_places}
 use Rattle.base.specs.Put.{and_then}
 use Rattle.base.specs.Numbers.{ahead}
 use Rattle.window.specs.Places.{place_set}
 use Rattle.window.specs.Window.{accepted}
 use Rattle.window.specs.declared.ReliableWindow.{ReliableWindow}
-
--- the smaller of two numbers
-abbrev pub least : ℕ → ℕ → ℕ
-least a b = if_le a b a b
 
 -- how far above low the highest accepted number stands, of those up to k above it; 0 where none of their places is set
 unfoldable pub highest : ReliableWindow → ℕ → ℕ
@@ -29,7 +25,7 @@ missing_of w (suc k) = and_then (missing_of w k) (unless_accepted w (ahead w.low
 -- how many numbers from low on may be missing: those below the highest accepted. Numbers of 2^24 or more are no datagram numbers and are
 -- never named, not even where low is one or a place beyond is set.
 abbrev pub searched : ReliableWindow → ℕ
-searched w = least (highest w window_places) (numbers24 - w.low)
+searched w = min (highest w window_places) (numbers24 - w.low)
 
 unfoldable pub missing : ReliableWindow → List ℕ
 missing w = missing_of w (searched w)

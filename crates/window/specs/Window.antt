@@ -1,16 +1,14 @@
 -- Document 01, "window.rs" and "Window insert": "`insert` takes index low + 2,048 too. Low is the smallest number never accepted." and "the
 -- window is one value with its bits inside it: 2,048 places above the lowest missing number, all clear at first".
-use Rattle.std.specs.Prelude.{ℕ, zero, suc, Bool, true, false, List, replicate}
+use Rattle.std.specs.Prelude.{ℕ, zero, suc, Bool, true, false, List, replicate, Result, Ok, Err}
 use Rattle.base.specs.Answer.{Answer, refused, gives}
+use Rattle.base.specs.Refusals.{number_of, answer}
+use Rattle.base.specs.declared.refusal.Refusal.{Refusal}
 use Rattle.base.specs.If.{if_true, if_lt, if_le, if_eq}
 use Rattle.base.specs.Limits.{numbers24, window_places}
 use Rattle.base.specs.Numbers.{behind, distance, following}
 use Rattle.window.specs.Places.{place_set, set_place, clear_place}
 use Rattle.window.specs.declared.ReliableWindow.{ReliableWindow}
-use Rattle.window.specs.declared.Insert.{Insert}
-use Rattle.window.specs.declared.Insert.TheVariants.{Accepted, TooLarge, Old, Beyond}
-use Rattle.window.specs.declared.Inserted.{Inserted}
-use Rattle.window.specs.declared.InsertedLow.{InsertedLow}
 
 -- the window of a low number and bits that stand apart
 abbrev pub window_of : ℕ → List ℕ → ReliableWindow
@@ -65,16 +63,11 @@ insert_of w n =
     (if_lt window_places (distance w.low n) (refuse 5 w)
     (give (accept w n))))
 
--- the code's answer in document 01's numbers
-abbrev pub insert_answer : Insert → Answer (Unit {0})
-insert_answer Accepted = gives tt
-insert_answer TooLarge = refused 13
-insert_answer Old = refused 4
-insert_answer Beyond = refused 5
+-- the code's answer and the window that it left
+abbrev pub insertion : Result (Unit {0}) Refusal → ReliableWindow → Insertion
+insertion r w = record { answer = answer r; window = w }
 
-abbrev pub insertion : Inserted → Insertion
-insertion r = record { answer = insert_answer r.answer; window = r.window }
-
--- the same, of an insert into lent bits
-abbrev pub inserted_in : InsertedLow → List ℕ → Insertion
-inserted_in r bits = record { answer = insert_answer r.answer; window = window_of r.low bits }
+-- the same, of an insert into lent bits of a window with this low number
+abbrev pub inserted_in : ℕ → Result ℕ Refusal → List ℕ → Insertion
+inserted_in low (Ok l) bits = give (window_of l bits)
+inserted_in low (Err r) bits = refuse (number_of r) (window_of low bits)

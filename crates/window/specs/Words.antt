@@ -1,6 +1,5 @@
 -- The window by words: what the code of the missing list works with. No promise to a caller speaks of it.
-use Rattle.std.specs.Prelude.{ℕ, zero, suc, ◌+◌, ◌-◌, ◌*◌, ◌/◌, ◌%◌, List, [], ◌∷◌, get_or}
-use Rattle.std.specs.Int.Count.{count_leading_zeros}
+use Rattle.std.specs.Prelude.{ℕ, zero, suc, ◌+◌, ◌*◌, ◌/◌, ◌%◌, List, [], ◌∷◌, get_or}
 use Rattle.base.specs.If.{if_true, if_eq}
 use Rattle.window.specs.Places.{bit, place_byte, place_bit, place_set}
 
@@ -26,7 +25,3 @@ clear_of bits n (suc c) = let rest = clear_of bits (suc n) c in if_true (place_s
 unfoldable pub ones_from : ℕ → ℕ → ℕ → List ℕ
 ones_from n zero x = []
 ones_from n (suc c) x = let rest = ones_from (suc n) c (x / 2) in if_eq (x % 2) 1 (n ∷ rest) rest
-
--- how many bits a number has up to the highest that is 1
-abbrev pub bit_length : ℕ → ℕ
-bit_length x = word_places - count_leading_zeros word_places x

@@ -3,15 +3,16 @@
 
 #![tactic(auto)]
 
-ghost use Rattle.std.specs.Prelude.{◌≡◌, true, false, ◌∷◌, [], ◌<◌, ◌≤◌, ◌+◌, ◌^◌};
+ghost use Rattle.std.specs.Prelude.{◌≡◌, true, false, ◌<◌, ◌≤◌, ◌+◌, ◌^◌};
 ghost use Rattle.base.specs.Limits.{numbers24, window_places};
 ghost use Rattle.base.specs.Put.{Run};
 ghost use Rattle.base.specs.Numbers as Numbers;
-ghost use Rattle.window.specs.Places.{place_byte, place_bit, place_set, set_place, clear_place};
+ghost use Rattle.window.specs.Places.{place_byte, place_set, set_place, clear_place};
 ghost use Rattle.window.specs.Window.{window_of, new_window, advance, insert_of, insertion, inserted_in};
 ghost use Rattle.window.specs.Window as Window;
 ghost use Rattle.window.specs.Missing as Missing;
 
+use base::Refusal;
 pub use words::missing_in;
 
 mod words;
@@ -21,29 +22,6 @@ mod words;
 pub struct ReliableWindow {
     pub low: u32,
     pub bits: [u8; 256],
-}
-
-// TooLarge is document 01's 13, Old its 4 and Beyond its 5.
-#[derive(Clone, Copy)]
-pub enum Insert {
-    Accepted,
-    TooLarge,
-    Old,
-    Beyond,
-}
-
-// An enum can't hold an array, so the window stands beside it.
-#[derive(Clone, Copy)]
-pub struct Inserted {
-    pub answer: Insert,
-    pub window: ReliableWindow,
-}
-
-// What an insert into lent bits answers, and the window's low number afterwards.
-#[derive(Clone, Copy)]
-pub struct InsertedLow {
-    pub answer: Insert,
-    pub low: u32,
 }
 
 impl ReliableWindow {
@@ -56,62 +34,43 @@ impl ReliableWindow {
         }
     }
 
-    pub fn insert(self, n: u32) -> Inserted
-        ensures { insertion result ≡ insert_of self n }
+    // Where n is refused, the window stays as it was.
+    pub fn insert(&mut self, n: u32) -> Result<(), Refusal>
+        ensures { insertion result self.new ≡ insert_of self.old n }
     {
-        let mut bits = self.bits;
-        let r = insert_in(self.low, &mut bits, n);
-        let answer = r.answer;
-        let low = r.low;
-        Inserted {
-            answer,
-            window: ReliableWindow { low, bits },
-        }
+        self.low = insert_in(self.low, &mut self.bits, n)?;
+        Ok(())
     }
 
     // Whether n was accepted before.
-    pub fn accepted(self, n: u32) -> bool
-        ensures { result ≡ Window.accepted self n }
+    pub fn accepted(&self, n: u32) -> bool
+        ensures { result ≡ Window.accepted self.now n }
     {
-        let bits = self.bits;
-        accepted_in(self.low, &bits, n)
+        accepted_in(self.low, &self.bits, n)
     }
 
     // The missing numbers, ascending, into the list as far as it goes; how many were stored.
-    pub fn missing(self, list: &mut [u32]) -> usize
-        ensures { Run 0 (Missing.missing self) list.old result list.new }
+    pub fn missing(&self, list: &mut [u32]) -> usize
+        ensures { Run 0 (Missing.missing self.now) list.old result list.new }
     {
-        let bits = self.bits;
-        missing_in(self.low, &bits, list)
+        missing_in(self.low, &self.bits, list)
     }
 }
 
-// A place past the end of the bits is clear and stays so.
-pub fn insert_in(low: u32, bits: &mut [u8], n: u32) -> InsertedLow
-    ensures { inserted_in result bits.new ≡ insert_of (window_of low bits.old) n }
+// The window's low number afterwards; a refused number moves nothing. A place past the end of the bits is clear and stays so.
+pub fn insert_in(low: u32, bits: &mut [u8], n: u32) -> Result<u32, Refusal>
+    ensures { inserted_in low result bits.new ≡ insert_of (window_of low bits.old) n }
 {
     if base::NUMBERS_24 <= n {
-        return InsertedLow {
-            answer: Insert::TooLarge,
-            low,
-        };
+        return Err(Refusal::TooLarge);
     }
     if accepted_in(low, bits, n) {
-        return InsertedLow {
-            answer: Insert::Old,
-            low,
-        };
+        return Err(Refusal::Old);
     }
     if base::WINDOW_PLACES < distance(low, n) {
-        return InsertedLow {
-            answer: Insert::Beyond,
-            low,
-        };
+        return Err(Refusal::Beyond);
     }
-    InsertedLow {
-        answer: Insert::Accepted,
-        low: accept(low, bits, n),
-    }
+    Ok(accept(low, bits, n))
 }
 
 pub fn accepted_in(low: u32, bits: &[u8], n: u32) -> bool
@@ -139,7 +98,7 @@ fn accept(low: u32, bits: &mut [u8], n: u32) -> u32
     if n == low {
         return advanced(next(n), bits);
     }
-    set_place(bits, n);
+    turn_place(bits, n);
     low
 }
 
@@ -148,18 +107,14 @@ fn advanced(low: u32, bits: &mut [u8]) -> u32
     requires { low ≤ numbers24 }
     ensures { window_of result bits.new ≡ advance window_places (window_of low bits.old) }
 {
-    let mut n = low;
-    let mut left = base::WINDOW_PLACES;
-    while 0 < left {
-        if place_set(bits, n) {
-            clear_place(bits, n);
-            n = next(n);
-            left -= 1;
-        } else {
+    let end = ahead(low, base::WINDOW_PLACES);
+    for n in low..end {
+        if !place_set(bits, n) {
             return n;
         }
+        turn_place(bits, n);
     }
-    n
+    end
 }
 
 // Whether the place of n is set, whatever low is.
@@ -170,62 +125,22 @@ pub fn place_set(bits: &[u8], n: u32) -> bool
     (b >> (n % 8)) % 2 == 1
 }
 
-fn set_place(bits: &mut [u8], n: u32)
-    requires { place_set bits.old n ≡ false }
-    ensures { bits.new ≡ set_place bits.old n }
+// The place of n turned: a clear one is set, a set one cleared. One past the end of the bits is clear and stays so.
+fn turn_place(bits: &mut [u8], n: u32)
+    ensures sets { place_set bits.old n ≡ false → bits.new ≡ set_place bits.old n }
+    ensures clears { place_set bits.old n ≡ true → bits.new ≡ clear_place bits.old n }
 {
     let at = place_byte(n);
-    if bits.len() <= at {
-        return;
+    if at < bits.len() {
+        bits[at] ^= 1 << (n % 8);
     }
-    let b = base::byte(bits, at);
-    bits[at] = b + power(n);
 }
 
-fn clear_place(bits: &mut [u8], n: u32)
-    requires { place_set bits.old n ≡ true }
-    ensures { bits.new ≡ clear_place bits.old n }
-{
-    let at = place_byte(n);
-    if bits.len() <= at {
-        return;
-    }
-    let b = base::byte(bits, at);
-    bits[at] = b - power(n);
-}
-
-fn least(a: u32, b: u32) -> u32
-    ensures value { result ≡ Missing.least a b }
-    ensures upper_bound { result ≤ b }
-{
-    if a <= b {
-        return a;
-    }
-    b
-}
-
-// As base::put8, of a number.
-fn put_number(list: &mut [u32], p: usize, x: u32) -> usize
-    ensures { Run p (x ∷ []) list.old result list.new }
-{
-    if p < list.len() {
-        list[p] = x;
-        return p + 1;
-    }
-    p
-}
-
-// The byte that has the place of n, and the power of two that stands for its bit.
+// The byte that has the place of n.
 fn place_byte(n: u32) -> usize
     ensures { result ≡ place_byte n }
 {
     (n % base::WINDOW_PLACES / 8) as usize
-}
-
-fn power(n: u32) -> u8
-    ensures { result ≡ 2 ^ place_bit n }
-{
-    1u8 << (n % 8)
 }
 
 // The order of numbers: base's specs/Numbers.antt.

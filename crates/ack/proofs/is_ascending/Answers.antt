@@ -1,12 +1,9 @@
-use Rattle.ack.proofs.PassCases.{ascending-not, ascending-further, ascending-yes}
+use lib.Dec.{ltb}
 use borrow.Author.Rules.{rules}
+use borrow.Author.Tests.{tests}
+use Rattle.std.proofs.lemmas.List.Sorted.{answers_always}
+use Rattle.ack.proofs.PassCases.{ascending-is}
 use Rattle.ack.proofs.is_ascending.Goals as goal
 
-pub returns-then-next-x : goal.returns-then-next-x
-returns-then-next-x c = search (rules, ascending-not)
-
-pub loop-i-preserved : goal.loop-i-preserved
-loop-i-preserved c = search (rules, ascending-further)
-
 pub returns : goal.returns
-returns c = search (rules, ascending-yes)
+returns c = ascending-is _ _ (c.is_sorted_by.ensures.cases ltb (answers_always _ _ _ (λ f a r g h. search (rules, tests))))

@@ -7,9 +7,9 @@ pub returns-then-too_large : goal.returns-then-too_large
 unfolding write_list_of written_of
 returns-then-too_large c = search (rules, too_large_lem)
 
-pub returns-else-is_ascending : goal.returns-else-is_ascending
+pub returns-then-not-is_ascending : goal.returns-then-not-is_ascending
 unfolding write_list_of written_of
-returns-else-is_ascending c = search (rules, not-ascending)
+returns-then-not-is_ascending c = search (rules, not-ascending)
 
 pub returns-then-out-len : goal.returns-then-out-len
 unfolding write_list_of written_of

@@ -1,8 +1,9 @@
 use Rattle.base.specs.Bytes.{le24_bytes}
 use Rattle.base.proofs.Puts.{run-cons}
-use borrow.Author.Rules.{rules}
 use Rattle.base.proofs.put24.Goals as goal
 
 pub returns : goal.returns
 unfolding le24_bytes
-returns c = search (rules, run-cons)
+returns c =
+    let e = c.to_le_bytes.ensures in
+    run-cons _ _ _ _ _ _ _ _ (rw e at c.put-a.ensures) (run-cons _ _ _ _ _ _ _ _ (rw e at c.put-b.ensures) (rw e at c.put.ensures))

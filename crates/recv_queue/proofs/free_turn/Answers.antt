@@ -1,14 +1,15 @@
-use mathlib.Core.Path.{◌∙◌, ap}
-use native.Mathlib.Omega.{arith}
-use Rattle.recv_queue.specs.Records.{freed_to}
-use Rattle.recv_queue.proofs.Freed.{freed-none, freed-step}
+use Rattle.recv_queue.proofs.Freed.{freed-none, freed-step, freed_all, at-taken, at-other}
+use Rattle.recv_queue.proofs.free_turn.Goals.{then-is_taken, else-is_taken}
 use Rattle.recv_queue.proofs.free_turn.Goals as goal
 
-pub loop-i-init : goal.loop-i-init
-loop-i-init c = (omega arith, freed-none _ _)
+pub loop-r-init : goal.loop-r-init
+loop-r-init c = freed-none _ _
 
-pub loop-i-preserved : goal.loop-i-preserved
-loop-i-preserved c = (omega arith, freed-step _ _ _ _ _ (omega arith) c.loop-i.invariant.1 c.free_at.ensures)
+pub loop-r-preserved : goal.loop-r-preserved
+loop-r-preserved c = freed-step _ _ _ _ _ c.loop-r-test.true c.loop-r.invariant (elim c.if-is_taken.branch [
+  | then-is_taken w ↦ at-taken _ _ _ _ _ _ c.is_taken.ensures w.if-is_taken.true w.unused.ensures w.records-is
+  | else-is_taken w ↦ at-other _ _ _ _ _ c.is_taken.ensures w.if-is_taken.false w.records-is
+])
 
 pub returns : goal.returns
-returns c = c.loop-i.invariant.1 ∙ ap (λ i. freed_to c.args.records.now i c.args.turn) (omega arith)
+returns c = freed_all _ _ _ _ c.loop-r-test.false c.loop-r.invariant

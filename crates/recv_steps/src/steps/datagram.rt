@@ -1,6 +1,5 @@
 // A datagram: what its frames begin with, the frames in order, and after acceptance the bodies copied into the store.
-ghost use Rattle.std.specs.Prelude.{◌≡◌, map, ◌≤◌, ◌*◌, ◌-◌, ◌<◌, length, set};
-ghost use Rattle.base.specs.Bytes.{Bytes};
+ghost use Rattle.std.specs.Prelude.{◌≡◌, map, ◌≤◌, ◌*◌, ◌<◌, length, set};
 ghost use Rattle.base.specs.Limits.{max_cells};
 ghost use Rattle.base.specs.Lists.{count_of};
 ghost use Rattle.window.specs.Window.{window_of, inserted_in};
@@ -10,13 +9,13 @@ ghost use Rattle.rows.specs.Rows.{row_count, rows_of, cells_in};
 ghost use Rattle.rows.specs.Whole.{whole_row, rest};
 ghost use Rattle.row_slots.specs.Slots.{is_placed, flushed, Fits, AllFit};
 ghost use Rattle.recv_steps.specs.Flush.{flushed_row, stored, settled, settled_rows};
-ghost use Rattle.recv_steps.specs.Frames.{number_in, is_beyond, Begun, Ran};
+ghost use Rattle.recv_steps.specs.Frames.{number_in, Begun, Ran};
 ghost use Rattle.recv_steps.specs.Receives.{begun_rows};
 
 use super::super::{Framed, Tally};
-use frame::{Placed, ReadFrame};
+use base::Refusal;
+use frame::Placed;
 use rows::{ROW, Row};
-use window::{Insert, InsertedLow};
 
 pub mod receive;
 
@@ -32,6 +31,7 @@ fn begin(words: &mut [u32]) -> u32
     turn as u32
 }
 
+#[tactic(auto, unfolding(crate::specs::Flush::stored, row_slots::specs::First::stored_row, rows::specs::Rows::cell_of))]
 fn stored_row(r: Row) -> Row
     ensures { result ≡ stored r }
 {
@@ -53,58 +53,20 @@ fn clear_places(words: &mut [u32])
     ensures is { rows_of words.new ≡ map stored (rows_of words.old) }
     ensures rest { rest words.new ≡ rest words.old }
 {
-    let n = words.len() / ROW;
-    let mut i = 0;
-    while i < n {
+    for i in 0..words.len() / ROW {
         clear_place(words, i);
-        i += 1;
-    }
-}
-
-// Reads every byte and does nothing with it: a lent slice's elements are known to be bytes only once they are read.
-fn see_bytes(s: &[u8])
-    ensures { Bytes s.now }
-{
-    let mut i = 0;
-    while i < s.len() {
-        base::byte(s, i);
-        i += 1;
     }
 }
 
 // The frame's reliable number, where it carries one, inserted.
-fn number_in(low: u32, bits: &mut [u8], placed: Placed) -> InsertedLow
-    ensures { inserted_in result bits.new ≡ number_in (window_of low bits.old) placed }
+fn number_in(low: u32, bits: &mut [u8], placed: Placed) -> Result<u32, Refusal>
+    ensures { inserted_in low result bits.new ≡ number_in (window_of low bits.old) placed }
 {
     let f = placed.frame;
     if reliability::has_reliable(f.kind) {
         return window::insert_in(low, bits, f.reliable);
     }
-    InsertedLow {
-        answer: Insert::Accepted,
-        low,
-    }
-}
-
-fn is_beyond(answer: Insert) -> bool
-    ensures { result ≡ is_beyond answer }
-{
-    match answer {
-        Insert::Accepted => false,
-        Insert::TooLarge => false,
-        Insert::Old => false,
-        Insert::Beyond => true,
-    }
-}
-
-// The bytes from a place on; none past the end.
-fn left_from(n: usize, at: usize) -> usize
-    ensures { result ≡ n - at }
-{
-    if n < at {
-        return 0;
-    }
-    n - at
+    Ok(low)
 }
 
 // All frames of the datagram, in order, until one does not fit or carries a number beyond reach.
@@ -115,44 +77,42 @@ fn frames(
     low: u32,
     turn: u32,
     datagram: &[u8],
-) -> Framed
+) -> Result<Framed, Refusal>
     requires { Begun low bits.old nexts.old (rows_of words.old) turn datagram.now }
     ensures { Ran low bits.old nexts.old (rows_of words.old) turn datagram.now
         result bits.new nexts.new (rows_of words.new) }
 {
-    see_bytes(datagram);
     let profile = recv_memory::profile_for(nexts);
-    let mut l = low;
-    let mut s = Tally {
+    let mut low = low;
+    let mut counts = Tally {
         turn,
         ready: 0,
         dropped: 0,
-        full: 0,
+        full: false,
     };
     let mut at = base::MIN_DATAGRAM;
-    loop {
-        match frame::read_frame(profile, datagram, at) {
-            ReadFrame::Cut => {
-                return Framed::Done {
-                    low: l,
-                    counts: s,
-                    left: left_from(datagram.len(), at),
-                };
+    while let Ok((placed, next)) = frame::read_frame(profile, datagram, at) {
+        match number_in(low, bits, placed) {
+            Ok(l) => {
+                low = l;
+                counts = super::keep_in(words, nexts, counts, placed);
             }
-            ReadFrame::Whole { placed, next } => {
-                let t = number_in(l, bits, placed);
-                let answer = t.answer;
-                if is_beyond(answer) {
-                    return Framed::Beyond;
-                }
-                s = super::step(words, nexts, s, placed, answer);
-                l = t.low;
-                at = next;
-            }
+            Err(refusal) => match refusal {
+                Refusal::Beyond => return Err(Refusal::ReliableBeyond),
+                // "Reliable number accepted before: drop."
+                _ => counts = counts.drop_one(),
+            },
         }
+        at = next;
     }
+    Ok(Framed {
+        low,
+        counts,
+        left: datagram.len().saturating_sub(at),
+    })
 }
 
+#[tactic(auto, unfolding(row_slots::specs::Slots::is_placed))]
 fn is_placed(r: Row) -> bool
     ensures { result ≡ is_placed r }
 {
@@ -167,7 +127,7 @@ fn flush_row(store: &mut [u8], i: usize, r: Row, datagram: &[u8])
     if is_placed(r) {
         let from = r.place as usize - 1;
         let end = from + r.length as usize;
-        base::put_bytes(store, i * base::CELL_BYTES, &datagram[from..end]);
+        base::put_all(store, i * base::CELL_BYTES, &datagram[from..end]);
     }
 }
 
@@ -199,11 +159,8 @@ fn settle(words: &mut [u32], store: &mut [u8], datagram: &[u8])
     ensures rows { rows_of words.new ≡ settled_rows (rows_of words.old) }
     ensures store { store.new ≡ flushed (rows_of words.old) store.old datagram.now }
 {
-    let n = words.len() / ROW;
-    let mut i = 0;
-    while i < n {
+    for i in 0..words.len() / ROW {
         flush_row(store, i, rows::whole_row(words, i), datagram);
         settle_row(words, i);
-        i += 1;
     }
 }

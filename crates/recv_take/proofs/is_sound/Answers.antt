@@ -2,23 +2,15 @@ use mathlib.Core.Path.{◌∙◌, sym, ap}
 use Rattle.cells.specs.Sound.{sound_cells}
 use Rattle.receiver.proofs.ByParts.{next-of-parts}
 use Rattle.recv_take.proofs.Calls.{lengths-not, queue-not, cells-decide}
+use borrow.Author.Rules.{rules}
 use Rattle.recv_take.proofs.is_sound.Goals as goal
 
-pub lengths_fit-requires : goal.lengths_fit-requires
-lengths_fit-requires c = tt
+pub returns-then-not-lengths_fit : goal.returns-then-not-lengths_fit
+returns-then-not-lengths_fit c = search (rules, lengths-not)
 
-pub returns-else-lengths_fit : goal.returns-else-lengths_fit
-returns-else-lengths_fit c = lengths-not _ _ _ c.lengths_fit.ensures c.if-lengths_fit.false
+pub returns-then-is_ok : goal.returns-then-is_ok
+returns-then-is_ok c = cells-decide _ _ _ c.lengths_fit.ensures c.if-not-lengths_fit.false _ c.sound_queue.ensures _ c.is_ok.ensures.value
+    c.if-is_ok.true _ (c.sound_cells.ensures ∙ ap (sound_cells _) (sym (next-of-parts _ _ _ _ _)))
 
-pub sound_queue-q-requires : goal.sound_queue-q-requires
-sound_queue-q-requires c = tt
-
-pub returns-else-q : goal.returns-else-q
-returns-else-q c = queue-not _ _ _ c.lengths_fit.ensures c.if-lengths_fit.true _ c.sound_queue-q.ensures c.if-q.false
-
-pub sound_cells-requires : goal.sound_cells-requires
-sound_cells-requires c = tt
-
-pub returns : goal.returns
-returns c = cells-decide _ _ _ c.lengths_fit.ensures c.if-lengths_fit.true _ c.sound_queue-q.ensures c.if-q.true _
-    (c.sound_cells.ensures ∙ ap (sound_cells _) (sym (next-of-parts _ _ _ _ _)))
+pub returns-else-is_ok : goal.returns-else-is_ok
+returns-else-is_ok c = search (rules, queue-not)

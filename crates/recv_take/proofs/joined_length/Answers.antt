@@ -1,12 +1,10 @@
 use native.Mathlib.Omega.{arith}
 use Rattle.recv_take.proofs.Pieces.{length_none, length_more, length-end, piece-short}
+use borrow.Author.Rules.{rules}
 use Rattle.recv_take.proofs.joined_length.Goals as goal
 
 pub loop-i-init : goal.loop-i-init
-loop-i-init c = (omega arith, omega arith, length_none _ _)
-
-pub piece_length-len-requires : goal.piece_length-len-requires
-piece_length-len-requires c = tt
+loop-i-init c = (omega arith, length_none _ _)
 
 pub overflow_add-len : goal.overflow_add-len
 overflow_add-len c = let short = piece-short _ _ c.requires.all_within _ _ c.piece_length-len.ensures in
@@ -14,16 +12,10 @@ overflow_add-len c = let short = piece-short _ _ c.requires.all_within _ _ c.pie
     let few = c.requires.count_le_max_frags in
     omega arith
 
-pub overflow_add-i : goal.overflow_add-i
-overflow_add-i c = omega arith
-
-pub loop-i-smaller : goal.loop-i-smaller
-loop-i-smaller c = omega arith
-
 pub loop-i-preserved : goal.loop-i-preserved
 loop-i-preserved c = let short = piece-short _ _ c.requires.all_within _ _ c.piece_length-len.ensures in
     let inv = c.loop-i.invariant in
-    (omega arith, omega arith, length_more _ _ _ _ _ inv.2 c.piece_length-len.ensures)
+    (omega arith, length_more _ _ _ _ _ inv.1 c.piece_length-len.ensures)
 
 pub returns : goal.returns
-returns c = length-end _ _ _ _ _ c.loop-i.invariant.0 c.loop-i-test.false c.loop-i.invariant.2
+returns c = let inv = c.loop-i.invariant in search (rules, length-end)

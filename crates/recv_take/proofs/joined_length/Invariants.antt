@@ -1,12 +1,9 @@
 use mathlib.Core.Path.{◌≡◌}
-use Prim.Native.Nat.{◌≤◌, ◌-◌, ◌*◌}
+use Prim.Native.Nat.{◌≤◌, ◌*◌}
 use Rattle.base.specs.Limits.{cell_bytes}
 use Rattle.rows.specs.Rows.{cells_in}
 use Rattle.recv_take.specs.Pieces.{length_to}
 use Rattle.recv_take.proofs.joined_length.Given as goal
 
 abbrev pub invariant-loop-i : goal.invariant-loop-i
-invariant-loop-i l = (l.i ≤ l.count) × (l.len ≤ cell_bytes * l.i) × (l.len ≡ length_to l.turn (cells_in l.words) l.i)
-
-abbrev pub decreases-loop-i : goal.decreases-loop-i
-decreases-loop-i l = l.count - l.i
+invariant-loop-i l = (l.len ≤ cell_bytes * l.i) × (l.len ≡ length_to l.turn (cells_in l.words) l.i)

@@ -1,9 +1,11 @@
-use borrow.Author.Rules.{rules}
-use Rattle.reliability.proofs.Laws.{row-console, row-cpp}
+use mathlib.Core.Path.{ap}
+use Rattle.reliability.specs.declared.Profile.TheVariants.{Console, Cpp}
+use Rattle.reliability.proofs.Laws.{row-found}
+use Rattle.reliability.proofs.fields.Goals.{in-Console, in-Cpp}
 use Rattle.reliability.proofs.fields.Goals as goal
 
-pub returns-in-Console : goal.returns-in-Console
-returns-in-Console c = search (rules, row-console)
-
-pub returns-in-Cpp : goal.returns-in-Cpp
-returns-in-Cpp c = search (rules, row-cpp)
+pub returns-clause-is : goal.returns-clause-is
+returns-clause-is c = elim c.match-p.branch [
+  | in-Console w ↦ row-found _ Console _ _ _ _ w.in-Console.is (ap (λ b. b.now) w.rows-is) c.from.ensures
+  | in-Cpp w ↦ row-found _ Cpp _ _ _ _ w.in-Cpp.is (ap (λ b. b.now) w.rows-is) c.from.ensures
+]

@@ -1,12 +1,15 @@
-use Rattle.receiver.proofs.Parts.{every-not, every-further, every-yes}
+use mathlib.Core.Path.{◌∙◌}
 use borrow.Author.Rules.{rules}
+use Rattle.std.proofs.lemmas.Iterator.{YieldsList-from_slice}
+use Rattle.std.proofs.lemmas.Iterator.Search.{all_from_yields_List}
+use Rattle.window.specs.Window.{window_of}
+use Rattle.sound_queue.specs.Sound.{sound_number}
+use Rattle.sound_queue.proofs.Chains.{every_all}
 use Rattle.sound_queue.proofs.each_sound.Goals as goal
 
-pub returns-else-sound_number : goal.returns-else-sound_number
-returns-else-sound_number c = search (rules, every-not)
-
-pub loop-i-preserved : goal.loop-i-preserved
-loop-i-preserved c = search (rules, every-further)
-
 pub returns : goal.returns
-returns c = search (rules, every-yes)
+returns c =
+    let numbers = c.args.numbers.now in
+    let sound = sound_number (window_of c.args.low c.args.bits.now) in
+    all_from_yields_List sound _ _ _ c.all.ensures.ran (YieldsList-from_slice numbers cc) (λ x b q k. search rules)
+    ∙ every_all sound numbers

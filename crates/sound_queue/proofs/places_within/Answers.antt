@@ -1,12 +1,19 @@
-use Rattle.sound_queue.proofs.SoundCases.{places-done, places-not, places-further}
+use mathlib.Core.Path.{◌∙◌, refl}
+use mathlib.Core.Bool.{not, ◌||◌}
+use Prim.Native.Nat.{ℕ, ◌+◌}
+use lib.Dec.{ltb}
 use borrow.Author.Rules.{rules}
+use borrow.Author.Tests.{tests}
+use Rattle.std.proofs.lemmas.Iterator.{YieldsList-from_range}
+use Rattle.std.proofs.lemmas.Iterator.Search.{all_from_yields_List}
+use Rattle.base.specs.Limits.{numbers24, window_places}
+use Rattle.window.specs.Places.{place_set}
+use Rattle.sound_queue.proofs.Chains.{range_below}
+use Rattle.sound_queue.proofs.Rules.{places_below}
 use Rattle.sound_queue.proofs.places_within.Goals as goal
 
-pub returns-else-place_within : goal.returns-else-place_within
-returns-else-place_within c = search (rules, places-not)
-
-pub loop-k-preserved : goal.loop-k-preserved
-loop-k-preserved c = search (rules, places-further)
-
 pub returns : goal.returns
-returns c = search (rules, places-done)
+returns c =
+    all_from_yields_List (λ (k : ℕ). ltb (c.args.low + k + 1) numbers24 || not (place_set c.args.bits.now (c.args.low + k + 1)))
+    _ _ _ c.all.ensures.ran (YieldsList-from_range 0 window_places window_places (cc) refl) (λ x b q k. search (rules, tests))
+    ∙ range_below _ window_places ∙ places_below c.args.low c.args.bits.now window_places

@@ -1,18 +1,23 @@
-use Rattle.sound_queue.proofs.SoundCases.{rising_none, rising-not, rising-below, rising-further, rising-done}
+use mathlib.Core.Path.{◌∙◌}
+use lib.Dec.{leb}
 use borrow.Author.Rules.{rules}
+use borrow.Author.Tests.{tests}
+use Rattle.std.proofs.lemmas.Iterator.Adapters.{YieldsList-from_rev_slice}
+use Rattle.std.proofs.lemmas.Iterator.Search.{all_from_yields_List, YieldsList-from_take_while}
+use Rattle.window.specs.Window.{window_of}
+use Rattle.sound_queue.specs.Sound.{sound_number}
+use Rattle.sound_queue.proofs.Ascending.{high-decides}
+use Rattle.sound_queue.proofs.Chains.{every_all}
+use Rattle.sound_queue.proofs.Rules.{sound-below}
 use Rattle.sound_queue.proofs.sound_rising.Goals as goal
 
-pub loop-i-init : goal.loop-i-init
-loop-i-init c = (search rules, search rising_none)
-
-pub returns-else-sound_number : goal.returns-else-sound_number
-returns-else-sound_number c = search (rules, rising-not)
-
-pub returns-then-n-low : goal.returns-then-n-low
-returns-then-n-low c = search (rules, rising-below)
-
-pub loop-i-preserved : goal.loop-i-preserved
-loop-i-preserved c = (search rules, search rising-further)
-
 pub returns : goal.returns
-returns c = search (rules, rising-done)
+returns c =
+    let low = c.args.low in
+    let numbers = c.args.numbers.now in
+    let sound = sound_number (window_of low c.args.bits.now) in
+    all_from_yields_List sound _ _ c.all.result c.all.ensures.ran
+    (YieldsList-from_take_while _ (leb low) (YieldsList-from_rev_slice numbers cc) c.take_while.ensures.closure c.take_while.ensures.done
+    (λ x b q k. search (rules, tests)))
+    (λ x b q k. search (rules, tests))
+    ∙ high-decides low sound (sound-below low c.args.bits.now c.requires.low_bound) numbers c.requires.rising ∙ every_all sound numbers

@@ -6,8 +6,5 @@ use Rattle.window.proofs.accept.Goals as goal
 pub returns-then-n-low : goal.returns-then-n-low
 returns-then-n-low c = search (rules, accept-low)
 
-pub set_place-requires : goal.set_place-requires
-set_place-requires c = search (rules, place-clear)
-
 pub returns : goal.returns
-returns c = search (rules, accept-above)
+returns c = accept-above _ _ _ _ c.if-n-low.false (c.turn_place.ensures.sets (search (rules, place-clear)))

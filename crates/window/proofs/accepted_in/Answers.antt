@@ -1,5 +1,5 @@
 use borrow.Author.Rules.{rules}
-use Rattle.base.proofs.Ifs.{ifs, by-ifs, told}
+use Rattle.base.proofs.Ifs.{ifs, by-ifs}
 use Rattle.window.specs.Window.{accepted}
 use Rattle.window.proofs.accepted_in.Goals as goal
 
@@ -10,9 +10,6 @@ returns-then-behind c = search (rules, ifs, by-ifs)
 pub returns-then-n-low : goal.returns-then-n-low
 unfolding accepted
 returns-then-n-low c = search (rules, ifs, by-ifs)
-
-pub distance-requires : goal.distance-requires
-distance-requires c = search (rules, told)
 
 pub returns-then-distance-le-WINDOW_PLACES : goal.returns-then-distance-le-WINDOW_PLACES
 unfolding accepted

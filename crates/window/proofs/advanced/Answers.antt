@@ -1,16 +1,15 @@
+use mathlib.Core.Path.{◌∙◌, sym}
 use borrow.Author.Rules.{rules}
-use Rattle.base.proofs.Ifs.{told}
 use Rattle.window.proofs.Steps.{advance-none, advance-clear, advance-set}
 use Rattle.window.proofs.advanced.Goals as goal
 
-pub clear_place-requires : goal.clear_place-requires
-clear_place-requires c = search (rules, told)
+pub returns-then-not-place_set : goal.returns-then-not-place_set
+returns-then-not-place_set c = search (rules, advance-clear)
 
-pub loop-left-preserved : goal.loop-left-preserved
-loop-left-preserved c = search (rules, advance-set)
-
-pub returns-else-place_set : goal.returns-else-place_set
-returns-else-place_set c = search (rules, advance-clear)
+pub loop-n-preserved : goal.loop-n-preserved
+loop-n-preserved c =
+    advance-set _ _ _ _ c.loop-n.invariant c.loop-n-test.true _ c.place_set.ensures _ c.if-not-place_set.false
+    (c.turn_place.ensures.clears (sym c.place_set.ensures ∙ c.if-not-place_set.false))
 
 pub returns : goal.returns
 returns c = search (rules, advance-none)

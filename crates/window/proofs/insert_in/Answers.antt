@@ -1,5 +1,5 @@
 use borrow.Author.Rules.{rules}
-use Rattle.base.proofs.Ifs.{ifs, by-ifs, told}
+use Rattle.base.proofs.Ifs.{ifs, by-ifs}
 use Rattle.window.specs.Window.{insert_of}
 use Rattle.window.proofs.Accepted.{not_behind}
 use Rattle.window.proofs.Steps.{give-same}
@@ -19,9 +19,6 @@ distance-requires c = search (rules, not_behind)
 pub returns-then-distance-gt-WINDOW_PLACES : goal.returns-then-distance-gt-WINDOW_PLACES
 unfolding insert_of
 returns-then-distance-gt-WINDOW_PLACES c = search (rules, ifs, by-ifs)
-
-pub accept-requires : goal.accept-requires
-accept-requires c = record { n_lt_numbers24 = search rules; n_value = search told; n_bound = search rules }
 
 pub returns : goal.returns
 unfolding insert_of

@@ -1,16 +1,14 @@
-use Rattle.base.proofs.Runs.{left-all, left-long}
-use Rattle.ack.proofs.PassCases.{written-more, written_all}
 use borrow.Author.Rules.{rules}
+use Rattle.std.proofs.lemmas.List.Sorted.{answers_always}
+use Rattle.ack.specs.Passes.{is_next}
+use Rattle.ack.proofs.PassCases.{written-more, written_all}
 use Rattle.ack.proofs.runs.put_runs.Goals as goal
 
-pub loop-i-init : goal.loop-i-init
-loop-i-init c = search (rules, left-all)
-
-pub loop-i-preserved : goal.loop-i-preserved
-loop-i-preserved c = search (rules, written-more)
-
-pub shape_of-out : goal.shape_of-out
-shape_of-out c = search (rules, left-long)
+pub loop-run-preserved : goal.loop-run-preserved
+loop-run-preserved c =
+    let s = c.in-Some.ensures.steps in
+    let front = (s.2 is_next (answers_always _ _ _ (λ f a r g h. search rules))).1 in
+    (search rules, search rules, written-more _ _ _ _ _ _ c.loop-run.invariant.2 _ _ s.0 s.1 front _ _ c.put_record-q.ensures)
 
 pub returns : goal.returns
 returns c = search (rules, written_all)

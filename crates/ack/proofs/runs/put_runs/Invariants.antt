@@ -1,12 +1,10 @@
-use Prim.Native.Nat.{◌≤◌, ◌-◌}
-use lib.ListN.{length, drop}
+use Rattle.std.specs.Slice.Iter.{chunk_by_rest}
 use Rattle.ack.specs.Records.{records_bytes, runs}
 use Rattle.base.proofs.Runs.{Left}
 use Rattle.ack.proofs.runs.put_runs.Given as goal
 
-abbrev pub invariant-loop-i : goal.invariant-loop-i
-invariant-loop-i l = (l.i ≤ length l.numbers) × Left l.p (records_bytes (runs l.numbers)) l.initial.out l.q
-    (records_bytes (runs (drop l.i l.numbers))) l.out
-
-abbrev pub decreases-loop-i : goal.decreases-loop-i
-decreases-loop-i l = length l.numbers - l.i
+abbrev pub invariant-loop-run : goal.invariant-loop-run
+invariant-loop-run l =
+    (goal.iterator-loop-run).can_next l.run-iterator
+    × (goal.iterator-loop-run).is_finite l.run-iterator
+    × Left l.p (records_bytes (runs l.numbers)) l.initial.out l.q (records_bytes (runs (chunk_by_rest l.run-iterator))) l.out

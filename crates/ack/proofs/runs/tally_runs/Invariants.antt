@@ -1,12 +1,9 @@
-use Prim.Native.Nat.{◌≤◌, ◌-◌, ◌*◌}
-use lib.ListN.{length}
-use Rattle.ack.specs.Records.{range_size}
+use Rattle.std.specs.Slice.Iter.{chunk_by_rest}
 use Rattle.ack.proofs.PassCases.{Counted}
 use Rattle.ack.proofs.runs.tally_runs.Given as goal
 
-abbrev pub invariant-loop-i : goal.invariant-loop-i
-invariant-loop-i l = (l.i ≤ length l.numbers) × (l.records ≤ l.i) × (l.bytes ≤ range_size * l.i)
-    × Counted l.numbers l.i l.records l.bytes
-
-abbrev pub decreases-loop-i : goal.decreases-loop-i
-decreases-loop-i l = length l.numbers - l.i
+abbrev pub invariant-loop-run : goal.invariant-loop-run
+invariant-loop-run l =
+    (goal.iterator-loop-run).can_next l.run-iterator
+    × (goal.iterator-loop-run).is_finite l.run-iterator
+    × Counted l.numbers (chunk_by_rest l.run-iterator) l.records l.bytes

@@ -7,6 +7,6 @@ pub returns-then-piece : goal.returns-then-piece
 unfolding flags_of
 returns-then-piece c = search (rules, ifs)
 
-pub returns : goal.returns
+pub returns-else-piece : goal.returns-else-piece
 unfolding flags_of
-returns c = search (rules, ifs)
+returns-else-piece c = search (rules, ifs)

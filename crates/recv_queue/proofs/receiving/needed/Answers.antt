@@ -1,13 +1,10 @@
-use borrow.Author.Rules.{rules}
-use Rattle.base.proofs.Ifs.{ifs, by-ifs}
-use Rattle.recv_prefix.specs.Needs.{receive_needs}
-use Rattle.recv_queue.proofs.Receives.{room-read-as}
+use Rattle.recv_queue.proofs.Receives.{enough-read, enough-none}
 use Rattle.recv_queue.proofs.receiving.needed.Goals as goal
 
 pub returns-then-lengths_fit : goal.returns-then-lengths_fit
-unfolding receive_needs
-returns-then-lengths_fit c = search (rules, ifs, by-ifs, room-read-as)
+returns-then-lengths_fit c =
+    enough-read _ _ _ _ _ c.lengths_fit.ensures c.if-lengths_fit.true _ _ _ _ c.profile_of-p.ensures c.read_frames-read.ensures
+    c.last_used.ensures c.with_room.ensures
 
 pub returns : goal.returns
-unfolding receive_needs
-returns c = search (rules, ifs, by-ifs)
+returns c = enough-none _ _ _ _ _ c.lengths_fit.ensures c.if-lengths_fit.false

@@ -1,16 +1,8 @@
-use borrow.Author.Rules.{rules}
-use Rattle.base.proofs.Ifs.{ifs, by-ifs}
-use Rattle.recv_prefix.specs.Needs.{take_needs}
+use Rattle.recv_queue.proofs.Takes.{enough-fit, enough-none}
 use Rattle.recv_queue.proofs.taking.needed.Goals as goal
 
-pub returns-then-used-lt1 : goal.returns-then-used-lt1
-unfolding take_needs
-returns-then-used-lt1 c = search (rules, ifs, by-ifs)
-
 pub returns-then-lengths_fit : goal.returns-then-lengths_fit
-unfolding take_needs
-returns-then-lengths_fit c = search (rules, ifs, by-ifs)
+returns-then-lengths_fit c = enough-fit _ _ _ c.lengths_fit.ensures c.if-lengths_fit.true _ _ c.last_used.ensures c.max.ensures
 
 pub returns : goal.returns
-unfolding take_needs
-returns c = search (rules, ifs, by-ifs)
+returns c = enough-none _ _ _ c.lengths_fit.ensures c.if-lengths_fit.false

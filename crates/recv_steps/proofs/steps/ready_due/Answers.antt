@@ -13,7 +13,7 @@ follows-requires c = record { channel_lt_max_ord_chans = search rules; words_bou
 pub returns-then-put_frame : goal.returns-then-put_frame
 returns-then-put_frame c = let put = c.put_frame.ensures in
     due-put _ _ _ _ _ put.room put.put c.if-put_frame.true _ _
-    c.make_one-t.ensures _ _ _
+    c.make_one-t.ensures c.into.ensures _ _ _
     c.follows.ensures
 
 pub returns : goal.returns

@@ -7,9 +7,10 @@ ghost use Rattle.receiver.specs.declared.Heads.{Heads};
 ghost use Rattle.receiver.specs.Parts.{queue_of, arrays_fit};
 ghost use Rattle.receiver.specs.Receive.{is_datagram};
 ghost use Rattle.recv_steps.specs.Outcome.{rows_passed, zeros_of, receive_rows_of};
-ghost use Rattle.recv_steps.specs.Receives.{refusal, acceptance, Receives, Judged, Headed, Numbered};
+ghost use Rattle.recv_steps.specs.Receives.{acceptance, Receives, Judged, Headed, Numbered};
 
-use super::super::super::{Framed, PassedRows, Receive, Tally};
+use super::super::super::{Framed, PassedRows, Received};
+use base::Refusal;
 use receiver::Heads;
 use rows::ROW;
 
@@ -28,39 +29,28 @@ pub fn receive_rows(
     cells: usize,
     store: &mut [u8],
     datagram: &[u8],
-) -> PassedRows
-    ensures { rows_passed result rbits.new nexts.new (first_rows k words.new) (after_rows k
+) -> Result<PassedRows, Refusal>
+    ensures { rows_passed h.reliables result rbits.new nexts.new (first_rows k words.new) (after_rows k
         words.new) store.new ≡ receive_rows_of
         (queue_of h dbits.now rbits.old nexts.old unsent.now) nexts.old k cells
         words.old store.old datagram.now }
 {
     let m = row_slots::rows_in(k, words.len());
     let some = (1 <= m) & (m <= cells);
-    if arrays_fit(dbits, rbits, nexts, unsent)
-        & (sound_call::lengths_fit(cells, store.len()) & some)
-    {
-        return receive_first(
-            h,
-            dbits,
-            rbits,
-            nexts,
-            unsent,
-            &mut words[..ROW * m],
-            &mut store[..base::CELL_BYTES * m],
-            datagram,
-        );
+    let fit = sound_call::lengths_fit(cells, store.len()) & some;
+    if !(arrays_fit(dbits, rbits, nexts, unsent) & fit) {
+        return Err(Refusal::NotSound);
     }
-    refuse(h, Receive::NotSound)
-}
-
-fn refuse(h: Heads, answer: Receive) -> PassedRows
-    ensures { result ≡ refusal h answer }
-{
-    PassedRows {
-        answer,
-        low: h.reliables,
-        ascending: false,
-    }
+    receive_first(
+        h,
+        dbits,
+        rbits,
+        nexts,
+        unsent,
+        &mut words[..ROW * m],
+        &mut store[..base::CELL_BYTES * m],
+        datagram,
+    )
 }
 
 // The arrays are as long as a receiver's.
@@ -82,28 +72,20 @@ fn receive_first(
     words: &mut [u32],
     store: &mut [u8],
     datagram: &[u8],
-) -> PassedRows
+) -> Result<PassedRows, Refusal>
     requires nexts_value { arrays_fit (queue_of h dbits.now rbits.old nexts.old unsent.now) nexts.old ≡ true }
     requires store_value { lengths (row_count words.old) (length store.old) ≡ true }
     ensures { Receives (queue_of h dbits.now rbits.old nexts.old unsent.now)
         nexts.old words.old store.old datagram.now
         result rbits.new nexts.new words.new store.new }
 {
-    let q = sound_queue::sound_queue(h, dbits, rbits, nexts, unsent);
-    if q.sound & sound_cells::sound_cells(words, nexts) {
-        return receive_sound(
-            h,
-            q.ascending,
-            dbits,
-            rbits,
-            nexts,
-            unsent,
-            words,
-            store,
-            datagram,
-        );
+    let ascends = sound_queue::sound_queue(h, dbits, rbits, nexts, unsent)?;
+    if !sound_cells::sound_cells(words, nexts) {
+        return Err(Refusal::NotSound);
     }
-    refuse(h, Receive::NotSound)
+    receive_sound(
+        h, ascends, dbits, rbits, nexts, unsent, words, store, datagram,
+    )
 }
 
 // "id 80 to 8D".
@@ -124,24 +106,24 @@ fn receive_sound(
     words: &mut [u32],
     store: &mut [u8],
     datagram: &[u8],
-) -> PassedRows
+) -> Result<PassedRows, Refusal>
     requires { Judged (queue_of h dbits.now rbits.old nexts.old unsent.now) nexts.old words.old store.old ascends }
     ensures { Receives (queue_of h dbits.now rbits.old nexts.old unsent.now)
         nexts.old words.old store.old datagram.now
         result rbits.new nexts.new words.new store.new }
 {
     if datagram.len() < base::MIN_DATAGRAM {
-        return refuse(h, Receive::TooShort);
+        return Err(Refusal::Cut);
     }
     if base::MAX_DATAGRAM < datagram.len() {
-        return refuse(h, Receive::TooLong);
+        return Err(Refusal::TooLong);
     }
-    if is_datagram(base::byte(datagram, 0)) {
-        return receive_number(
-            h, ascends, dbits, rbits, nexts, unsent, words, store, datagram,
-        );
+    if !is_datagram(base::byte(datagram, 0)) {
+        return Err(Refusal::FirstByte);
     }
-    refuse(h, Receive::NotDatagram)
+    receive_number(
+        h, ascends, dbits, rbits, nexts, unsent, words, store, datagram,
+    )
 }
 
 // 4, 5 and 6.
@@ -155,7 +137,7 @@ fn receive_number(
     words: &mut [u32],
     store: &mut [u8],
     datagram: &[u8],
-) -> PassedRows
+) -> Result<PassedRows, Refusal>
     requires { Headed (queue_of h dbits.now rbits.old nexts.old unsent.now) nexts.old words.old store.old
         datagram.now ascends }
     ensures { Receives (queue_of h dbits.now rbits.old nexts.old unsent.now)
@@ -164,13 +146,13 @@ fn receive_number(
 {
     let number = base::le24_at(datagram, 1);
     if window::accepted_in(h.datagrams, dbits, number) {
-        return refuse(h, Receive::Old);
+        return Err(Refusal::Old);
     }
     if base::WINDOW_PLACES < number - h.datagrams {
-        return refuse(h, Receive::Beyond);
+        return Err(Refusal::Beyond);
     }
     if base::MAX_UNSENT <= h.pending {
-        return refuse(h, Receive::UnsentFull);
+        return Err(Refusal::UnsentFull);
     }
     receive_frames(
         h, ascends, dbits, rbits, nexts, unsent, words, store, datagram,
@@ -188,7 +170,7 @@ fn receive_frames(
     words: &mut [u32],
     store: &mut [u8],
     datagram: &[u8],
-) -> PassedRows
+) -> Result<PassedRows, Refusal>
     requires { Numbered (queue_of h dbits.now rbits.old nexts.old unsent.now) nexts.old words.old store.old
         datagram.now ascends }
     ensures { Receives (queue_of h dbits.now rbits.old nexts.old unsent.now)
@@ -197,66 +179,46 @@ fn receive_frames(
 {
     let turn = super::begin(words);
     match super::frames(words, rbits, nexts, h.reliables, turn, datagram) {
-        Framed::Beyond => refuse_worked(h, rbits, nexts, words, Receive::ReliableBeyond),
-        Framed::Done { low, counts, left } => {
-            if counts.full == 1 {
-                return refuse_worked(h, rbits, nexts, words, Receive::NoRoom);
+        Err(refusal) => refuse(rbits, nexts, words, refusal),
+        Ok(framed) => {
+            if framed.counts.full {
+                return refuse(rbits, nexts, words, Refusal::CellsFull);
             }
             super::settle(words, store, datagram);
-            accept(low, ascends, counts, left)
+            Ok(accept(framed, ascends))
         }
     }
 }
 
-fn accept(low: u32, ascends: bool, counts: Tally, left: usize) -> PassedRows
-    ensures { result ≡ acceptance low ascends counts left }
+fn accept(framed: Framed, ascends: bool) -> PassedRows
+    ensures { result ≡ acceptance framed ascends }
 {
     PassedRows {
-        answer: Receive::Accepted {
-            ready: counts.ready,
-            dropped: counts.dropped,
-            left,
+        received: Received {
+            ready: framed.counts.ready,
+            dropped: framed.counts.dropped,
+            left: framed.left,
         },
-        low,
+        low: framed.low,
         ascending: ascends,
     }
 }
 
 // A refusal that was found while the frames were worked on: nothing of that work is left.
-fn refuse_worked(
-    h: Heads,
+#[tactic(auto, unfolding(crate::specs::Outcome::zeros_of))]
+fn refuse(
     rbits: &mut [u8],
     nexts: &mut [u32],
     words: &mut [u32],
-    answer: Receive,
-) -> PassedRows
-    ensures is { result ≡ refusal h answer }
+    refusal: Refusal,
+) -> Result<PassedRows, Refusal>
+    ensures is { result ≡ Err refusal }
     ensures bits { rbits.new ≡ zeros_of rbits.old }
     ensures nexts { nexts.new ≡ zeros_of nexts.old }
     ensures rows { words.new ≡ zeros_of words.old }
 {
-    clear_bytes(rbits);
-    clear_numbers(nexts);
-    clear_numbers(words);
-    refuse(h, answer)
-}
-
-fn clear_bytes(s: &mut [u8])
-    ensures { s.new ≡ zeros_of s.old }
-{
-    let mut i = 0;
-    while i < s.len() {
-        s[i] = 0;
-        i += 1;
-    }
-}
-
-fn clear_numbers(s: &mut [u32])
-    ensures { s.new ≡ zeros_of s.old }
-{
-    let mut i = 0;
-    while i < s.len() {
-        s[i] = 0;
-        i += 1;
-    }
+    rbits.fill(0);
+    nexts.fill(0);
+    words.fill(0);
+    Err(refusal)
 }

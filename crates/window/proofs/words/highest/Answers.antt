@@ -1,22 +1,25 @@
-use borrow.Author.Rules.{rules}
-use Rattle.window.proofs.Steps.{scan-done}
-use Rattle.window.proofs.ByWords.{down-some, down-within, down-in-word, down-less, word-clear, word_set}
+use mathlib.Core.Path.{refl}
+use native.Mathlib.Omega.{arith}
+use Rattle.window.proofs.ByWords.{found-above, highest-found, highest-on, highest-none}
 use Rattle.window.proofs.words.highest.Goals as goal
 
-pub overflow_sub-below : goal.overflow_sub-below
-overflow_sub-below c = search (rules, down-within)
+pub overflow_sub-result : goal.overflow_sub-result
+overflow_sub-result c =
+    let s = c.in-Some.ensures in
+    let a = found-above c.args.bits.now c.args.low _ _ _ _ (omega arith) (omega arith) c.between.ensures c.word.ensures refl
+    (λ x a b d. c.loop-j.invariant x a (omega arith) d) c.in-Some.top s.power_le s.next_power_gt s.bound in
+    omega arith
 
-pub places-x-requires : goal.places-x-requires
-places-x-requires c = search (rules, down-some, down-in-word)
+pub returns-in-Some : goal.returns-in-Some
+returns-in-Some c =
+    let s = c.in-Some.ensures in
+    highest-found c.args.bits.now c.args.low _ _ _ _ (omega arith) (omega arith) c.between.ensures c.word.ensures refl
+    (λ x a b d. c.loop-j.invariant x a (omega arith) d) c.in-Some.top s.power_le s.next_power_gt s.bound
 
-pub returns-then-x-gt0 : goal.returns-then-x-gt0
-returns-then-x-gt0 c = search (rules, word_set)
-
-pub loop-k-smaller : goal.loop-k-smaller
-loop-k-smaller c = search (rules, down-less)
-
-pub loop-k-preserved : goal.loop-k-preserved
-loop-k-preserved c = search (rules, word-clear)
+pub loop-j-preserved : goal.loop-j-preserved
+loop-j-preserved c =
+    highest-on c.args.bits.now c.args.low _ _ _ _ (omega arith) (omega arith) c.between.ensures c.word.ensures refl
+    (λ x a b d. c.loop-j.invariant x a (omega arith) d) c.in_default.ensures.none
 
 pub returns : goal.returns
-returns c = search (rules, scan-done)
+returns c = highest-none _ _ _ (omega arith) c.loop-j.invariant

@@ -1,12 +1,9 @@
 use mathlib.Core.Path.{◌≡◌}
-use Prim.Native.Nat.{◌≤◌}
-use Rattle.base.specs.Limits.{window_places}
-use Rattle.window.specs.Window.{window_of}
-use Rattle.window.specs.Missing.{highest}
+use mathlib.Core.Bool.{false}
+use Prim.Native.Nat.{ℕ, ◌*◌, ◌<◌, ◌≤◌}
+use Rattle.window.specs.Places.{place_set}
+use Rattle.window.specs.Words.{word_places}
 use Rattle.window.proofs.words.highest.Given as goal
 
-abbrev pub invariant-loop-k : goal.invariant-loop-k
-invariant-loop-k l = (l.k ≤ window_places) × (highest (window_of l.low l.bits) l.k ≡ highest (window_of l.low l.bits) window_places)
-
-abbrev pub decreases-loop-k : goal.decreases-loop-k
-decreases-loop-k l = l.k
+abbrev pub invariant-loop-j : goal.invariant-loop-j
+invariant-loop-j l = (x : ℕ) → l.first ≤ x → l.j * word_places ≤ x → x < l.end → place_set l.bits x ≡ false

@@ -1,6 +1,6 @@
 use borrow.Author.Rules.{rules}
 use Rattle.window.proofs.Steps.{run-past-limit}
-use Rattle.window.proofs.ByWords.{end-small, list-empty, list-whole}
+use Rattle.window.proofs.ByWords.{list-empty, list-whole}
 use Rattle.window.proofs.words.missing_in.Goals as goal
 
 pub returns-then-low-ge-NUMBERS_24 : goal.returns-then-low-ge-NUMBERS_24
@@ -8,9 +8,6 @@ returns-then-low-ge-NUMBERS_24 c = search (rules, run-past-limit)
 
 pub returns-then-end-eq0 : goal.returns-then-end-eq0
 returns-then-end-eq0 c = search (rules, list-empty)
-
-pub put_above-requires : goal.put_above-requires
-put_above-requires c = record { end_nonzero = search rules; end_le_window_places = search (rules, end-small); end_bound = search rules }
 
 pub returns : goal.returns
 returns c = search (rules, list-whole)

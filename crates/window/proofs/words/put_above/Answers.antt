@@ -1,25 +1,12 @@
 use borrow.Author.Rules.{rules}
-use Rattle.base.proofs.Puts.{run_long}
-use Rattle.window.proofs.ByWords.{up-some, up-in-word, up_fits, up-less, up-within, above-none, above_more, above-end}
+use native.Mathlib.Omega.{arith}
+use Rattle.window.proofs.ByWords.{above-none, above-more}
 use Rattle.window.proofs.words.put_above.Goals as goal
 
-pub loop-k-init : goal.loop-k-init
-loop-k-init c = search (rules, above-none)
+pub loop-j-init : goal.loop-j-init
+loop-j-init c = search (rules, above-none)
 
-pub put_clear-q-requires : goal.put_clear-q-requires
-put_clear-q-requires c = record { c_nonzero = search (rules, up-some); c_bound = search (rules, up-in-word); n_lt_numbers24 = search rules }
-
-pub overflow_add-k : goal.overflow_add-k
-overflow_add-k c = search (rules, up_fits)
-
-pub loop-k-smaller : goal.loop-k-smaller
-loop-k-smaller c = search (rules, up-less)
-
-pub loop-k-preserved : goal.loop-k-preserved
-loop-k-preserved c = search (rules, up-within, above_more)
-
-pub shape_of-list : goal.shape_of-list
-shape_of-list c = search (rules, run_long)
-
-pub returns : goal.returns
-returns c = search (rules, above-end)
+pub loop-j-preserved : goal.loop-j-preserved
+loop-j-preserved c =
+    above-more _ _ _ _ _ _ _ _ _ _ _ _ (omega arith) (omega arith) (omega arith) c.between.ensures c.word.ensures c.loop-j.invariant
+    c.put_ones-q.ensures

@@ -1,18 +1,8 @@
-use native.Mathlib.Omega.{arith}
 use Rattle.row_sweeps.proofs.Sweeps.{sweep-starts, sweep-goes, sweep-all}
 use Rattle.recv_steps.proofs.steps.datagram.clear_places.Goals as goal
 
 pub loop-i-init : goal.loop-i-init
 loop-i-init c = sweep-starts _ _
-
-pub clear_place-requires : goal.clear_place-requires
-clear_place-requires c = tt
-
-pub overflow_add-i : goal.overflow_add-i
-overflow_add-i c = omega arith
-
-pub loop-i-smaller : goal.loop-i-smaller
-loop-i-smaller c = omega arith
 
 pub loop-i-preserved : goal.loop-i-preserved
 loop-i-preserved c = sweep-goes c.loop-i.invariant c.loop-i-test.true c.clear_place.auto.words

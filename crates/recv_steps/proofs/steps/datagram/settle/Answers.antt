@@ -5,9 +5,6 @@ use Rattle.recv_steps.proofs.steps.datagram.settle.Goals as goal
 pub loop-i-init : goal.loop-i-init
 loop-i-init c = settling-begins _ _ _
 
-pub whole_row-requires : goal.whole_row-requires
-whole_row-requires c = tt
-
 pub flush_row-requires : goal.flush_row-requires
 flush_row-requires c =
     let pre = c.requires in
@@ -17,9 +14,6 @@ flush_row-requires c =
       fits = settling-fits _ _ _ pre.all_fit pre.cell_size_in_bounds _ _ _ c.loop-i.invariant lt _ c.whole_row.ensures;
       i_lt_max_cells = omega arith;
     }
-
-pub settle_row-requires : goal.settle_row-requires
-settle_row-requires c = tt
 
 pub loop-i-preserved : goal.loop-i-preserved
 loop-i-preserved c = let pre = c.requires in settling-goes _ _ _ pre.all_fit pre.cell_size_in_bounds _ _ _ c.loop-i.invariant c.loop-i-test.true _ c.whole_row.ensures _ _

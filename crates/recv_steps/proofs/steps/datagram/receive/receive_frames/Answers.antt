@@ -11,35 +11,35 @@ frames-requires c =
     let begun = c.begin-turn.ensures in
     may-begin _ _ _ _ _ _ _ _ c.requires _ begun.turn begun.rows
 
-pub returns-then-counts-eq1 : goal.returns-then-counts-eq1
-returns-then-counts-eq1 c =
+pub returns-in-Err : goal.returns-in-Err
+returns-in-Err c =
     let begun = c.begin-turn in
     let framed = c.frames in
-    let left = c.refuse_worked-then-counts-eq1.ensures in
-    ran_out _ _ _ _ _ _ _ _ c.requires _ _ begun.ensures.turn begun.ensures.rows _ _ _ _ framed.ensures _ _ _ c.in-Done.is
-    c.if-counts-eq1.true _ _ _ _ framed.auto.bits framed.auto.nexts (framed.auto.words ∙ begun.auto.words)
-    (left.is, (left.bits, (left.nexts, left.rows)))
+    let left = c.refuse.ensures in
+    rw left.is (beyond-reach _ _ _ _ _ _ _ _ c.requires _ _ _ _ _ _ framed.ensures _ c.in-Err.is _ _ _ _ framed.auto.bits framed.auto.nexts
+    (framed.auto.words ∙ begun.auto.words) (left.bits, (left.nexts, left.rows)))
+
+pub returns-then-framed : goal.returns-then-framed
+returns-then-framed c =
+    let begun = c.begin-turn in
+    let framed = c.frames in
+    let left = c.refuse-then-framed.ensures in
+    rw left.is (ran_out _ _ _ _ _ _ _ _ c.requires _ _ begun.ensures.turn begun.ensures.rows _ _ _ _ framed.ensures _ c.in-Ok.is
+    c.if-framed.true _ _ _ framed.auto.bits framed.auto.nexts (framed.auto.words ∙ begun.auto.words)
+    (left.bits, (left.nexts, left.rows)))
 
 pub settle-requires : goal.settle-requires
 settle-requires c =
     let begun = c.begin-turn in
     let framed = c.frames in
-    let fit = may-settle _ _ _ _ _ _ _ _ c.requires _ _ begun.ensures.turn begun.ensures.rows _ _ _ _ framed.ensures _ _ _ c.in-Done.is
+    let fit = may-settle _ _ _ _ _ _ _ _ c.requires _ _ begun.ensures.turn begun.ensures.rows _ _ _ _ framed.ensures _ c.in-Ok.is
     (framed.auto.words ∙ begun.auto.words) in
     record { all_fit = fit.0; words_bound = fit.1.0; cell_size_in_bounds = fit.1.1 }
 
-pub returns-in-Beyond : goal.returns-in-Beyond
-returns-in-Beyond c =
+pub returns-else-framed : goal.returns-else-framed
+returns-else-framed c =
     let begun = c.begin-turn in
     let framed = c.frames in
-    let left = c.refuse_worked.ensures in
-    beyond-reach _ _ _ _ _ _ _ _ c.requires _ _ _ _ _ _ framed.ensures c.in-Beyond.is _ _ _ _ _ framed.auto.bits framed.auto.nexts
-    (framed.auto.words ∙ begun.auto.words) (left.is, (left.bits, (left.nexts, left.rows)))
-
-pub returns-else-counts-eq1 : goal.returns-else-counts-eq1
-returns-else-counts-eq1 c =
-    let begun = c.begin-turn in
-    let framed = c.frames in
-    is-accepted _ _ _ _ _ _ _ _ c.requires _ _ begun.ensures.turn begun.ensures.rows _ _ _ _ framed.ensures _ _ _ c.in-Done.is
-    (framed.auto.words ∙ begun.auto.words) framed.auto.nexts _ _ (c.settle.ensures.rows, c.settle.ensures.store) c.if-counts-eq1.false _
+    is-accepted _ _ _ _ _ _ _ _ c.requires _ _ begun.ensures.turn begun.ensures.rows _ _ _ _ framed.ensures _ c.in-Ok.is
+    (framed.auto.words ∙ begun.auto.words) framed.auto.nexts _ _ (c.settle.ensures.rows, c.settle.ensures.store) c.if-framed.false _
     c.accept.ensures

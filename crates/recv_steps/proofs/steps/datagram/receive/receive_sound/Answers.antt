@@ -8,8 +8,8 @@ returns-then-datagram-lt-MIN_DATAGRAM c = search (rules, too_short)
 pub returns-then-datagram-gt-MAX_DATAGRAM : goal.returns-then-datagram-gt-MAX_DATAGRAM
 returns-then-datagram-gt-MAX_DATAGRAM c = search (rules, too_long)
 
+pub returns-then-not-is_datagram : goal.returns-then-not-is_datagram
+returns-then-not-is_datagram c = search (rules, not-datagram)
+
 pub receive_number-requires : goal.receive_number-requires
 receive_number-requires c = search (rules, is-headed)
-
-pub returns : goal.returns
-returns c = search (rules, not-datagram)
