@@ -98,6 +98,7 @@ if verbose:
         print('        ', c, p)
 print('point 6')
 show('parameters that are rows flattened to words', places(r'\bwords: &(?:mut )?\[u32\]'))
+show('parameters that are nexts, memories and profile flattened to numbers', places(r'\bnexts: &(?:mut )?\[u32[\];]'))
 show('arrays that are filled as far as a count says', places(r'let mut \w+(?:: \[[^\]]*\])? = \[0[\w]*; [^\]]*\];'))
 print('point 7')
 show('matches on a number of a kind of call', places(r'^ *match (?:\w+\.)?(?:tag|what|kind|item\.tag)\b'))

@@ -22,8 +22,8 @@ pub writing :
     × (write_list_of 100 false (5 ∷ 5 ∷ []) ≡ refused 14)
     × (write_list_of 13 true (3 ∷ 5 ∷ 6 ∷ 7 ∷ []) ≡ refused 12)
     × (write_list_of 14 true (3 ∷ 5 ∷ 6 ∷ 7 ∷ []) ≡ gives 14)
-unfolding write_list_of by_list_case too_large some_over ascending list_bytes ack_header_bytes id_of records_bytes record_bytes runs grow first_of last_of
-    be16_bytes le24_bytes and_then if_true if_lt if_le if_eq
+unfolding write_list_of by_list_case too_large some_over ascending list_bytes ack_header_bytes id_of records_bytes record_bytes runs grow
+    first_of last_of be16_bytes le24_bytes and_then if_true if_lt if_le if_eq
 writing = (refl, refl, refl, refl)
 
 -- header: 1 before 3. Record: cut; type byte 02, the last byte; last below first; first = last

@@ -8,9 +8,7 @@ use Prim.Native.Nat.{ℕ, zero, suc, ◌+◌, ◌-◌, ◌*◌, ◌<◌, ◌≤�
 use native.Mathlib.Nat.{add-zero, zero-add}
 use native.Mathlib.Numerals.{add-one, sub-one, unary_clauses}
 use native.Mathlib.Omega.{arith}
-use lib.ListN.{length, get_or, drop, drop_of_length-le, length-append}
-use lib.Seq.{drop-cons}
-use native.Mathlib.Decide.{dec_lt}
+use lib.ListN.{length, get_or, length-append}
 use lib.Dec.{leb, ltb}
 use borrow.Author.Tests.{eqb-true, eqb-false, ltb-true, ltb-false}
 use Rattle.std.proofs.lemmas.Bool.{cases_lt}
@@ -59,34 +57,6 @@ ascending-is (x ∷ y ∷ l) false (suc k, i, h) =
     let rest : false ≡ ascending (y ∷ l) =
     ascending-is (y ∷ l) false (k, omega arith, λ d. simp unary_clauses (simp unary_clauses at (h d))) in
     ⊎_elim (λ c. lt_yes _ _ _ _ _ c rest) (λ c. lt_no _ _ _ _ _ c refl) (cases_lt x y)
-
--- ---- the same, of a pass from place to place, as that of sound_queue
-module _ (l : List ℕ) (i : ℕ) where
-  from-here : i < length l → drop i l ≡ get_or l i 0 ∷ drop (i + 1) l
-  from-here h = rw add-one (drop-cons l i 0 h)
-
-  from-two : i + 1 < length l → drop i l ≡ get_or l i 0 ∷ get_or l (i + 1) 0 ∷ drop (suc (i + 1)) l
-  from-two h = from-here (omega arith) ∙ ap (λ (m : List ℕ). get_or l i 0 ∷ m) (drop-cons l (i + 1) 0 h)
-
-  from_last : i < length l → length l ≤ i + 1 → drop i l ≡ get_or l i 0 ∷ []
-  from_last h k = from-here h ∙ ap (λ (m : List ℕ). get_or l i 0 ∷ m) (drop_of_length-le l k)
-
-module _ (l : List ℕ) (i : ℕ) (t : Bool) (e : ascending (drop i l) ≡ t) where
-  pub ascending-not : i + 1 < length l → get_or l (i + 1) 0 ≤ get_or l i 0 → false ≡ t
-  unfolding ascending
-  ascending-not h k = lt_no _ _ _ _ _ k refl ∙ sym (ap ascending (from-two l i h)) ∙ e
-
-  pub ascending-further : i + 1 < length l → get_or l i 0 < get_or l (i + 1) 0 → ascending (drop (i + 1) l) ≡ t
-  unfolding ascending
-  ascending-further h k = ap ascending (drop-cons l (i + 1) 0 h) ∙ lt_yes _ _ _ _ _ k refl ∙ sym (ap ascending (from-two l i h)) ∙ e
-
-  pub ascending-yes : length l ≤ i + 1 → true ≡ t
-  unfolding ascending
-  ascending-yes h = by (dec_lt i (length l))
-    where
-      by : Dec (i < length l) → true ≡ t
-      by (yes k) = sym (ap ascending (from_last l i k h)) ∙ e
-      by (no n) = let k : length l ≤ i = omega arith in sym (ap ascending (drop_of_length-le l k)) ∙ e
 
 -- ---- the record of a run
 module _ (run : List ℕ) where

@@ -106,5 +106,6 @@ module _ (out : List ℕ) (nack : Bool) (l : List ℕ) (n : ℕ) (e : write_list
       rw (written-bytes out nack l n e) (bytes-records nack l h o (drop n out))
 
   -- the numbers that the records name are the list
-  pub read-back-numbers : numbers_of (read_all (length (runs l)) (written_of out nack l) (cursor ack_header_size (length (runs l)))).records ≡ l
+  pub read-back-numbers : numbers_of
+      (read_all (length (runs l)) (written_of out nack l) (cursor ack_header_size (length (runs l)))).records ≡ l
   read-back-numbers = ap (λ (r : Reading). numbers_of r.records) read-back-records ∙ runs-name l

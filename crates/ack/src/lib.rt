@@ -14,6 +14,7 @@ use base::Refusal;
 
 mod runs;
 
+// The bytes that an ACK and a NACK begin with: the wire's numbers, read and written as they are.
 pub const ACK: u8 = 0xc0;
 
 pub const NACK: u8 = 0xa0;
@@ -21,7 +22,7 @@ pub const NACK: u8 = 0xa0;
 // The first byte and the record count.
 const HEADER_SIZE: usize = 3;
 
-// A record's type byte, and the size of a record: the type byte and one number, or two.
+// A record's type byte, the wire's number too, and the size of a record: the type byte and one number, or two.
 const SINGLE: u8 = 0x01;
 
 const SINGLE_SIZE: usize = 4;
@@ -114,10 +115,9 @@ pub fn read_record(s: &[u8], records: AckCursor) -> Result<Option<Step>, Refusal
 // The Single at a place; `left` counts the records after it.
 #[tactic(auto, unfolding(crate::specs::Read::read_single, base::specs::If::if_lt, base::specs::If::if_true))]
 fn read_single(s: &[u8], at: usize, left: u32) -> Result<Option<Step>, Refusal>
-    requires { at < length s.now }
     ensures { answer result ≡ read_single s.now at left }
 {
-    if s.len() - at < SINGLE_SIZE {
+    if s.len().saturating_sub(at) < SINGLE_SIZE {
         return Err(Refusal::Cut);
     }
     let sequence = base::le24_at(s, at + 1);
@@ -133,10 +133,9 @@ fn read_single(s: &[u8], at: usize, left: u32) -> Result<Option<Step>, Refusal>
 // The Range at a place.
 #[tactic(auto, unfolding(crate::specs::Read::read_range, base::specs::If::if_lt, base::specs::If::if_true))]
 fn read_range(s: &[u8], at: usize, left: u32) -> Result<Option<Step>, Refusal>
-    requires { at < length s.now }
     ensures { answer result ≡ read_range s.now at left }
 {
-    if s.len() - at < RANGE_SIZE {
+    if s.len().saturating_sub(at) < RANGE_SIZE {
         return Err(Refusal::Cut);
     }
     let start = base::le24_at(s, at + 1);
@@ -195,7 +194,7 @@ fn id_of(nack: bool) -> u8
     if nack { NACK } else { ACK }
 }
 
-// The header with the record count, and the records.
+// The header with the record count, and the records. (`as u32`: there are at most 2,048.)
 fn put_list(out: &mut [u8], nack: bool, count: usize, numbers: &[u32]) -> usize
     requires { count ≤ max_list }
     ensures { Run 0 (and_then (ack_header_bytes nack count) (records_bytes (runs numbers.now))) out.old result

@@ -28,7 +28,8 @@ unfolding find
 joined-skip f l id n h = joined_same (f ∷ l) l id n (λ i. rw (is_piece-other id i f h))
 
 pub joined-without : (c : ℕ) (l : List Piece) (id n : ℕ) → (id ≡ c → ⊥) → joined (without (has_id c) l) id n ≡ joined l id n
-joined-without c l id n h = joined_same _ l id n (λ i. find-without _ _ l (λ g e. is_piece-other id i g (λ q. h (sym q ∙ has_id-true c g e))))
+joined-without c l id n h = joined_same _ l id n
+    (λ i. find-without _ _ l (λ g e. is_piece-other id i g (λ q. h (sym q ∙ has_id-true c g e))))
 
 -- What a join is made of.
 pub joined-piece : (l : List Piece) (id n : ℕ) (body : List ℕ) → joined l id n ≡ some body → (i : ℕ) → i < n → (g : Piece) × Memᴰ g l

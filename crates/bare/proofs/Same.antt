@@ -111,7 +111,8 @@ cons-once f l h e = more (any_false _ _ e)
     more none-at x y (Memᴰ.tail i) (Memᴰ.tail j) c q = h x y i j c q
 
 joined-alike : (l l' : List Piece) (id n : ℕ) → Alike l l' → PieceOnce l → joined l id n ≡ joined l' id n
-joined-alike l l' id n s h = joined_same l l' id n (λ i. find-alike (is_piece_at id i) l l' s (λ x y m k p q. let a = is_piece-true id i x p in
+joined-alike l l' id n s h =
+    joined_same l l' id n (λ i. find-alike (is_piece_at id i) l l' s (λ x y m k p q. let a = is_piece-true id i x p in
     let b = is_piece-true id i y q in h x y m k (a.0 ∙ sym b.0) (a.1 ∙ sym b.1)))
 
 keep_same : (f : Frame) (l l' : List Piece) → Alike l l' → PieceOnce l → SameKept (keep f l) (keep f l')

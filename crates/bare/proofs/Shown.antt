@@ -63,9 +63,9 @@ answers_of b (fs ∷ ds) = gave (feed b fs).ready (feed b fs).dropped ∷ answer
 
 -- A run for one profile. `unfolding run_as` opens every definition that a run computes with, and so does `unfolding run`.
 unfoldable pub run_as : Profile → List (List Frame) → Seen
-unfolding whole-frame piece-frame msg gave seen answers_of flatten find any without carries_reliable ordered sequenced is_at bump emit follow
-    quiet hold append queue memory_of older noted remember ready sequence deliver piece_of conflict is_piece_at has_id joined message keep
-    assemble in_limits accept_reliable seen_before drop_in finish step feed new line_for
+unfolding whole-frame piece-frame msg gave seen answers_of flatten find any without carries_reliable ordered sequenced is_at bump emit
+    follow quiet hold append queue memory_of older noted remember ready sequence deliver piece_of conflict is_piece_at has_id joined message
+    keep assemble in_limits accept_reliable seen_before drop_in finish step feed new line_for
 run_as p ds = seen (answers_of (new p) ds) (line_for p (flatten ds))
 
 -- Document 01's frames are the consoles'.

@@ -107,7 +107,8 @@ module _ {A : Type 0} where
   count-both p [] = refl
   count-both p (x ∷ l) = go (p x) (count-both p l)
     where
-      go : (t : Bool) → length l ≡ count_of p l + count_of (λ x. not (p x)) l → suc (length l) ≡ cond t (suc (count_of p l)) (count_of p l) +
+      go : (t : Bool) → length l ≡ count_of p l + count_of (λ x. not (p x)) l
+          → suc (length l) ≡ cond t (suc (count_of p l)) (count_of p l) +
           cond (not t) (suc (count_of (λ x. not (p x)) l)) (count_of (λ x. not (p x)) l)
       go true e = omega arith
       go false e = omega arith

@@ -29,7 +29,8 @@ one_more c k n false le one there gone d e = let y = gone refl in and-false (eqb
 
 module _ {A : Type 0} (q : A → Bool) (index : A → ℕ) (l : List A) where
   -- One index more: those below it, and those at it.
-  pub count-below-suc : (n T : ℕ) → T ≡ suc n → count_of (λ x. q x && ltb (index x) T) l ≡ count_of (λ x. q x && ltb (index x) n) l + count_of
+  pub count-below-suc : (n T : ℕ) → T ≡ suc n
+      → count_of (λ x. q x && ltb (index x) T) l ≡ count_of (λ x. q x && ltb (index x) n) l + count_of
       (λ x. q x && eqb (index x) n) l
   count-below-suc n T e = count-split (λ x. q x && ltb (index x) T) (λ x. q x && ltb (index x) n) (λ x. q x && eqb (index x) n) l
       (λ x. (rw (ltb-suc (index x) n T e) (and-or_distrib_left (q x) (ltb (index x) n) (eqb (index x) n)), apart x))

@@ -10,4 +10,3 @@ pub mod Alike
 pub mod EachAt
 pub mod IfCases
 pub mod Runs
-pub mod Answers

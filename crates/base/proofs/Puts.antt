@@ -10,7 +10,7 @@ use native.Mathlib.Numerals.{add-one}
 use native.Mathlib.Omega.{arith}
 use lib.Dec.{ltb}
 use lib.ListN.{length, get_or, set, take, drop, length-set, length-append, length-take, length-drop, take-append-drop}
-use lib.Seq.{get_or-set_same, get_or-set_other, set_out, take-suc, take-suc-set, take_all, length-take-le, drop-drop, sets, sets-eq}
+use lib.Seq.{get_or-set_same, get_or-set_other, set_out, take_all, length-take-le, drop-drop, sets, sets-eq}
 use lib.Seq.{drop-length}
 use borrow.Author.Tests.{lt-ltb, le-ltb, ltb-true, ltb-false}
 use Rattle.base.specs.If.{if_true, if_lt}
@@ -55,7 +55,8 @@ after-add n p zero k = rw zero-add
 after-add n p (suc j) k = rw suc-add (after-add n (if_lt p n (suc p) p) j k)
 
 -- two runs, one after the other
-pub put-append : {A : Type 0} (l : List A) (p : ℕ) (xs bs : List A) → put (put l p xs) (after (length l) p (length xs)) bs ≡ put l p (xs ++ bs)
+pub put-append : {A : Type 0} (l : List A) (p : ℕ) (xs bs : List A)
+    → put (put l p xs) (after (length l) p (length xs)) bs ≡ put l p (xs ++ bs)
 unfolding put after
 put-append l p [] bs = refl
 put-append l p (a ∷ xs) bs = go (ltb p (length l)) refl (put-append (set l p a) (suc p) xs bs)
@@ -117,7 +118,8 @@ unfolding put
 put-sets [] l p = refl
 put-sets (b ∷ bs) l p = put-sets bs (set l p b) (suc p)
 
-pub put-split : {A : Type 0} (l : List A) (p : ℕ) (bs : List A) → p + length bs ≤ length l → put l p bs ≡ take p l ++ (bs ++ drop (p + length bs) l)
+pub put-split : {A : Type 0} (l : List A) (p : ℕ) (bs : List A) → p + length bs ≤ length l
+    → put l p bs ≡ take p l ++ (bs ++ drop (p + length bs) l)
 put-split l p bs h = put-sets bs l p ∙ sets-eq bs l p h ∙ append_assoc (take p l) bs (drop (p + length bs) l)
 
 -- ---- runs, as `search` uses them: facts as the code finds them
@@ -135,7 +137,8 @@ run-then p xs ys l q L r M a b =
       is = b.is ∙ rw (a.is, a.next) (put-append l p xs ys);
     }
 
-pub run-cons : {A : Type 0} (p : ℕ) (a : A) (bs l : List A) (q : ℕ) (L : List A) (r : ℕ) (M : List A) → Run p (a ∷ []) l q L → Run q bs L r M
+pub run-cons : {A : Type 0} (p : ℕ) (a : A) (bs l : List A) (q : ℕ) (L : List A) (r : ℕ) (M : List A) → Run p (a ∷ []) l q L
+    → Run q bs L r M
     → Run p (a ∷ bs) l r M
 unfolding and_then
 run-cons p a bs l q L r M x y = run-then p (a ∷ []) bs l q L r M x y

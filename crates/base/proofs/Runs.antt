@@ -1,6 +1,6 @@
 -- Runs of bytes: chosen by a test, and what is left to write for a loop that writes.
 -- Assumes nothing.
-use mathlib.Core.Path.{◌≡◌, ◌∙◌, sym, ap, refl}
+use mathlib.Core.Path.{◌≡◌, ◌∙◌, refl}
 use mathlib.Core.Bool.{Bool, true, false}
 use mathlib.Core.List.{List, []}
 use Prim.Native.Nat.{ℕ}
@@ -32,9 +32,6 @@ pub record Left (p : ℕ) (bs l : List ℕ) (q : ℕ) (cs m : List ℕ) : Type 0
   pub next : after (length m) q (length cs) ≡ after (length l) p (length bs)
   pub is : put m q cs ≡ put l p bs
 
-pub left-all : (p : ℕ) (bs l : List ℕ) → Left p bs l p bs l
-left-all p bs l = record { next = refl; is = refl }
-
 pub left_less : (p : ℕ) (bs l : List ℕ) (q : ℕ) (xs ys m : List ℕ) (r : ℕ) (M : List ℕ) → Run q xs m r M → Left p bs l q (and_then xs ys) m
     → Left p bs l r ys M
 unfolding and_then
@@ -48,7 +45,3 @@ left_less p bs l q xs ys m r M a b =
 pub left-none : (p : ℕ) (bs l : List ℕ) (q : ℕ) (cs m : List ℕ) → cs ≡ [] → Left p bs l q cs m → Run p bs l q m
 unfolding put after
 left-none p bs l q cs m e a = let b : Left p bs l q [] m = rw e at a in record { next = b.next; is = b.is }
-
--- the length stays
-pub left-long : (p : ℕ) (bs l : List ℕ) (q : ℕ) (cs m : List ℕ) → Left p bs l q cs m → length m ≡ length l
-left-long p bs l q cs m a = sym (length-put m q cs) ∙ ap length a.is ∙ length-put l p bs

@@ -21,10 +21,6 @@ memories = 33
 abbrev pub profiles : ℕ
 profiles = 2
 
--- the numbers that step 4 goes by: a next for each channel, the memories, and the profile
-abbrev pub many_nexts : ℕ
-many_nexts = 66
-
 -- "piece count 1 to 1,024 (`MAX_FRAGS`)"
 abbrev pub max_frags : ℕ
 max_frags = 1024

@@ -19,8 +19,6 @@ pub const MAX_ORD_CHANS: u8 = 32;
 
 pub const PROFILES: u32 = 2;
 
-pub const NEXTS: usize = 66;
-
 pub const MAX_FRAGS: u32 = 1024;
 
 pub const WINDOW_PLACES: u32 = 2048;
@@ -45,13 +43,15 @@ pub const MAX_DATAGRAM: usize = 1500;
 
 pub const MAX_UNSENT: u32 = 1024;
 
-// Reading is total: a byte past the end is 0.
+// Reading is total: a byte past the end is 0. (std's form under a name, by which the readers here and above go.)
 pub fn byte(s: &[u8], p: usize) -> u8
     ensures { result ≡ get_or s.now p 0 }
 {
     s.get(p).copied().unwrap_or(0)
 }
 
+// p may be any number: only where it is in the slice does the place after it surely not wrap, and past the end all is 0.
+#[tactic(auto, unfolding(crate::specs::Bytes::be16))]
 pub fn be16_at(s: &[u8], p: usize) -> u16
     ensures { result ≡ be16 s.now p }
 {
@@ -61,6 +61,7 @@ pub fn be16_at(s: &[u8], p: usize) -> u16
     0
 }
 
+#[tactic(auto, using(crate::proofs::Past::past32), unfolding(crate::specs::Bytes::be32))]
 pub fn be32_at(s: &[u8], p: usize) -> u32
     ensures { result ≡ be32 s.now p }
 {
@@ -70,6 +71,7 @@ pub fn be32_at(s: &[u8], p: usize) -> u32
     0
 }
 
+#[tactic(auto, unfolding(crate::specs::Bytes::le24))]
 pub fn le24_at(s: &[u8], p: usize) -> u32
     ensures { result ≡ le24 s.now p }
 {
@@ -124,6 +126,7 @@ pub fn put24(out: &mut [u8], p: usize, x: u32) -> usize
     put(out, b, high)
 }
 
+#[tactic(auto, unfolding(crate::specs::Bytes::be32_bytes, crate::specs::Put::and_then, crate::specs::Bytes::be16_bytes))]
 pub fn put32(out: &mut [u8], p: usize, x: u32) -> usize
     ensures { Run p (be32_bytes x) out.old result out.new }
 {

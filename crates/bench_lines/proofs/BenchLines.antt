@@ -31,11 +31,13 @@ use Rattle.bench_lines.specs.BenchLines.{reported, with_piece, BenchLines}
 piece-dropped : (s : Start) (id₁ id₂ byte : ℕ) → reported (begun s) (with_piece id₁ id₂ byte)
     ≡ gives (record { ready = 0; dropped = 1; left = 0 })
 unfolding if_true if_lt if_le if_eq be16 be32 le24 profile_of
-    fields_of frame.frame_at frame.body_length frame.placed_at frame.read_frame_of frames.on_read frames.frames_from frames.end_from frames.frames_of frames.end_of
+    fields_of frame.frame_at frame.body_length frame.placed_at frame.read_frame_of frames.on_read frames.frames_from
+    frames.end_from frames.frames_of frames.end_of
     places.bit places.place_set window.new_window window.accepted
     line.carries_reliable line.in_limits bare.seen_before
     datagram.drop_one datagram.accept_in datagram.frame datagram.frames datagram.begin datagram.datagram
-    queue.new_queue queue.profile_in receive.frame_in receive.frames_in receive.bytes_left receive.accept_all receive.state_of receive.accepted_result
+    queue.new_queue queue.profile_in receive.frame_in receive.frames_in receive.bytes_left receive.accept_all receive.state_of
+    receive.accepted_result
     receive.receive_of calls.made
 piece-dropped s id₁ id₂ byte = by s.profile refl
   where
@@ -47,7 +49,8 @@ pub bench-lines : BenchLines
 unfolding if_true if_lt if_le if_eq be16 be32 le24 be16_bytes le24_bytes put and_then
     fields_of frame.frame_at frame.body_length frame.placed_at frame.read_frame_of
     records.first_of records.last_of records.record_bytes records.records_bytes records.grow records.runs
-    ack.id_of ack.ack_header_bytes ack.list_bytes ack.some_over ack.too_large ack.ascending ack.by_list_case ack.write_list_of ack.written_of
+    ack.id_of ack.ack_header_bytes ack.list_bytes ack.some_over ack.too_large ack.ascending ack.by_list_case ack.write_list_of
+    ack.written_of
     places.bit places.place_set places.set_place places.clear_place
     window.new_window window.accepted window.advance window.accept window.insert_of
     split.chunks_of split.split_piece_of

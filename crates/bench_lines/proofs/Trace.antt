@@ -45,7 +45,8 @@ unfolding if_true if_lt if_le if_eq be16 le24 be16_bytes le24_bytes and_then
     cells.index_of ready.lower ready.earliest
     sound.key_of sound.limits sound.agree sound.lacks_none sound.sound_cell sound.lengths
     store.cell_size store.cell_body store.slots_of store.cells_of store.laid store.store_of
-    queue.next_in queue.next_of queue.memories_in queue.newest_of queue.unsent_of queue.new_queue queue.profile_in queue.places_within queue.sound_window
+    queue.next_in queue.next_of queue.memories_in queue.newest_of queue.unsent_of queue.new_queue queue.profile_in
+    queue.places_within queue.sound_window
     queue.sound_profile queue.differ queue.sound_unsent queue.sound_queue queue.insert_unsent
     receive.frame_in receive.frames_in receive.bytes_left receive.accept_all receive.state_of receive.channels_after receive.queue_after
     receive.accepted_result receive.refused_result receive.sound_call receive.receive_of

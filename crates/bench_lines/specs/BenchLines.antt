@@ -100,4 +100,5 @@ pub record BenchLines : Type 0 where
   pub index_2_of_2 : (s : Start) (id₁ id₂ byte : ℕ) → reported (begun s) (with_piece id₁ id₂ byte)
       ≡ gives (record { ready = 0; dropped = 1; left = 0 })
   -- and by the bare receiver
-  pub bare_index_2_of_2 : (p : Profile) (id : ℕ) → ((step (new p) (piece_of3 2 id 2)).dropped ≡ 1) × ((step (new p) (piece_of3 2 id 2)).ready ≡ 0)
+  pub bare_index_2_of_2 : (p : Profile) (id : ℕ) → ((step (new p) (piece_of3 2 id 2)).dropped ≡ 1)
+      × ((step (new p) (piece_of3 2 id 2)).ready ≡ 0)

@@ -15,6 +15,7 @@ use recv_queue::{Profile, Received, Taken};
 use std::io;
 use std::io::Read;
 
+// Arrays and no `Vec`: the programs here have no heap.
 const STORE: usize = base::CELL_BYTES * recv_array::HELD;
 
 // A call's number has 16 bits.
@@ -72,6 +73,7 @@ fn read_cells<R: Read>(stdin: &mut R) -> io::Result<Option<u16>> {
 
 // ---- the calls
 
+// (`as u64`, here and below: usize has no From to it.)
 fn received_values(r: Received) -> [u64; 3] {
     [u64::from(r.ready), u64::from(r.dropped), r.left as u64]
 }

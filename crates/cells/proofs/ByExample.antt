@@ -134,7 +134,8 @@ late-sequenced-cells = (refl, refl)
 -- An id is used again while its first message is held: its cells keep the id, and both messages come whole.
 pub id-used-again : run 5 (receive (piece-frame 3 0 0 1 2 7 0 1 ∷ piece-frame 3 1 0 1 2 7 1 2 ∷ piece-frame 3 2 0 2 2 7 1 4 ∷ [])
     ∷ receive (piece-frame 3 3 0 2 2 7 0 3 ∷ whole-frame 3 4 0 0 9 ∷ []) ∷ [])
-    ≡ saw (gave 0 0) (slot 2 7 0 3 0 2 0 1 0 (1 ∷ []) ∷ slot 2 7 1 3 0 2 0 1 0 (2 ∷ []) ∷ open-cell 7 1 2 2 4 ∷ empty_slot ∷ empty_slot ∷ [])
+    ≡ saw (gave 0 0) (slot 2 7 0 3 0 2 0 1 0 (1 ∷ []) ∷ slot 2 7 1 3 0 2 0 1 0 (2 ∷ []) ∷ open-cell 7 1 2 2 4 ∷ empty_slot ∷ empty_slot
+    ∷ [])
     ∷ saw (gave 3 0) (slot 3 7 0 3 0 2 0 1 1 (1 ∷ []) ∷ slot 3 7 1 3 0 2 0 1 1 (2 ∷ []) ∷ slot 3 7 1 3 0 2 0 2 2 (4 ∷ [])
     ∷ slot 3 7 0 3 0 2 0 2 2 (3 ∷ []) ∷ ready-cell 0 3 0 9 ∷ [])
     ∷ []

@@ -16,7 +16,8 @@ use Rattle.base.proofs.Lists.{find-some, any-true, any-mem, any-all}
 use Rattle.base.proofs.Counts.{count-ext, count_none}
 use Rattle.bare.specs.Frame.{Frame, Piece}
 use Rattle.bare.specs.Bare.{is_at, is_piece_at, feed}
-use Rattle.cells.specs.Cell.{Slot, Key, open_as, held_as, ready_as, bears, at, of, sits, is_open, is_ready, message_of, message_at, piece_in}
+use Rattle.cells.specs.Cell.{Slot, Key, open_as, held_as, ready_as, bears, at, of, sits, is_open, is_ready, message_of, message_at}
+use Rattle.cells.specs.Cell.{piece_in}
 use Rattle.cells.specs.Cell.{map_if}
 use Rattle.cells.specs.Datagram.{is_first, is_before, rank, renumber, State, begin, end, datagram}
 use Rattle.cells.specs.Take.{taking, drain}
@@ -48,7 +49,8 @@ open-tests p (s ∷ l) = go (is_open s) (open-tests p l)
     go true e = ap (λ (b : Bool). p (piece_in s) || b) e
     go false e = e
 
-open-finds : (id i : ℕ) (l : List Slot) → find (is_piece_at id i) (map piece_in (only is_open l)) ≡ option (find (sits (open_as id) i) l) none
+open-finds : (id i : ℕ) (l : List Slot) → find (is_piece_at id i) (map piece_in (only is_open l))
+    ≡ option (find (sits (open_as id) i) l) none
     (λ s. some (piece_in s))
 unfolding find only sits at bears is_open is_piece_at piece_in
 open-finds id i [] = refl
@@ -88,7 +90,8 @@ held-find all c o (s ∷ l) = go (eqb s.cell.used 2) (eqb s.cell.index 0) (held-
 
     none_here : (b : Bool) → find (is_at c o) (map (held_in all) (only is_held_first l)) ≡ option (find (sits (held_as c o) 0) l) none
         (λ s. some (held_in all s))
-        → find (is_at c o) (map (held_in all) (only is_held_first l)) ≡ option (cond (b && false) (some s) (find (sits (held_as c o) 0) l)) none
+        → find (is_at c o) (map (held_in all) (only is_held_first l))
+        ≡ option (cond (b && false) (some s) (find (sits (held_as c o) 0) l)) none
         (λ s. some (held_in all s))
     none_here true e = e
     none_here false e = e

@@ -13,7 +13,8 @@ use Rattle.base.proofs.Choices.{and_left, and_right, or_left, neither}
 use Rattle.bare.specs.Frame.{Frame, piece_of, message}
 use Rattle.bare.specs.Bare.{is_at, conflict}
 use Rattle.bare.proofs.Tests.{is_at-true}
-use Rattle.cells.specs.Cell.{Slot, Key, open_as, held_as, ready_as, bears, of, sits, is_free, is_open, message_of, piece_in, clash, put_slot}
+use Rattle.cells.specs.Cell.{Slot, Key, open_as, held_as, ready_as, bears, of, sits, is_free, is_open, message_of, piece_in, clash}
+use Rattle.cells.specs.Cell.{put_slot}
 use Rattle.cells.specs.Cell.{slot_of}
 use Rattle.cells.proofs.PutSlot.{mem-put}
 use Rattle.cells.proofs.Keys.{use_of, of_other, sits-not, sits-is, none-sits}

@@ -88,7 +88,8 @@ module _ (k₀ : Key) (T : ℕ) (l : List Slot) (not-ready : use_of k₀ ≡ 3 �
   ))
 
   pub ready-unique : Unique l → Unique (turn_to k₀ 3 T l)
-  ready-unique u (open_as id) i = let a = turn-left k₀ 3 T l (open_as id) i (λ s m e. of-mark (open_as id) 3 T s (λ q. omega arith)) in let b =
+  ready-unique u (open_as id) i = let a = turn-left k₀ 3 T l (open_as id) i (λ s m e. of-mark (open_as id) 3 T s (λ q. omega arith)) in
+      let b =
       u (open_as id) i in omega arith
   ready-unique u (held_as c o) i = let a = turn-left k₀ 3 T l (held_as c o) i (λ s m e. of-mark (held_as c o) 3 T s (λ q. omega arith)) in
       let b = u (held_as c o) i in omega arith
@@ -134,9 +135,11 @@ module _ (id c o : ℕ) (l : List Slot) (agree : (s : Slot) → Memᴰ s l → o
   ))
 
   pub held-unique : Unique l → Unique (turn_to (open_as id) 2 0 l)
-  held-unique u (open_as j) i = let a = turn-left (open_as id) 2 0 l (open_as j) i (λ s m e. of-mark (open_as j) 2 0 s (λ q. omega arith)) in
+  held-unique u (open_as j) i = let a =
+      turn-left (open_as id) 2 0 l (open_as j) i (λ s m e. of-mark (open_as j) 2 0 s (λ q. omega arith)) in
       let b = u (open_as j) i in omega arith
-  held-unique u (ready_as t) i = let a = turn-left (open_as id) 2 0 l (ready_as t) i (λ s m e. of-mark (ready_as t) 2 0 s (λ q. omega arith)) in
+  held-unique u (ready_as t) i = let a =
+      turn-left (open_as id) 2 0 l (ready_as t) i (λ s m e. of-mark (ready_as t) 2 0 s (λ q. omega arith)) in
       let b = u (ready_as t) i in omega arith
   held-unique u (held_as c' o') i = cases (eqb c' c && eqb o' o)
       (λ y. rw (

@@ -204,7 +204,8 @@ pieces-close id u t ps l e v = record {
         ∙ sym (rw (find-no (sits (open_as id') i) (turn_to (open_as id) u t l)
         (none-sits (open_as id') i (turn_to (open_as id) u t l) (rw (eqb-true id' id q) gone))))
 
-    other : (id' i : ℕ) → eqb id' id ≡ false → find (is_piece_at id' i) (without (has_id id) ps) ≡ piece_at id' i (turn_to (open_as id) u t l)
+    other : (id' i : ℕ) → eqb id' id ≡ false → find (is_piece_at id' i) (without (has_id id) ps)
+        ≡ piece_at id' i (turn_to (open_as id) u t l)
     other id' i q = find-without (is_piece_at id' i) (has_id id) ps
         (λ g y. cases (is_piece_at id' i g) (λ z. neither (has_id id g) y (sym (is_piece-has_id id id' i g z) ∙ q)) (λ z. z))
         ∙ (v.finds id' i ∙ sym (piece_at-look id' i l (turn_to (open_as id) u t l) id'

@@ -72,7 +72,8 @@ module _ (x : Slot) (used : is_free x ≡ false) (z : Sized x) where
       go : (t : Bool) → is_free s ≡ t → (t || any is_free l) ≡ true → cell_size ≤ length store
           → (any is_free l ≡ true → store_of (drop cell_size store) (put_slot x l) ≡ overlay (store_of (drop cell_size store) l)
           (unused_at (cells_of l) * cell_size) x.body)
-          → store_of store (cond t (x ∷ l) (s ∷ put_slot x l)) ≡ overlay (laid s (take cell_size store) ++ store_of (drop cell_size store) l)
+          → store_of store (cond t (x ∷ l) (s ∷ put_slot x l))
+          ≡ overlay (laid s (take cell_size store) ++ store_of (drop cell_size store) l)
           (cond t 0 (suc (unused_at (cells_of l))) * cell_size) x.body
       go true t r a k =
           let e : 0 * cell_size ≡ 0 = omega arith in

@@ -65,7 +65,8 @@ module _ (p : Slot → Bool) (x : Slot) (blind : (s : Slot) → is_free s ≡ tr
       now false = omega arith
 
       go : (t : Bool) → is_free s ≡ t → (t || any is_free l) ≡ true
-          → (any is_free l ≡ true → count_of p (put_slot x l) ≡ cond (p x) 1 0 + count_of p l) → count_of p (cond t (x ∷ l) (s ∷ put_slot x l))
+          → (any is_free l ≡ true → count_of p (put_slot x l) ≡ cond (p x) 1 0 + count_of p l)
+          → count_of p (cond t (x ∷ l) (s ∷ put_slot x l))
           ≡ cond (p x) 1 0 + cond (p s) (suc (count_of p l)) (count_of p l)
       go true t r k = rw (blind s t) (now (p x))
       go false t r k = later (p s) (p x) (k r)
@@ -97,13 +98,15 @@ put-length x (s ∷ l) = go (is_free s) (put-length x l)
     go true e = refl
     go false e = ap suc e
 
-pub free-put : (x : Slot) (l : List Slot) → any is_free l ≡ true → is_free x ≡ false → count_of is_free l ≡ suc (count_of is_free (put_slot x l))
+pub free-put : (x : Slot) (l : List Slot) → any is_free l ≡ true → is_free x ≡ false
+    → count_of is_free l ≡ suc (count_of is_free (put_slot x l))
 unfolding any count_of put_slot
 free-put x [] r e = absurd (false≢true r)
 free-put x (s ∷ l) r e = go (is_free s) refl r (λ r'. free-put x l r' e)
   where
     go : (t : Bool) → is_free s ≡ t → (t || any is_free l) ≡ true
-        → (any is_free l ≡ true → count_of is_free l ≡ suc (count_of is_free (put_slot x l))) → cond t (suc (count_of is_free l)) (count_of is_free l)
+        → (any is_free l ≡ true → count_of is_free l ≡ suc (count_of is_free (put_slot x l)))
+        → cond t (suc (count_of is_free l)) (count_of is_free l)
         ≡ suc (count_of is_free (cond t (x ∷ l) (s ∷ put_slot x l)))
     go true t r k = rw e
     go false t r k = rw t (k r)

@@ -55,7 +55,8 @@ pub record Outs (o : Out) (next : ℕ → ℕ) (l : List Slot) (lo n : ℕ) (han
   pub firsts : (t : ℕ) → lo ≤ t → t < n + lo → has (message_at (ready_as t) l) ≡ true
   pub unique : Unique l
 
-pub ready_line-ext : (l l' : List Slot) (lo n : ℕ) → ((t : ℕ) → lo ≤ t → t < n + lo → message_at (ready_as t) l' ≡ message_at (ready_as t) l)
+pub ready_line-ext : (l l' : List Slot) (lo n : ℕ)
+    → ((t : ℕ) → lo ≤ t → t < n + lo → message_at (ready_as t) l' ≡ message_at (ready_as t) l)
     → ready_line l' lo n ≡ ready_line l lo n
 unfolding ready_line
 ready_line-ext l l' lo zero e = refl
@@ -113,7 +114,8 @@ outs-hold {o} {next} {l} {lo} {n} {h} m l' v is here sh sr u = record {
 
 -- A message is made ready.
 module _ {o : Out} {next : ℕ → ℕ} {l : List Slot} {lo n : ℕ} {h : List Message} (m : Message) (l' : List Slot) (v : Outs o next l lo n h)
-    (T : ℕ) (top : T ≡ n + lo) (is : message_at (ready_as T) l' ≡ some m) (sr : (t : ℕ) → (t ≡ T → ⊥) → SameUnder (ready_as t) l (ready_as t)
+    (T : ℕ) (top : T ≡ n + lo) (is : message_at (ready_as T) l' ≡ some m)
+    (sr : (t : ℕ) → (t ≡ T → ⊥) → SameUnder (ready_as t) l (ready_as t)
     l') (u : Unique l') where
   ready-line : o.line ++ (m ∷ []) ≡ h ++ ready_line l' lo (suc n)
   unfolding ready_line

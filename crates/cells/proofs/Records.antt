@@ -57,7 +57,8 @@ unfolding put_slot unused_at cells_of is_free
 cells-put x [] = refl
 cells-put x (s ∷ l) = go (is_free s) (cells-put x l)
   where
-    go : (t : Bool) → cells_of (put_slot x l) ≡ set (cells_of l) (unused_at (cells_of l)) x.cell → cells_of (cond t (x ∷ l) (s ∷ put_slot x l))
+    go : (t : Bool) → cells_of (put_slot x l) ≡ set (cells_of l) (unused_at (cells_of l)) x.cell
+        → cells_of (cond t (x ∷ l) (s ∷ put_slot x l))
         ≡ set (s.cell ∷ cells_of l) (cond t 0 (suc (unused_at (cells_of l)))) x.cell
     go true e = refl
     go false e = ap {B = List Cell} (λ r. s.cell ∷ r) e

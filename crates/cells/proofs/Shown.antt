@@ -10,9 +10,11 @@ use Rattle.reliability.specs.declared.Profile.TheVariants.{Console}
 use Rattle.bare.specs.Frame.{Frame, Message, carries_reliable, ordered, sequenced, in_limits, piece_of, message}
 use Rattle.bare.specs.Bare.{new, is_at, bump, emit, follow, quiet, hold, append, queue, memory_of, older, noted, ready, sequence, deliver}
 use Rattle.bare.specs.Bare as bare
-use Rattle.bare.specs.Bare.{conflict, is_piece_at, has_id, joined, keep, assemble, seen_before, accept_reliable, drop_in, finish, step, feed}
+use Rattle.bare.specs.Bare.{conflict, is_piece_at, has_id, joined, keep, assemble, seen_before, accept_reliable, drop_in, finish, step}
+use Rattle.bare.specs.Bare.{feed}
 use Rattle.bare.proofs.Shown.{whole-frame, piece-frame, msg}
-use Rattle.cells.specs.Cell.{Slot, bears, at, of, sits, is_free, is_open, is_ready, join, all_there, message_of, message_at, piece_in, clash}
+use Rattle.cells.specs.Cell.{Slot, bears, at, of, sits, is_free, is_open, is_ready, join, all_there, message_of, message_at, piece_in}
+use Rattle.cells.specs.Cell.{clash}
 use Rattle.cells.specs.Cell.{mark_cell, mark, empty_cell, empty_slot, change, map_if, turn_to, freed, put_slot, slot_of}
 use Rattle.cells.specs.Datagram.{drop_one, fill_up, place, made, rise, accept_in, is_held, go_on, cascade, follows, fate, fate_of, roomy}
 use Rattle.cells.specs.Datagram.{remember_in, readied, whole, joins, kept, piece, keep_in, frame, frames, is_first, is_before, rank}
@@ -106,13 +108,14 @@ state_at c l = state_as Console c l
 
 -- The calls of a list, from a receiver just made of n cells. `unfolding run` opens every definition that a run computes with.
 unfoldable pub run : ℕ → List SlotCall → List Seen
-unfolding slot open-cell held-cell ready-cell saw telling state_after seeing state_as state_at whole-frame piece-frame numbered msg every key_of
-    limits agree lacks_none below sound_cell sound lengths find any without only carries_reliable ordered sequenced is_at bump emit follow quiet
-    hold append queue memory_of older noted bare.remember ready sequence deliver message keep assemble joined drop_in finish step feed new
-    piece_of conflict is_piece_at has_id in_limits accept_reliable seen_before bears at of sits is_free is_open is_ready count_of join all_there
-    message_of message_at piece_in clash mark mark_cell empty_cell empty_slot change map_if turn_to freed put_slot slot_of drop_one fill_up place made
-    rise accept_in is_held go_on cascade remember_in fate fate_of follows roomy readied whole joins kept piece keep_in frame frames is_first
-    is_before rank renumber sweep begin end datagram lower earliest taking drain_in drain cell_size cell_body slots_of cells_of laid store_of
+unfolding slot open-cell held-cell ready-cell saw telling state_after seeing state_as state_at whole-frame piece-frame numbered msg every
+    key_of limits agree lacks_none below sound_cell sound lengths find any without only carries_reliable ordered sequenced is_at bump emit
+    follow quiet hold append queue memory_of older noted bare.remember ready sequence deliver message keep assemble joined drop_in finish
+    step feed new piece_of conflict is_piece_at has_id in_limits accept_reliable seen_before bears at of sits is_free is_open is_ready
+    count_of join all_there message_of message_at piece_in clash mark mark_cell empty_cell empty_slot change map_if turn_to freed put_slot
+    slot_of drop_one fill_up place made rise accept_in is_held go_on cascade remember_in fate fate_of follows roomy readied whole joins kept
+    piece keep_in frame frames is_first is_before rank renumber sweep begin end datagram lower earliest taking drain_in drain cell_size
+    cell_body slots_of cells_of laid store_of
 run n cs = seeing (state_at 0 (replicate n empty_slot)) cs
 
 -- The same in a profile.

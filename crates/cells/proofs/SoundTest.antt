@@ -254,7 +254,8 @@ module _ (next : ℕ → ℕ) (l : List Slot) where
     -- What is sound passes the test.
     pub rest-sound : sound (cells_of l) next ≡ true
     unfolding sound cells_of
-    rest-sound = and_both _ _ (every-all (sound_cell (cells_of l) next) (cells_of l) (λ c m. one c (Memᴰ.of_map (λ (s : Slot). s.cell) l m)))
+    rest-sound = and_both _ _ (every-all (sound_cell (cells_of l) next) (cells_of l)
+        (λ c m. one c (Memᴰ.of_map (λ (s : Slot). s.cell) l m)))
         (below_all max_ord_chans (λ c. leb (next c) numbers24) (λ c lt. le-leb _ _ (v.nexts c (omega arith))))
       where
         one : (c : Cell) → (s : Slot) × Memᴰ s l × (s.cell ≡ c) → sound_cell (cells_of l) next c ≡ true

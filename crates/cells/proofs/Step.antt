@@ -10,7 +10,8 @@ use lib.Dec.{ltb, eqb}
 use Rattle.base.proofs.Choices.{cases, or_right}
 use Rattle.reliability.specs.declared.Profile.{Profile}
 use Rattle.bare.specs.Frame.{Piece, Message, ordered, sequenced}
-use Rattle.bare.specs.Bare.{Out, bump, emit, follow, quiet, hold, append, queue, memory_of, older, noted, remember, ready, sequence, deliver}
+use Rattle.bare.specs.Bare.{Out, bump, emit, follow, quiet, hold, append, queue, memory_of, older, noted, remember, ready, sequence}
+use Rattle.bare.specs.Bare.{deliver}
 use Rattle.bare.proofs.Tests.{emit-not-longer}
 use Rattle.cells.specs.Cell.{Slot}
 use Rattle.cells.specs.Datagram.{Work, on_state, drop_one, place, made, rise, is_held, follows, Fate, late, early, due, newer, free}

@@ -69,7 +69,8 @@ laid-body s store rest z = cases (is_free s)
     (λ y. rw y (sym (z.none y)))
     (λ y. rw (y, append_assoc) (take_at s.body _ s.cell.length (z.exact y)))
 
-pub store-slots : (l : List Slot) (store : List ℕ) → AllSized l → length l * cell_size ≤ length store → slots_of (cells_of l) (store_of store l)
+pub store-slots : (l : List Slot) (store : List ℕ) → AllSized l → length l * cell_size ≤ length store
+    → slots_of (cells_of l) (store_of store l)
     ≡ l
 unfolding slots_of cells_of store_of
 store-slots [] store z le = refl

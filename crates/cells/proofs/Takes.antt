@@ -194,7 +194,8 @@ module _ {o : Out} {next : ℕ → ℕ} {l : List Slot} {lo : ℕ} {h : List Mes
       let q : b.0 ≡ lo = omega arith in
       b.1 ∙ ap {B = Option ℕ} some q
 
-  freed-outs : (n : ℕ) (m : Message) → Outs o next l lo (suc n) h → message_at (ready_as lo) l ≡ some m → Outs o next (freed (ready_as lo) l)
+  freed-outs : (n : ℕ) (m : Message) → Outs o next l lo (suc n) h → message_at (ready_as lo) l ≡ some m
+      → Outs o next (freed (ready_as lo) l)
       (suc lo) n (h ++ (m ∷ []))
   unfolding freed
   freed-outs n m v e = record {

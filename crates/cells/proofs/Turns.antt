@@ -100,7 +100,8 @@ module _ {o : Out} {next : ℕ → ℕ} {l : List Slot} {lo n : ℕ} {h : List M
   renumber-unique : Unique (renumber l)
   unfolding renumber map_if retime
   renumber-unique (open_as id) i = rw (carried-count (retime-other (rank l) l (open_as id) (λ q. omega arith)) i) (v.unique (open_as id) i)
-  renumber-unique (held_as c k) i = rw (carried-count (retime-other (rank l) l (held_as c k) (λ q. omega arith)) i) (v.unique (held_as c k) i)
+  renumber-unique (held_as c k) i =
+      rw (carried-count (retime-other (rank l) l (held_as c k) (λ q. omega arith)) i) (v.unique (held_as c k) i)
   renumber-unique (ready_as t) i = rw (carried-count (renumber-carried t) i) (v.unique (ready_as (t + lo)) i)
 
   -- The held and the ready messages with turns from 0 on.

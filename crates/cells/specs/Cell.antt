@@ -117,7 +117,18 @@ mark u t s = record { cell = mark_cell u t s.cell; body = s.body }
 
 -- a cell that becomes unused gets the all-zero record (our choice)
 unfoldable pub empty_cell : Cell
-empty_cell = record { used = unused_use; id = 0; index = 0; length = 0; kind = 0; channel = 0; count = 0; sequence = 0; order = 0; turn = 0 }
+empty_cell = record {
+  used = unused_use;
+  id = 0;
+  index = 0;
+  length = 0;
+  kind = 0;
+  channel = 0;
+  count = 0;
+  sequence = 0;
+  order = 0;
+  turn = 0;
+}
 
 unfoldable pub empty_slot : Slot
 empty_slot = record { cell = empty_cell; body = [] }

@@ -3,7 +3,8 @@
 #![tactic(auto)]
 
 // What a cell is used for: for nothing, for a piece of an open, a held or a ready message, or, only while a datagram is worked on, for a
-// joined message that was dropped late and frees its cells afterwards.
+// joined message that was dropped late and frees its cells afterwards. Numbers and no enum: a lent record may hold any number there, which
+// soundness refuses (9).
 pub const UNUSED: u32 = 0;
 
 pub const OPEN: u32 = 1;
@@ -14,7 +15,7 @@ pub const READY: u32 = 3;
 
 pub const RELEASED: u32 = 4;
 
-// One record stands beside each cell; all its numbers have one width.
+// One record stands beside each cell; all its numbers have one width. Other languages lay it out in memory, and lend it.
 #[repr(C)]
 #[derive(Clone, Copy)]
 pub struct CellRecord {

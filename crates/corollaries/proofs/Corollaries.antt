@@ -75,6 +75,7 @@ sequenced-rise s cs b = record {
   kind_1 = kind-1-rises s.profile (read_by outcome s cs);
   kind_4 = λ e. subst (λ (p : Profile). RisesFrom 0 (sequences_of kind4 (numbered_line p (read_by outcome s cs)))) (sym e)
       (kind-4-rises (read_by outcome s cs));
-  kinds_1_and_4 = λ e c. subst (λ (p : Profile). RisesFrom 0 (sequences_of (sequenced_on c) (numbered_line p (read_by outcome s cs)))) (sym e)
+  kinds_1_and_4 = λ e c. subst
+      (λ (p : Profile). RisesFrom 0 (sequences_of (sequenced_on c) (numbered_line p (read_by outcome s cs)))) (sym e)
       (kinds-1-and-4-rise (read_by outcome s cs) c);
 }

@@ -25,14 +25,16 @@ use Rattle.bare.specs.Order.{line_for}
 use Rattle.bare.proofs.Shown.{whole-frame, msg}
 use Rattle.cells.specs.Records.{index_of}
 use Rattle.cells.proofs.Shown.{run}
-use Rattle.receiver.specs.Queue.{new_queue, places_within, sound_window, differ, sound_unsent, sound_queue, next_in, next_of, memories_in, newest_of}
+use Rattle.receiver.specs.Queue.{new_queue, places_within, sound_window, differ, sound_unsent, sound_queue}
+use Rattle.receiver.specs.Queue.{next_in, next_of, memories_in, newest_of}
 use Rattle.receiver.specs.Queue.{profile_in, unsent_of, sound_profile, insert_unsent}
 use Rattle.receiver.specs.Receive.{frame_in, frames_in, bytes_left, accept_all, state_of, channels_after, queue_after, accepted_result}
 use Rattle.receiver.specs.Receive.{refused_result, sound_call, receive_of}
 use Rattle.receiver.specs.Take.{handed, take_of}
 use Rattle.receiver.specs.Write.{sorted, write_of, emptied, write_unsent_of}
 use Rattle.receiver.specs.Calls.{Call, take_with, Receiver, Outcome, Accepted, made, zeros, takes, bytes_at, message_handed, took_of}
-use Rattle.receiver.specs.Calls.{accepted_by, refusal_of, receive_outcome, take_outcome, write_outcome, outcome, after_all, handed_out, accepted_of}
+use Rattle.receiver.specs.Calls.{accepted_by, refusal_of, receive_outcome, take_outcome, write_outcome, outcome}
+use Rattle.receiver.specs.Calls.{after_all, handed_out, accepted_of}
 use Rattle.receiver.specs.Calls.{still_out, drained, frames_read, bare_answers}
 use Rattle.receiver.specs.Claim.{begun, read_by, left_by, OneList}
 use Rattle.corollaries.specs.Wrong.{outcome_with, idle, untouched, acknowledged, first_only, mute, trace1, trace2, trace_calls}
@@ -43,12 +45,14 @@ use Rattle.corollaries.specs.Wrong.{trace_start}
 unfoldable pub out_by : (Receiver → Call → Outcome) → List Message
 unfolding trace1 trace2 trace_calls trace_start made zeros takes bytes_at message_handed took_of accepted_by refusal_of receive_outcome
     take_outcome write_outcome outcome frames_read bare_answers after_all handed_out accepted_of still_out drained line_for
-    frames_in frame_in bytes_left frs.frames_of frs.frames_from frs.end_of frs.end_from frs.on_read fr.read_frame_of fr.frame_at fr.body_length
+    frames_in frame_in bytes_left frs.frames_of frs.frames_from frs.end_of frs.end_from frs.on_read fr.read_frame_of fr.frame_at
+    fr.body_length
     fr.placed_at if_true if_lt if_le if_eq be16 be32 le24 be16_bytes le24_bytes put and_then fields_of profile_of
     records.first_of records.last_of records.record_bytes records.records_bytes records.grow records.runs ack.id_of ack.ack_header_bytes
     ack.list_bytes ack.some_over ack.too_large ack.ascending ack.by_list_case ack.write_list_of ack.written_of
     places.bit places.place_set places.set_place places.clear_place window.new_window window.accepted window.advance window.accept
-    new_queue places_within sound_window differ sound_profile sound_unsent sound_queue next_in next_of memories_in newest_of profile_in unsent_of
+    new_queue places_within sound_window differ sound_profile sound_unsent sound_queue next_in next_of memories_in newest_of
+    profile_in unsent_of
     insert_unsent accept_all state_of channels_after queue_after accepted_result refused_result sound_call receive_of
     handed take_of index_of sorted write_of emptied write_unsent_of outcome_with idle untouched acknowledged first_only mute
 out_by by = handed_out by (begun trace_start) trace_calls ++ still_out by (after_all by (begun trace_start) trace_calls)
@@ -97,7 +101,8 @@ ours-passes =
     record { line = rw e (bare-line ∙ sym h); until_20 = ours-ends; counts = rw e (sym bare-counts) }
 
 -- Calls that accept frames with two messages in the line and hand out none fail.
-none-handed-out : (by : Receiver → Call → Outcome) → length (line_for Console (read_by by trace_start trace_calls)) ≡ 2 → length (out_by by) ≡ 0
+none-handed-out : (by : Receiver → Call → Outcome) → length (line_for Console (read_by by trace_start trace_calls)) ≡ 2
+    → length (out_by by) ≡ 0
     → OneList by trace_start trace_calls → ⊥
 none-handed-out by two none o =
     let c : line_for Console (read_by by trace_start trace_calls) ≡ out_by by = unfold out_by in o.line in

@@ -130,10 +130,12 @@ unfolding if_true if_lt if_le if_eq be16 be32 le24 be16_bytes le24_bytes put and
     fields_of profile_of frame.frame_at frame.body_length frame.placed_at frame.read_frame_of
     frames.on_read frames.frames_from frames.end_from frames.frames_of frames.end_of
     records.first_of records.last_of records.record_bytes records.records_bytes records.grow records.runs
-    ack.id_of ack.ack_header_bytes ack.list_bytes ack.some_over ack.too_large ack.ascending ack.by_list_case ack.write_list_of ack.written_of
+    ack.id_of ack.ack_header_bytes ack.list_bytes ack.some_over ack.too_large ack.ascending ack.by_list_case ack.write_list_of
+    ack.written_of
     places.bit places.place_set places.set_place places.clear_place window.new_window window.accepted window.advance window.accept
     missing.highest missing.unless_accepted missing.missing_of missing.missing
-    line.carries_reliable line.ordered line.sequenced line.in_limits line.piece_of bare.bump bare.memory_of bare.older bare.noted bare.conflict
+    line.carries_reliable line.ordered line.sequenced line.in_limits line.piece_of bare.bump bare.memory_of bare.older bare.noted
+    bare.conflict
     bare.seen_before bare.accept_reliable
     cell.bears cell.at cell.of cell.sits cell.is_free cell.is_open cell.is_ready cell.join cell.all_there cell.message_of cell.message_at
     cell.piece_in cell.clash

@@ -19,6 +19,7 @@ use base::Refusal;
 use split::Fragment;
 use window::ReliableWindow;
 
+// In this struct and those below C lays out a number, 0 or the refusal's, beside the values: so they are no `Result` and no `Option`.
 #[repr(C)]
 #[derive(Clone, Copy)]
 pub struct WindowInsert {

@@ -21,7 +21,7 @@ use base::Refusal;
 use frame::{Frame, FramesRead, Placed};
 use reliability::Profile;
 
-// The frame and where its body stands, and the place after it.
+// The frame and where its body stands, and the place after it. As in `exports`, C lays out a number beside the values, and no `Result`.
 #[repr(C)]
 #[derive(Clone, Copy, Default)]
 pub struct FrameFound {

@@ -3,14 +3,14 @@
 use mathlib.Core.Path.{◌≡◌, ◌∙◌, sym, ap, refl}
 use mathlib.Core.Bool.{Bool, true, false}
 use mathlib.Core.List.{List}
-use Prim.Native.Nat.{ℕ, ◌+◌, ◌-◌, ◌/◌, ◌<◌, ◌≤◌}
+use Prim.Native.Nat.{ℕ, ◌+◌, ◌-◌, ◌<◌, ◌≤◌}
 use native.Mathlib.Decide.{ℕ_discrete, dec_lt}
 use native.Mathlib.Omega.{arith}
 use lib.ListN.{length, get_or}
-use Rattle.std.specs.Prelude.{Option, Some, None, Result, Ok, Err}
+use Rattle.std.specs.Prelude.{Option, Some, None}
 use Rattle.std.proofs.lemmas.Option.{none-some}
 use Rattle.base.specs.Answer.{refused, gives}
-use Rattle.base.specs.Refusals.{number_of, answer}
+use Rattle.base.specs.Refusals.{number_of}
 use Rattle.base.specs.declared.refusal.Refusal.{Refusal}
 use Rattle.base.specs.declared.refusal.Refusal.TheVariants.{Cut}
 use Rattle.base.specs.Bytes.{be16}
@@ -19,7 +19,6 @@ use Rattle.base.proofs.Ifs.{true-yes, true-no, lt_yes, lt_no, eq_yes, eq_no}
 use Rattle.reliability.specs.Kinds.{fields_of}
 use Rattle.reliability.specs.declared.KindFields.{KindFields}
 use Rattle.reliability.specs.declared.Profile.{Profile}
-use Rattle.reliability.specs.declared.Profile.TheVariants.{Console, Cpp}
 use Rattle.reliability.proofs.Laws.{Inside}
 use Rattle.frame.specs.Read.{kind_of, is_piece, number_at, channel_at, meta_at, meta_size, header_size, body_length, frame_at}
 use Rattle.frame.specs.Read.{ends_at, placed_at, read_frame_of, span_of}
@@ -27,25 +26,15 @@ use Rattle.frame.specs.declared.FragmentMeta.{FragmentMeta}
 use Rattle.frame.specs.declared.Frame.{Frame}
 use Rattle.frame.specs.declared.Placed.{Placed}
 use Rattle.frame.specs.declared.Span.{Span}
-use Rattle.frame.proofs.Reading.{start-after, header-least, row_inside, read-cut}
+use Rattle.frame.proofs.Reading.{start-after, header-least, row_inside}
 
 -- ---- a header's bytes
 module _ (p : Profile) (kind : ℕ) (piece : Bool) (k : KindFields) (e : k ≡ fields_of p kind) where
-  pub piece-size : piece ≡ true → k.header + meta_size ≡ header_size piece (fields_of p kind).header
-  piece-size t = true-yes _ _ _ _ t (rw e)
+  pub piece_size : piece ≡ true → k.header + meta_size ≡ header_size piece (fields_of p kind).header
+  piece_size t = true-yes _ _ _ _ t (rw e)
 
-  pub whole-size : piece ≡ false → k.header ≡ header_size piece (fields_of p kind).header
-  whole-size t = true-no _ _ _ _ t (rw e)
-
--- ---- a body's bytes
-module _ (p : Profile) (bits n : ℕ) where
-  pub console-length : p ≡ Console → n ≡ bits / 8 → n ≡ body_length p bits
-  unfolding body_length
-  console-length e i = i ∙ sym (ap (λ q. body_length q bits) e)
-
-  pub cpp-length : p ≡ Cpp → n ≡ (bits + 7) / 8 → n ≡ body_length p bits
-  unfolding body_length
-  cpp-length e i = i ∙ sym (ap (λ q. body_length q bits) e)
+  pub whole_size : piece ≡ false → k.header ≡ header_size piece (fields_of p kind).header
+  whole_size t = true-no _ _ _ _ t (rw e)
 
 -- ---- the span
 abbrev pub spanned : ℕ → ℕ → Span
@@ -82,6 +71,9 @@ module _ (p : Profile) (s : List ℕ) (at : ℕ) where
     pub fits : at + h + n ≤ length s → Some (spanned (at + h) (at + h + n)) ≡ span_of p s at
     unfolding span_of
     fits i = lt_no _ _ _ _ _ (omega (arith, starts, long)) (rw (starts, long))
+
+-- the four ways out of `span_at`
+pub ruleset spans = (beyond, short, cut, fits)
 
 -- ---- the frame, where its span is known
 -- what is known of a frame that fits
@@ -156,10 +148,6 @@ carried off r v lacks has = go (ℕ_discrete off 0)
     go (yes e) = eq_yes _ _ _ _ _ e (lacks e)
     go (no n) = eq_no _ _ _ _ _ n (has n)
 
--- the numbers of a frame that is no piece
-pub no-meta : (piece : Bool) (s : List ℕ) (p : ℕ) (m : FragmentMeta) → piece ≡ false → m.count ≡ 0 → m.id ≡ 0 → m.index ≡ 0 → m ≡ meta_at piece s p
-no-meta piece s p m e c i x = true-no _ _ _ _ e (λ j. record { count = c j; id = i j; index = x j })
-
 module _ (p : Profile) (s : List ℕ) (at : ℕ) (h : (placed_at p s at).start ≤ length s) (k : KindFields)
     (e : k ≡ fields_of p (kind_of (get_or s at 0))) where
   header-fits : at + header_size (is_piece (get_or s at 0)) k.header ≤ length s
@@ -211,13 +199,3 @@ module _ (p : Profile) (s : List ℕ) (at : ℕ) (h : (placed_at p s at).start �
         piece = is_piece (get_or s at 0);
         meta = em j;
       })
-
--- ---- what the code's answer says, for a caller that takes it apart by `match`
-module _ (p : Profile) (s : List ℕ) (at : ℕ) (r : Result (Placed × ℕ) Refusal) (e : answer r ≡ read_frame_of p s at) where
-  -- `Err`: no frame fits there.
-  pub told-cut : (m : Refusal) → r ≡ Err m → read_frame_of p s at ≡ refused 1
-  told-cut m i = read-cut p s at (number_of m) (sym e ∙ rw i)
-
-  -- `Ok`: the frame, and the place after it.
-  pub told-whole : (x : Placed) (next : ℕ) → r ≡ Ok (x, next) → read_frame_of p s at ≡ gives (x, next)
-  told-whole x next i = sym e ∙ rw i

@@ -17,7 +17,6 @@ use Rattle.reliability.specs.declared.Profile.{Profile}
 use Rattle.reliability.proofs.Laws.{Inside, small, inside}
 use Rattle.frame.specs.declared.Placed.{Placed}
 use Rattle.frame.specs.Read.{kind_of, is_piece, header_size, body_length, ends_at, frame_at, placed_at, body_of, read_frame_of}
-use Rattle.base.proofs.Answers.{refused-gives}
 
 -- every place of a kind's row is small
 row_small : (p : Profile) (k : ℕ) → Small (fields_of p k)
@@ -78,7 +77,7 @@ read_whole p s at x next e = go (dec_lt (length s) (ends_at (placed_at p s at)))
     given = (x, next)
 
     go : Dec (length s < ends_at (placed_at p s at)) → WholeAt p s at x next
-    go (yes h) = refused-gives 1 given (lt_yes (length s) (ends_at (placed_at p s at)) _ _ _ h refl ∙ e)
+    go (yes h) = let z : refused 1 ≡ gives given = lt_yes (length s) (ends_at (placed_at p s at)) _ _ _ h refl ∙ e in absurd cc
     go (no h) =
         let there : Placed × ℕ = (placed_at p s at, ends_at (placed_at p s at)) in
         let g : gives there ≡ gives given = lt_no (length s) (ends_at (placed_at p s at)) _ _ _ (omega arith) refl ∙ e in
@@ -104,4 +103,6 @@ read-cut p s at n e = go (dec_lt (length s) (ends_at (placed_at p s at)))
 
     go : Dec (length s < ends_at (placed_at p s at)) → read_frame_of p s at ≡ refused 1
     go (yes h) = sym (lt_yes (length s) (ends_at (placed_at p s at)) _ _ _ h refl)
-    go (no h) = refused-gives n there (sym e ∙ sym (lt_no (length s) (ends_at (placed_at p s at)) _ _ _ (omega arith) refl))
+    go (no h) =
+        let z : refused n ≡ gives there = sym e ∙ sym (lt_no (length s) (ends_at (placed_at p s at)) _ _ _ (omega arith) refl) in
+        absurd cc

@@ -11,6 +11,7 @@ pub fn read_frames(p: Profile, s: &[u8], at: usize) -> FramesRead
 {
     let mut place = at;
     let mut count = 0;
+    // A `while`: how far a turn goes is what its frame says.
     while let Some(span) = super::span_at(p, s, place) {
         place = span.next;
         count += 1;

@@ -69,6 +69,7 @@ struct Span {
 
 // ---- numbers that are known to stand in the slice, read without a test
 
+#[tactic(auto, unfolding(base::specs::Bytes::be16))]
 fn read16(s: &[u8], at: usize) -> u16
     requires { at + 2 ≤ length s.now }
     ensures { result ≡ be16 s.now at }
@@ -76,6 +77,7 @@ fn read16(s: &[u8], at: usize) -> u16
     u16::from_be_bytes([s[at], s[at + 1]])
 }
 
+#[tactic(auto, unfolding(base::specs::Bytes::be32, base::specs::Bytes::be16))]
 fn read32(s: &[u8], at: usize) -> u32
     requires { at + 4 ≤ length s.now }
     ensures { result ≡ be32 s.now at }
@@ -83,6 +85,7 @@ fn read32(s: &[u8], at: usize) -> u32
     u32::from_be_bytes([s[at], s[at + 1], s[at + 2], s[at + 3]])
 }
 
+#[tactic(auto, unfolding(base::specs::Bytes::le24))]
 fn read24(s: &[u8], at: usize) -> u32
     requires { at + 3 ≤ length s.now }
     ensures { result ≡ le24 s.now at }
@@ -93,6 +96,7 @@ fn read24(s: &[u8], at: usize) -> u32
 // ---- how far a frame reaches: flags and length alone say it
 
 // The header's bytes: those of the kind's row, and a piece's ten. (Bounds such as this say only that no sum wraps.)
+#[tactic(auto, using(crate::proofs::ReadCases::piece_size, crate::proofs::ReadCases::whole_size))]
 pub fn header_size(p: Profile, kind: u8, piece: bool) -> usize
     ensures is { result ≡ header_size piece (fields_of p kind).header }
     ensures small { result < 110 }
@@ -102,6 +106,7 @@ pub fn header_size(p: Profile, kind: u8, piece: bool) -> usize
 }
 
 // The span of the frame whose flags stand at `at`; none where it does not fit.
+#[tactic(auto, using(crate::proofs::ReadCases::spans), unfolding(crate::specs::Read::span_of))]
 fn span_at(p: Profile, s: &[u8], at: usize) -> Option<Span>
     ensures { result ≡ span_of p s.now at }
 {
@@ -120,6 +125,7 @@ fn span_at(p: Profile, s: &[u8], at: usize) -> Option<Span>
 
 // The bytes of a body whose length in bits is given.
 // `div_ceil` was tried: `read_frames` takes 8 % more time by it.
+#[tactic(auto, unfolding(crate::specs::Read::body_length))]
 fn body_len(p: Profile, bits: u16) -> usize
     ensures is { result ≡ body_length p bits }
     ensures small { result ≤ longest_body }

@@ -55,6 +55,7 @@ fn field<T: Default, F: FnOnce(usize) -> T>(off: usize, at: usize, read: F) -> T
 }
 
 // Count, id and index of a piece, from `at` on.
+#[tactic(auto, unfolding(base::specs::If::if_true))]
 fn meta_at(piece: bool, s: &[u8], at: usize) -> FragmentMeta
     requires { piece ≡ true → at + meta_size ≤ length s.now }
     ensures { result ≡ meta_at piece s.now at }

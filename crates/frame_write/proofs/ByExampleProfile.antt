@@ -51,11 +51,13 @@ unfolding if_true if_lt if_eq be16 fields_of frame_at body_length placed_at read
 console-body = (_, refl, refl, refl)
 
 cpp-left : read_frames_of Cpp here 0 ≡ record { count = 1; left = 0 }
-unfolding if_true if_lt if_eq be16 fields_of frame_at body_length placed_at read_frame_of on_read frames_from end_from frames_of end_of read_frames_of
+unfolding if_true if_lt if_eq be16 fields_of frame_at body_length placed_at read_frame_of on_read frames_from end_from frames_of end_of
+    read_frames_of
 cpp-left = refl
 
 console-left : read_frames_of Console here 0 ≡ record { count = 1; left = 1 }
-unfolding if_true if_lt if_eq be16 fields_of frame_at body_length placed_at read_frame_of on_read frames_from end_from frames_of end_of read_frames_of
+unfolding if_true if_lt if_eq be16 fields_of frame_at body_length placed_at read_frame_of on_read frames_from end_from frames_of end_of
+    read_frames_of
 console-left = refl
 
 -- ---- "It puts an order number and channel after kind 4's sequence number": reliable 1, sequence 2, order 3, channel 5, body 41
@@ -68,8 +70,8 @@ cpp-kind-4-read = (_, refl, refl, refl)
 
 cpp-kind-4-written : (frame_bytes Cpp (whole 4 1 2 3 5) (0x41 ∷ []) ≡ cpp4)
     × (write_frame_of Cpp 14 0 (whole 4 1 2 3 5) 1 ≡ gives 14)
-unfolding if_true if_lt if_eq be16_bytes le24_bytes and_then fields_of flags_of start_bytes number_bytes channel_bytes field_bytes meta_bytes
-    header_bytes frame_bytes number_ok channel_ok fields_ok meta_ok within_limits size_of by_frame_case write_frame_of
+unfolding if_true if_lt if_eq be16_bytes le24_bytes and_then fields_of flags_of start_bytes number_bytes channel_bytes field_bytes
+    meta_bytes header_bytes frame_bytes number_ok channel_ok fields_ok meta_ok within_limits size_of by_frame_case write_frame_of
 cpp-kind-4-written = (refl, refl)
 
 -- they obey the limits: channel 32 and order number 2^24 are refused
@@ -88,8 +90,8 @@ console-kind-4-read = (_, refl, refl, refl)
 
 console-kind-4-written : (frame_bytes Console (whole 4 1 2 0 0) (0x41 ∷ []) ≡ console4)
     × (write_frame_of Console 14 0 (whole 4 1 2 3 5) 1 ≡ refused 15)
-unfolding if_true if_lt if_eq be16_bytes le24_bytes and_then fields_of flags_of start_bytes number_bytes channel_bytes field_bytes meta_bytes
-    header_bytes frame_bytes number_ok channel_ok fields_ok meta_ok within_limits size_of by_frame_case write_frame_of
+unfolding if_true if_lt if_eq be16_bytes le24_bytes and_then fields_of flags_of start_bytes number_bytes channel_bytes field_bytes
+    meta_bytes header_bytes frame_bytes number_ok channel_ok fields_ok meta_ok within_limits size_of by_frame_case write_frame_of
 console-kind-4-written = (refl, refl)
 
 -- ---- "it rounds a bit length up to whole bytes"

@@ -1,6 +1,6 @@
 -- What it means that a frame is within its limits, field by field.
 -- Assumes nothing.
-use mathlib.Core.Path.{◌≡◌, ◌∙◌, sym, refl}
+use mathlib.Core.Path.{◌≡◌, ◌∙◌, refl}
 use mathlib.Core.Bool.{Bool, true, false}
 use Prim.Native.Nat.{ℕ, ◌<◌, ◌≤◌}
 use native.Mathlib.Decide.{ℕ_discrete, dec_lt}
@@ -16,19 +16,18 @@ use Rattle.frame.specs.declared.FragmentMeta.{FragmentMeta}
 use Rattle.frame.specs.declared.Frame.{Frame}
 use Rattle.frame.specs.Read.{max_kind}
 use Rattle.frame_write.specs.Valid.{number_ok, channel_ok, fields_ok, meta_ok, within_limits}
-use Rattle.base.proofs.Answers.{false-true}
 
 -- ---- a test that came out true
 true-both : (a b : Bool) → if_true a b false ≡ true → (a ≡ true) × (b ≡ true)
 unfolding if_true
 true-both true b e = (refl, e)
-true-both false b e = false-true e
+true-both false b e = cc
 
 lt_both : (m n : ℕ) (b : Bool) → if_lt m n false b ≡ true → (n ≤ m) × (b ≡ true)
 lt_both m n b e = go (dec_lt m n)
   where
     go : Dec (m < n) → (n ≤ m) × (b ≡ true)
-    go (yes h) = false-true (lt_yes m n false false b h refl ∙ e)
+    go (yes h) = let z : false ≡ true = lt_yes m n false false b h refl ∙ e in absurd cc
     go (no h) = (omega arith, lt_no m n b false b (omega arith) refl ∙ e)
 
 eq-both : (m n : ℕ) (b : Bool) → if_eq m n b false ≡ true → (m ≡ n) × (b ≡ true)
@@ -36,7 +35,7 @@ eq-both m n b e = go (ℕ_discrete m n)
   where
     go : Dec (m ≡ n) → (m ≡ n) × (b ≡ true)
     go (yes h) = (h, eq_yes m n b b false h refl ∙ e)
-    go (no h) = false-true (eq_no m n false b false h refl ∙ e)
+    go (no h) = let z : false ≡ true = eq_no m n false b false h refl ∙ e in absurd cc
 
 -- ---- fields
 -- a field below its limit, and 0 where the kind lacks it
@@ -69,12 +68,12 @@ meta-fits true m e =
     let a = lt_both _ _ _ (true-yes true _ _ _ refl refl ∙ e) in
     let b = lt_both _ _ _ a.1 in
     let c : m.index < m.count = ltb-true _ _ b.1 in
-    record { count = b.0; index = omega arith; below = λ _. c; lacks = λ z. false-true (sym z) }
+    record { count = b.0; index = omega arith; below = λ _. c; lacks = λ z. absurd cc }
 meta-fits false m e =
     let a = eq-both _ _ _ (true-no false _ _ _ refl refl ∙ e) in
     let b = eq-both _ _ _ a.1 in
     let c : m.index ≡ 0 = eqb-true _ _ b.1 in
-    record { count = omega arith; index = omega arith; below = false-true; lacks = λ _. (a.0, b.0, c) }
+    record { count = omega arith; index = omega arith; below = λ z. absurd cc; lacks = λ _. (a.0, b.0, c) }
 
 -- ---- the whole frame, with a body of n bytes
 pub record Within (p : Profile) (f : Frame) (n : ℕ) : Type 0 where

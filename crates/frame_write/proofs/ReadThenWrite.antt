@@ -22,7 +22,8 @@ use Rattle.reliability.specs.declared.Profile.{Profile}
 use Rattle.reliability.specs.declared.Profile.TheVariants.{Console, Cpp}
 use Rattle.frame.specs.declared.Frame.{Frame}
 use Rattle.frame.specs.declared.Placed.{Placed}
-use Rattle.frame.specs.Read.{kind_of, is_piece, number_at, channel_at, meta_at, header_size, frame_by, frame_at, body_length, body_of, read_frame_of}
+use Rattle.frame.specs.Read.{kind_of, is_piece, number_at, channel_at, meta_at, header_size, frame_by, frame_at, body_length, body_of}
+use Rattle.frame.specs.Read.{read_frame_of}
 use Rattle.frame_write.specs.Write.{flags_of, start_bytes, number_bytes, channel_bytes, field_bytes, meta_bytes, header_bytes, frame_bytes}
 use Rattle.frame_write.specs.Valid.{within_limits, size_of, write_frame_of, frame_written_of}
 use Rattle.frame.proofs.Reading.{read_whole, frame_is, len_is, starts-at, body-long}
@@ -100,7 +101,8 @@ module _ (p : Profile) (s : List ℕ) (by : Bytes s) (at : ℕ) where
     unfolding start_bytes frame_at
     start-again =
         let e : body_length p (be16 s (at + 1)) * 8 ≡ be16 s (at + 1) = no-remainder p (be16 s (at + 1)) eights in
-        stands-both s at (flags_of (kind_of (get_or s at 0)) (is_piece (get_or s at 0)) ∷ []) (be16_bytes (body_length p (be16 s (at + 1)) * 8))
+        stands-both s at (flags_of (kind_of (get_or s at 0)) (is_piece (get_or s at 0)) ∷ [])
+        (be16_bytes (body_length p (be16 s (at + 1)) * 8))
         (stands_one s at _ (flags-again (get_or s at 0) bits)) (rw e (be16-again s by (at + 1)))
 
     header-again : Stands s at (header_bytes p (frame_at p s at) (body_length p (be16 s (at + 1))))

@@ -22,9 +22,10 @@ use Rattle.reliability.specs.declared.KindFields.{KindFields}
 use Rattle.reliability.specs.declared.Profile.{Profile}
 use Rattle.frame.specs.declared.FragmentMeta.{FragmentMeta}
 use Rattle.frame.specs.declared.Frame.{Frame}
-use Rattle.frame.specs.Read.{max_kind}
+use Rattle.frame.specs.Read.{header_size, max_kind}
 use Rattle.frame_write.specs.Write.{flags_of, start_bytes, number_bytes, field_bytes, frame_bytes}
-use Rattle.frame_write.specs.Valid.{number_ok, channel_ok, fields_ok, meta_ok, within_limits, size_of, by_frame_case, write_frame_of, frame_written_of}
+use Rattle.frame_write.specs.Valid.{number_ok, channel_ok, fields_ok, meta_ok, within_limits, size_of, by_frame_case, write_frame_of}
+use Rattle.frame_write.specs.Valid.{frame_written_of}
 use Rattle.frame_write.proofs.Limits.{within}
 
 -- ---- the parts of a frame
@@ -85,10 +86,10 @@ module _ (piece : Bool) (m : FragmentMeta) where
       true-no _ _ _ _ t (h ∙ if-three (eqb m.count 0) (eqb m.id 0) (eqb m.index 0))
 
 -- ---- the limits
-pub fields-all : (k : KindFields) (f : Frame) (r s o c : Bool) → r ≡ number_ok k.reliable f.reliable → s ≡ number_ok k.sequence f.sequence
+pub fields_all : (k : KindFields) (f : Frame) (r s o c : Bool) → r ≡ number_ok k.reliable f.reliable → s ≡ number_ok k.sequence f.sequence
     → o ≡ number_ok k.order f.order → c ≡ channel_ok k.channel f.channel → (((r && s) && o) && c) ≡ fields_ok k f
 unfolding fields_ok
-fields-all k f r s o c er es eo ec = rw (← er, ← es, ← eo, ← ec) (if-four r s o c)
+fields_all k f r s o c er es eo ec = rw (← er, ← es, ← eo, ← ec) (if-four r s o c)
 
 le-else : (a m : ℕ) (x : Bool) → (leb a m && x) ≡ if_lt m a false x
 le-else a m x = elim (leb_tells a m) [
@@ -102,10 +103,10 @@ and-last true false c d = refl
 and-last false b c d = refl
 
 module _ (p : Profile) (f : Frame) (n : ℕ) where
-  pub limits-all : (k : KindFields) (t m : Bool) → k ≡ fields_of p f.kind → t ≡ fields_ok k f → m ≡ meta_ok f.piece f.meta
+  pub limits_all : (k : KindFields) (t m : Bool) → k ≡ fields_of p f.kind → t ≡ fields_ok k f → m ≡ meta_ok f.piece f.meta
       → (((leb f.kind max_kind && leb n max_body) && t) && m) ≡ within_limits p f n
   unfolding within_limits
-  limits-all k t m e et em =
+  limits_all k t m e et em =
       let x : Bool = if_true (fields_ok (fields_of p f.kind) f) (meta_ok f.piece f.meta) false in
       let h : (t && m) ≡ x = if-both t m ∙ rw (et, em, e) in
       and-last (leb f.kind max_kind) (leb n max_body) t m
@@ -141,14 +142,16 @@ module _ (p : Profile) (room at : ℕ) (f : Frame) (n : ℕ) (t : Bool) (i : t �
   unfolding write_frame_of
   answer-past e h = no_room p room at f n _ _ _ (sym i ∙ e) (omega arith)
 
-  pub answer-short : t ≡ true → (s : ℕ) → s ≡ size_of p f n → room - at < s → refused 12 ≡ write_frame_of p room at f n
-  unfolding write_frame_of
-  answer-short e s v h = no_room p room at f n _ _ _ (sym i ∙ e) (omega arith)
+  -- h is what the header takes
+  pub answer-short : t ≡ true → (h : ℕ) → h ≡ header_size f.piece (fields_of p f.kind).header → room - at < h + n
+      → refused 12 ≡ write_frame_of p room at f n
+  unfolding write_frame_of size_of
+  answer-short e h v k = no_room p room at f n _ _ _ (sym i ∙ e) (omega arith)
 
-  pub answer-written : t ≡ true → (s : ℕ) → s ≡ size_of p f n → at ≤ room → s ≤ room - at → gives (at + s)
-      ≡ write_frame_of p room at f n
-  unfolding write_frame_of
-  answer-written e s v g h = rw v (has_room p room at f n _ _ _ (sym i ∙ e) (omega arith))
+  pub answer-written : t ≡ true → (h : ℕ) → h ≡ header_size f.piece (fields_of p f.kind).header → at ≤ room → h + n ≤ room - at
+      → gives (at + (h + n)) ≡ write_frame_of p room at f n
+  unfolding write_frame_of size_of
+  answer-written e h v g k = rw v (has_room p room at f n _ _ _ (sym i ∙ e) (omega arith))
 
 module _ (p : Profile) (l : List ℕ) (at : ℕ) (f : Frame) (body : List ℕ) (t : Bool) (i : t ≡ within_limits p f (length body)) where
   pub output-over : t ≡ false → l ≡ frame_written_of p l at f body
@@ -159,15 +162,17 @@ module _ (p : Profile) (l : List ℕ) (at : ℕ) (f : Frame) (body : List ℕ) (
   unfolding frame_written_of
   output-past e h = no_room p (length l) at f (length body) _ _ _ (sym i ∙ e) (omega arith)
 
-  pub output-short : t ≡ true → (s : ℕ) → s ≡ size_of p f (length body) → length l - at < s → l ≡ frame_written_of p l at f body
-  unfolding frame_written_of
-  output-short e s v h = no_room p (length l) at f (length body) _ _ _ (sym i ∙ e) (omega arith)
+  pub output-short : t ≡ true → (h : ℕ) → h ≡ header_size f.piece (fields_of p f.kind).header → length l - at < h + length body
+      → l ≡ frame_written_of p l at f body
+  unfolding frame_written_of size_of
+  output-short e h v k = no_room p (length l) at f (length body) _ _ _ (sym i ∙ e) (omega arith)
 
   -- the rest of the output was lent, and came back with the frame at its start
-  pub output-written : t ≡ true → (s : ℕ) → s ≡ size_of p f (length body) → at ≤ length l → s ≤ length l - at
+  pub output-written : t ≡ true → (h : ℕ) → h ≡ header_size f.piece (fields_of p f.kind).header → at ≤ length l
+      → h + length body ≤ length l - at
       → (q : ℕ) (ys : List ℕ) → Run 0 (frame_bytes p f body) (take (length l - at) (drop at l)) q ys
       → take at l ++ (ys ++ drop (length l - at) (drop at l)) ≡ frame_written_of p l at f body
-  unfolding frame_written_of
-  output-written e s v g h q ys m =
+  unfolding frame_written_of size_of
+  output-written e h v g k q ys m =
       let r : take (length l - at) (drop at l) ≡ drop at l = take_all (length l - at) (drop at l) (simp length-drop (omega arith)) in
       rw (m.is, r) (put_back l at (frame_bytes p f body) g) ∙ has_room p (length l) at f (length body) _ _ _ (sym i ∙ e) (omega arith)

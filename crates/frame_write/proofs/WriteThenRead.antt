@@ -9,7 +9,7 @@ use native.Mathlib.Decide.{ℕ_discrete, dec_lt}
 use native.Mathlib.Omega.{arith}
 use lib.ListN.{length, get_or}
 use borrow.Author.Tests.{eq-eqb, ne_eqb}
-use Rattle.base.specs.Answer.{gives}
+use Rattle.base.specs.Answer.{refused, gives}
 use Rattle.base.specs.Bytes.{be16, le24, be16_bytes, be32_bytes, le24_bytes}
 use Rattle.base.specs.If.{if_true, if_eq}
 use Rattle.base.specs.Limits.{numbers24, max_ord_chans}
@@ -23,10 +23,10 @@ use Rattle.reliability.specs.declared.Profile.TheVariants.{Console, Cpp}
 use Rattle.frame.specs.declared.FragmentMeta.{FragmentMeta}
 use Rattle.frame.specs.declared.Frame.{Frame}
 use Rattle.frame.specs.declared.Placed.{Placed}
-use Rattle.frame.specs.Read.{kind_of, is_piece, number_at, channel_at, meta_at, header_size, frame_at, body_length, placed_at, body_of, read_frame_of}
+use Rattle.frame.specs.Read.{kind_of, is_piece, number_at, channel_at, meta_at, header_size, frame_at, body_length, placed_at, body_of}
+use Rattle.frame.specs.Read.{read_frame_of}
 use Rattle.frame_write.specs.Write.{flags_of, start_bytes, number_bytes, channel_bytes, field_bytes, meta_bytes, header_bytes, frame_bytes}
 use Rattle.frame_write.specs.Valid.{within_limits, size_of, write_frame_of, frame_written_of}
-use Rattle.base.proofs.Answers.{refused-gives}
 use Rattle.frame_write.proofs.WriteCases.{over-limit, no_room, has_room}
 use Rattle.frame_write.proofs.Limits.{Carried, MetaFits, Within, within}
 use Rattle.frame_write.proofs.Rows.{InOrder, row-in-order, number-wide, start-wide, fields-wide, header-wide, frame-wide}
@@ -196,11 +196,13 @@ pub accepted : (p : Profile) (out : List ℕ) (at : ℕ) (f : Frame) (body : Lis
 unfolding write_frame_of frame_written_of
 accepted p out at f body next e = go (within_limits p f (length body)) refl (dec_lt (length out) (at + size_of p f (length body)))
   where
-    go : (t : Bool) → within_limits p f (length body) ≡ t → Dec (length out < at + size_of p f (length body)) → Accepted p out at f body next
-    go false i r = refused-gives 15 next (over-limit p (length out) at f (length body) _ _ _ i ∙ e)
-    go true i (yes r) = refused-gives 12 next (no_room p (length out) at f (length body) _ _ _ i r ∙ e)
+    go : (t : Bool) → within_limits p f (length body) ≡ t → Dec (length out < at + size_of p f (length body))
+        → Accepted p out at f body next
+    go false i r = let z : refused 15 ≡ gives next = over-limit p (length out) at f (length body) _ _ _ i ∙ e in absurd cc
+    go true i (yes r) = let z : refused 12 ≡ gives next = no_room p (length out) at f (length body) _ _ _ i r ∙ e in absurd cc
     go true i (no r) =
-        let g : gives (at + size_of p f (length body)) ≡ gives next = has_room p (length out) at f (length body) _ _ _ i (omega arith) ∙ e in
+        let g : gives (at + size_of p f (length body)) ≡ gives next = has_room p (length out) at f (length body) _ _ _ i (omega arith)
+        ∙ e in
         record {
           limits = i;
           room = omega arith;

@@ -29,7 +29,7 @@ pub fn write_frame(
     if !within_limits(p, frame, body.len()) {
         return Err(Refusal::OverLimit);
     }
-    let size = size_of(p, frame, body.len());
+    let size = frame::header_size(p, frame.kind, frame.piece) + body.len();
     let room = out.len().checked_sub(at).ok_or(Refusal::NoRoom)?;
     if room < size {
         return Err(Refusal::NoRoom);
@@ -38,22 +38,15 @@ pub fn write_frame(
     Ok(at + size)
 }
 
-// The header and a body of n bytes.
-fn size_of(p: Profile, frame: Frame, n: usize) -> usize
-    requires { n ≤ max_body }
-    ensures is { result ≡ size_of p frame n }
-    ensures small { result < max_body + 110 }
-{
-    frame::header_size(p, frame.kind, frame.piece) + n
-}
-
 // A field is below its limit, and 0 where the kind lacks it.
+#[tactic(auto, unfolding(base::specs::If::if_eq, base::specs::If::if_true))]
 fn field_ok(off: usize, x: u32, limit: u32) -> bool
     ensures { result ≡ if_eq off 0 (eqb x 0) (ltb x limit) }
 {
     if off == 0 { x == 0 } else { x < limit }
 }
 
+#[tactic(auto, using(crate::proofs::WriteCases::fields_all), unfolding(crate::specs::Valid::number_ok, crate::specs::Valid::channel_ok))]
 fn fields_ok(k: KindFields, frame: Frame) -> bool
     ensures { result ≡ fields_ok k frame }
 {
@@ -77,6 +70,7 @@ fn meta_ok(piece: bool, meta: FragmentMeta) -> bool
     meta == FragmentMeta::default()
 }
 
+#[tactic(auto, using(crate::proofs::WriteCases::limits_all))]
 fn within_limits(p: Profile, frame: Frame, n: usize) -> bool
     ensures { result ≡ within_limits p frame n }
 {
@@ -86,6 +80,7 @@ fn within_limits(p: Profile, frame: Frame, n: usize) -> bool
         & meta_ok(frame.piece, frame.meta)
 }
 
+#[tactic(auto, unfolding(crate::specs::Write::flags_of, base::specs::If::if_true))]
 fn flags_of(kind: u8, piece: bool) -> u8
     requires { kind ≤ max_kind }
     ensures { result ≡ flags_of kind piece }
@@ -145,7 +140,7 @@ fn put_header(p: Profile, out: &mut [u8], to: usize, frame: Frame, n: u32) -> us
     put_meta(out, b, frame.piece, frame.meta)
 }
 
-// The whole frame, at the start of the output's rest.
+// The whole frame, at the start of the output's rest. (`as u32`: no body is longer than 8,191.)
 fn put_frame(p: Profile, out: &mut [u8], frame: Frame, body: &[u8]) -> usize
     requires { (frame.kind ≤ max_kind) × (length body.now ≤ max_body) }
     ensures { Run 0 (frame_bytes p frame body.now) out.old result out.new }

@@ -1,5 +1,5 @@
 -- The channels after a datagram: as many as before, each at its next and its memory.
---     channels-length, channels-at, channels-alike      what they are
+--     channels-length, channels-at                      what they are
 --     memory-in, memory-own, memory-past                the memories that a receiver with such channels has
 --     next-after, newest-after                          so it says what the receiver with cells has
 -- Assumes nothing.
@@ -35,15 +35,6 @@ module _ (next newest : ℕ → ℕ) where
   channels-at k (x ∷ l) (suc c) lt =
       let e : 1 + k + c ≡ k + suc c = omega arith in channels-at (1 + k) l c (omega arith)
       ∙ ap (λ (i : ℕ). channel_with (next i) (newest i)) e
-
-  -- they do not depend on what the channels were
-  pub channels-alike : (k : ℕ) (l m : List Channel) → length l ≡ length m → channels_after next newest k l ≡ channels_after next newest k m
-  unfolding channels_after
-  channels-alike k [] [] e = refl
-  channels-alike k [] (y ∷ m) e = absurd (omega arith)
-  channels-alike k (x ∷ l) [] e = absurd (omega arith)
-  channels-alike k (x ∷ l) (y ∷ m) e = ap (λ (cs : List Channel). channel_with (next k) (newest k) ∷ cs)
-      (channels-alike (1 + k) l m (omega arith))
 
 -- The memories of channels: the channels' own, the last one, none past it.
 module _ (cs : List Channel) (own : ℕ) where

@@ -127,7 +127,8 @@ module _ (s : Start) (cs : List Call) (bytes : AllBytes cs) where
       ≡ exceeds (feed (new s.profile) (read_by outcome s cs)).after (state_in (after_all outcome (begun s) cs)).slots fs
   room-runs-out fs = matches-room _ (state_in (after_all outcome (begun s) cs)) (handed_out outcome (begun s) cs) fed fs
 
-  in-line : line_for s.profile (read_by outcome s cs) ≡ handed_out outcome (begun s) cs ++ still_out outcome (after_all outcome (begun s) cs)
+  in-line : line_for s.profile (read_by outcome s cs)
+      ≡ handed_out outcome (begun s) cs ++ still_out outcome (after_all outcome (begun s) cs)
   unfolding line_for frames_read feed drain_in drain state_of
   in-line =
       let x = after_all outcome (begun s) cs in

@@ -15,7 +15,8 @@ use Rattle.base.proofs.Choices.{by_bool, and_left}
 use Rattle.bare.specs.Frame.{Frame, in_limits}
 use Rattle.bare.specs.Bare.{accept_reliable, seen_before}
 use Rattle.cells.specs.Cell.{Slot, open_as, is_free, all_there, clash}
-use Rattle.cells.specs.Datagram.{Work, drop_one, fill_up, place, made, rise, remember_in, accept_in, is_held, go_on, cascade, Fate, late, early}
+use Rattle.cells.specs.Datagram.{Work, drop_one, fill_up, place, made, rise, remember_in, accept_in, is_held, go_on, cascade, Fate, late}
+use Rattle.cells.specs.Datagram.{early}
 use Rattle.cells.specs.Datagram.{due, newer, free, fate_of, follows, roomy, readied, whole, joins, kept, piece, keep_in, frame, frames}
 use Rattle.bare.proofs.Tests.{bump-other}
 

@@ -1,6 +1,6 @@
 pub mod Keeps
 pub mod ChannelsAfter
-pub mod ByParts
+pub mod NextsSet
 pub mod Accepting
 pub mod FramesIn
 pub mod Unsent

@@ -27,7 +27,8 @@ use Rattle.cells.proofs.SoundTest.{sound-rest}
 use Rattle.cells.proofs.Store.{Shaped, slots-shaped, cells-slots, store_length, datagram-worked, datagram-shaped, datagram-read, take-read}
 use Rattle.receiver.specs.declared.RecvQueue.{RecvQueue}
 use Rattle.receiver.specs.declared.Channel.{Channel}
-use Rattle.receiver.specs.Queue.{new_channel, next_in, next_of, newest_of, profile_in, sound_window, sound_profile, sound_unsent, sound_queue}
+use Rattle.receiver.specs.Queue.{new_channel, next_in, next_of, newest_of, profile_in}
+use Rattle.receiver.specs.Queue.{sound_window, sound_profile, sound_unsent, sound_queue}
 use Rattle.receiver.specs.Receive.{datagram_number, frames_in, state_of, queue_after, accepted_result, sound_call}
 use Rattle.receiver.specs.Calls.{Receiver}
 use Rattle.receiver.proofs.Accepting.{all-accepted, frames-accepted}

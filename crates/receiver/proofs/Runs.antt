@@ -18,7 +18,8 @@ unfolding frames_read
 frames-append [] r = refl
 frames-append (x ∷ a) r = rw (frames-append a r) (sym (append_assoc x.frames (frames_read a) (frames_read r)))
 
-answers-append : (b : Bare) (a r : List Accepted) → bare_answers b (a ++ r) ≡ bare_answers b a ++ bare_answers (feed b (frames_read a)).after r
+answers-append : (b : Bare) (a r : List Accepted)
+    → bare_answers b (a ++ r) ≡ bare_answers b a ++ bare_answers (feed b (frames_read a)).after r
 unfolding bare_answers frames_read feed
 answers-append b [] r = refl
 answers-append b (x ∷ a) r = rw (feed-append b x.frames (frames_read a)).0

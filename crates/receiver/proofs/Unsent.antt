@@ -51,7 +51,8 @@ differ-insert n [] e f = refl
 differ-insert n (m ∷ l) e f =
     by_bool (λ (r : List ℕ). differ r ≡ true) (ltb n m)
     (λ t. and_both (not (any (eqb n) (m ∷ l))) _ (rw e) f)
-    (λ t. and_both (not (any (eqb m) (insert_unsent n l))) _ (rw (any-insert m n l other (not-false _ (and_left (not (any (eqb m) l)) _ f))))
+    (λ t. and_both (not (any (eqb m) (insert_unsent n l))) _
+    (rw (any-insert m n l other (not-false _ (and_left (not (any (eqb m) l)) _ f))))
     (differ-insert n l away (and_right (not (any (eqb m) l)) _ f)))
   where
     parts : (b c : Bool) → (b || c) ≡ false → (b ≡ false) × (c ≡ false)

@@ -1,75 +1,38 @@
--- A receiver by its parts: its own numbers and its arrays, as code has them that is lent the arrays one by one.
-use Rattle.std.specs.Prelude.{ℕ, ◌+◌, ◌*◌, Bool, cond, ◌&&◌, List, [], ◌∷◌, ltb, eqb, length, get_or, take, replicate}
-use Rattle.base.specs.Limits.{max_ord_chans, many_nexts, max_unsent}
-use Rattle.reliability.specs.declared.Profile.{Profile}
-use Rattle.reliability.specs.Profiles.{profile_of}
-use Rattle.window.specs.Window.{window_of}
+-- What step 4 goes by: a receiver's nexts, memories and profile, apart from its windows and unsent numbers.
+use Rattle.std.specs.Prelude.{ℕ, cond, ltb, eqb, set, get_or}
+use Rattle.base.specs.Limits.{max_ord_chans}
 use Rattle.receiver.specs.declared.Channel.{Channel}
-use Rattle.receiver.specs.declared.Heads.{Heads}
+use Rattle.receiver.specs.declared.Nexts.{Nexts}
 use Rattle.receiver.specs.declared.RecvQueue.{RecvQueue}
-use Rattle.receiver.specs.Queue.{new_channel}
-use Rattle.receiver.specs.Receive.{channels_after}
+use Rattle.receiver.specs.Queue.{new_channel, next_in, memories_in, profile_in}
 
 -- a channel's record at a next and a memory
 abbrev pub channel_with : ℕ → ℕ → Channel
 channel_with next newest = record { next = next; newest = newest }
 
--- What step 4 goes by, as `many_nexts` numbers: each channel's next and memory, as its record has them, then the receiver's own memory, each
--- of which is the lowest number that is not late; and the profile, which says whose memory is whose.
-unfoldable pub nexts_in : List Channel → ℕ → ℕ → List ℕ
-nexts_in [] own profile = own ∷ profile ∷ []
-nexts_in (c ∷ cs) own profile = c.next ∷ c.newest ∷ nexts_in cs own profile
+unfoldable pub nexts_of : RecvQueue → Nexts
+nexts_of q = record { channels = q.channels; newest = q.newest; profile = profile_in q }
 
-unfoldable pub nexts_of : RecvQueue → List ℕ
-nexts_of q = nexts_in q.channels q.newest q.profile
+-- each channel's next order number, and the memories: each channel's, then the receiver's own; 0 past the last
+unfoldable pub next_at : Nexts → ℕ → ℕ
+next_at n = next_in n.channels
 
--- where channel c's next and memory m stand among them
-abbrev pub next_place : ℕ → ℕ
-next_place c = 2 * c
+unfoldable pub newest_at : Nexts → ℕ → ℕ
+newest_at n m = get_or (memories_in n.channels n.newest) m 0
 
-unfoldable pub memory_place : ℕ → ℕ
-memory_place m = cond (ltb m max_ord_chans) (2 * m + 1) (2 * m)
-
--- the profile stands after the memories
-abbrev pub profile_place : ℕ
-profile_place = 65
-
--- these numbers; 0 past the last
-unfoldable pub next_at : List ℕ → ℕ → ℕ
-next_at ns c = get_or (take (2 * max_ord_chans) ns) (next_place c) 0
-
-unfoldable pub newest_at : List ℕ → ℕ → ℕ
-newest_at ns m = get_or (take many_nexts ns) (memory_place m) 0
-
-unfoldable pub profile_at : List ℕ → ℕ
-profile_at ns = get_or (take many_nexts ns) profile_place 0
-
-unfoldable pub profile_for : List ℕ → Profile
-profile_for ns = profile_of (profile_at ns)
-
--- the channels' records at these numbers
-unfoldable pub channels_of : List ℕ → List Channel
-channels_of ns = channels_after (next_at ns) (newest_at ns) 0 (replicate max_ord_chans new_channel)
-
--- a receiver's own numbers
-abbrev pub heads_of : RecvQueue → Heads
-heads_of q = record { datagrams = q.datagrams.low; reliables = q.reliables.low; pending = q.pending }
-
--- the receiver of these numbers, of the bits of the datagrams' and of the reliable numbers' window, of the nexts, memories and profile, and
--- of the unsent numbers
-unfoldable pub queue_of : Heads → List ℕ → List ℕ → List ℕ → List ℕ → RecvQueue
-queue_of h dbits rbits nexts unsent =
+-- channel c's next is v, and memory m is v; past the last nothing is set
+unfoldable pub with_next : ℕ → ℕ → Nexts → Nexts
+with_next c v n =
     record {
-      datagrams = window_of h.datagrams dbits;
-      reliables = window_of h.reliables rbits;
-      channels = channels_of nexts;
-      unsent = unsent;
-      pending = h.pending;
-      newest = newest_at nexts max_ord_chans;
-      profile = profile_at nexts;
+      channels = set n.channels c (channel_with v (get_or n.channels c new_channel).newest);
+      newest = n.newest;
+      profile = n.profile;
     }
 
--- are the arrays as long as a receiver's, of which q and its nexts and memories were made? (Those of a `RecvQueue` are, by its type.)
-unfoldable pub arrays_fit : RecvQueue → List ℕ → Bool
-arrays_fit q nexts = eqb (length q.datagrams.bits) 256 && (eqb (length q.reliables.bits) 256
-    && (eqb (length nexts) many_nexts && eqb (length q.unsent) max_unsent))
+unfoldable pub with_newest : ℕ → ℕ → Nexts → Nexts
+with_newest m v n =
+    record {
+      channels = cond (ltb m max_ord_chans) (set n.channels m (channel_with (get_or n.channels m new_channel).next v)) n.channels;
+      newest = cond (eqb m max_ord_chans) v n.newest;
+      profile = n.profile;
+    }

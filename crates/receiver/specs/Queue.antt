@@ -1,5 +1,6 @@
 -- What the receiver keeps beside the cells, and the rules on its values ("Sound"): document 01, "Calls and their numbers", 9.
-use Rattle.std.specs.Prelude.{ℕ, zero, suc, ◌+◌, Bool, true, cond, not, ◌&&◌, ◌||◌, List, [], ◌∷◌, ◌++◌, map, ltb, leb, eqb, get_or, take, replicate}
+use Rattle.std.specs.Prelude.{ℕ, zero, suc, ◌+◌, Bool, true, cond, not, ◌&&◌, ◌||◌, ltb, leb, eqb}
+use Rattle.std.specs.Prelude.{List, [], ◌∷◌, ◌++◌, map, get_or, take, replicate}
 use Rattle.base.specs.Limits.{numbers24, max_ord_chans, profiles, window_places, max_unsent}
 use Rattle.base.specs.Lists.{any, every}
 use Rattle.reliability.specs.declared.Profile.{Profile}

@@ -2,6 +2,7 @@
 
 #![tactic(auto)]
 
+use reliability::Profile;
 use window::ReliableWindow;
 
 // A channel: the order number that is made ready next; and one more than the newest sequence number made ready by kind 1, and by kind 4 in
@@ -28,13 +29,10 @@ pub struct RecvQueue {
     pub profile: u32,
 }
 
-// Among the numbers that step 4 goes by (`base::NEXTS`) the profile stands last, after the nexts and the memories.
-pub const PROFILE_PLACE: usize = 65;
-
-// A receiver's own numbers, where its arrays are lent one by one: the lows of both windows, and how many numbers are unsent.
+// What step 4 goes by: each channel's next and memory, the receiver's own memory, and the profile.
 #[derive(Clone, Copy)]
-pub struct Heads {
-    pub datagrams: u32,
-    pub reliables: u32,
-    pub pending: u32,
+pub struct Nexts {
+    pub channels: [Channel; 32],
+    pub newest: u32,
+    pub profile: Profile,
 }

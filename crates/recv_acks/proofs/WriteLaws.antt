@@ -7,10 +7,7 @@ use mathlib.Core.Logic.{◌↔◌, ◌⊎◌, inl, inr}
 use Prim.Native.Nat.{ℕ, ◌<◌, ◌≤◌}
 use native.Mathlib.Omega.{arith}
 use lib.ListN.{length}
-use Rattle.std.specs.Prelude.{Result}
 use Rattle.base.specs.Answer.{Answer, refused, gives}
-use Rattle.base.specs.declared.refusal.Refusal.{Refusal}
-use Rattle.base.specs.Refusals.{answer}
 use Rattle.base.proofs.Choices.{cases}
 use Rattle.window.specs.Missing.{missing}
 use Rattle.ack.specs.declared.Record.{Record}
@@ -22,7 +19,7 @@ use Rattle.ack.proofs.WriteLaws.{refused-writes-nothing, read-back-header, read-
 use Rattle.receiver.specs.declared.RecvQueue.{RecvQueue}
 use Rattle.receiver.specs.Queue.{unsent_of, sound_queue}
 use Rattle.receiver.specs.Write.{sorted, Wrote, write_of, emptied, write_unsent_of, write_missing_of}
-use Rattle.recv_acks.specs.Wrote.{wrote, Sendable, Output, wrote_output, output_of, writing_of, with_pending, pending_after}
+use Rattle.recv_acks.specs.Wrote.{Sendable, with_pending, pending_after}
 use Rattle.recv_acks.proofs.Sorted.{sorted-member}
 use Rattle.recv_acks.proofs.Sendable.{unsent-sendable, missing-sendable}
 use Rattle.recv_acks.proofs.WriteCases.{short-or-written, write-unsound, write-given, write-refused}
@@ -89,7 +86,7 @@ module _ (q : RecvQueue) (size room : ℕ) where
         }
 
 module _ (q after : RecvQueue) (nack : Bool) (l out : List ℕ) where
-  -- whatever holds of a refusal, with receiver and wrote_output as they were, and of a list written, holds of the call
+  -- whatever holds of a refusal, with receiver and output as they were, and of a list written, holds of the call
   write-ways : (P : Wrote → Type 0)
       → (sound_queue q ≡ false → P (record { answer = refused 9; queue = q; out = out }))
       → (sound_queue q ≡ true → (k : ℕ) → write_list_of (length out) nack l ≡ refused k
@@ -139,7 +136,7 @@ module _ (q : RecvQueue) (out : List ℕ) where
   unfolding write_unsent_of
   unsent-told = told q (emptied q) false (sorted (unsent_of q)) out (unsent-sendable q)
 
-  -- a refusal leaves receiver and wrote_output as they were
+  -- a refusal leaves receiver and output as they were
   pub unsent-refused : (k : ℕ) → (write_unsent_of q out).answer ≡ refused k → ((write_unsent_of q out).queue ≡ q)
       × ((write_unsent_of q out).out ≡ out)
   unfolding write_unsent_of
@@ -178,7 +175,7 @@ module _ (q : RecvQueue) (out : List ℕ) where
   unfolding write_missing_of
   missing-told = told q q true (missing q.datagrams) out (λ s. missing-sendable q.datagrams)
 
-  -- the receiver is as it was, and after a refusal so is the wrote_output
+  -- the receiver is as it was, and after a refusal so is the output
   pub missing-keeps : (write_missing_of q out).queue ≡ q
   unfolding write_missing_of
   missing-keeps = write-ways q q true (missing q.datagrams) out (λ (r : Wrote). r.queue ≡ q) (λ s. refl) (λ s k e. refl) (λ s n e. refl)
@@ -191,23 +188,3 @@ module _ (q : RecvQueue) (out : List ℕ) where
   pub missing-reads : (n : ℕ) → (write_missing_of q out).answer ≡ gives n → Reads true (missing q.datagrams) (write_missing_of q out).out
   unfolding write_missing_of
   missing-reads n e = (given-after q q true (missing q.datagrams) out n e).1
-
--- ---- a call by its answer and wrote_output, and by the receiver that it leaves
-module _ (r : Result ℕ Refusal) (l : List ℕ) (q : RecvQueue) (out : List ℕ) where
-  whole : (x : RecvQueue) (w : Wrote) → wrote_output r l ≡ output_of w → w.queue ≡ x → wrote r x l ≡ w
-  unfolding wrote_output output_of
-  whole x w e f =
-      let a : answer r ≡ w.answer = ap (λ (y : Output). y.answer) e in
-      let o : l ≡ w.out = ap (λ (y : Output). y.out) e in
-      rw (a, o, ← f)
-
-  pub missing-said : wrote_output r l ≡ output_of (writing_of true q out) → wrote r q l ≡ write_missing_of q out
-  unfolding writing_of
-  missing-said e = whole q (write_missing_of q out) e (missing-keeps q out)
-
-  pub unsent-said : wrote_output r l ≡ output_of (writing_of false q out) → wrote r (with_pending q (pending_after (answer r) q.pending))
-      l ≡ write_unsent_of q out
-  unfolding writing_of wrote_output output_of
-  unsent-said e =
-      let a : answer r ≡ (write_unsent_of q out).answer = ap (λ (y : Output). y.answer) e in
-      whole _ (write_unsent_of q out) e (unsent-count q out ∙ rw a)

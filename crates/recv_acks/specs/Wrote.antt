@@ -1,5 +1,5 @@
 -- What the two writings answer and leave.
-use Rattle.std.specs.Prelude.{ℕ, ◌≤◌, ◌≡◌, Bool, true, false, cond, List, length, Result}
+use Rattle.std.specs.Prelude.{ℕ, ◌≤◌, ◌≡◌, true, false, List, length, Result}
 use Rattle.base.specs.Answer.{Answer, refused, gives}
 use Rattle.base.specs.declared.refusal.Refusal.{Refusal}
 use Rattle.base.specs.Refusals.{answer}
@@ -8,7 +8,7 @@ use Rattle.ack.specs.Write.{some_over, ascending}
 use Rattle.receiver.specs.declared.RecvQueue.{RecvQueue}
 use Rattle.receiver.specs.Write as Write
 
--- the answer, and what the call leaves of receiver and wrote_output
+-- the answer, and what the call leaves of receiver and output
 abbrev pub wrote : Result ℕ Refusal → RecvQueue → List ℕ → Write.Wrote
 wrote r q out = record { answer = answer r; queue = q; out = out }
 
@@ -17,23 +17,6 @@ pub record Sendable (l : List ℕ) : Type 0 where
   pub within : length l ≤ max_list
   pub below : some_over l ≡ false
   pub ordered : ascending l ≡ true
-
--- ---- the writings that only read the receiver
-
--- answer and wrote_output, without the receiver
-pub record Output : Type 0 where
-  pub answer : Answer ℕ
-  pub out : List ℕ
-
-unfoldable pub wrote_output : Result ℕ Refusal → List ℕ → Output
-wrote_output r out = record { answer = answer r; out = out }
-
-unfoldable pub output_of : Write.Wrote → Output
-output_of w = record { answer = w.answer; out = w.out }
-
--- the missing as NACK where so, else the unsent as ACK
-unfoldable pub writing_of : Bool → RecvQueue → List ℕ → Write.Wrote
-writing_of nack q out = cond nack (Write.write_missing_of q out) (Write.write_unsent_of q out)
 
 -- the receiver with another count of unsent numbers
 abbrev pub with_pending : RecvQueue → ℕ → RecvQueue

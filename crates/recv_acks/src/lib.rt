@@ -2,20 +2,23 @@
 
 #![tactic(auto)]
 
-ghost use Rattle.std.specs.Prelude.{◌≡◌};
-ghost use Rattle.receiver.specs.Write.{write_unsent_of, write_missing_of};
-ghost use Rattle.recv_acks.specs.Wrote.{wrote, wrote_output, output_of, writing_of};
+ghost use Rattle.std.specs.Prelude.{◌≡◌, true, false, ◌≤◌, length};
+ghost use Rattle.base.specs.Limits.{max_unsent};
+ghost use Rattle.base.specs.Refusals.{answer};
+ghost use Rattle.ack.specs.Write.{ascending, write_list_of, written_of};
+ghost use Rattle.receiver.specs.Write.{sorted, write_unsent_of, write_missing_of};
+ghost use Rattle.recv_acks.specs.Wrote.{wrote};
 
 use base::Refusal;
-use receiver::{Heads, RecvQueue};
+use receiver::RecvQueue;
 
-mod write;
-
-// The unsent as ACK. "Sending the unsent empties them."
+// The unsent as ACK. "Sending the unsent empties them." (`as usize`, here and below: u32 has no From to it.)
+#[tactic(auto, using(crate::proofs::WriteCases::pending_few, crate::proofs::WriteCases::unsent_rising))]
 pub fn write_unsent(queue: &mut RecvQueue, out: &mut [u8]) -> Result<usize, Refusal>
     ensures { wrote result queue.new out.new ≡ write_unsent_of queue.old out.old }
 {
-    let len = write_list(queue, false, out)?;
+    let ascending = sound_queue::sound_queue(queue)?;
+    let len = write_numbers(out, &queue.unsent[..queue.pending as usize], ascending)?;
     queue.pending = 0;
     Ok(len)
 }
@@ -24,26 +27,37 @@ pub fn write_unsent(queue: &mut RecvQueue, out: &mut [u8]) -> Result<usize, Refu
 pub fn write_missing(queue: &RecvQueue, out: &mut [u8]) -> Result<usize, Refusal>
     ensures { wrote result queue.now out.new ≡ write_missing_of queue.now out.old }
 {
-    write_list(queue, true, out)
+    sound_queue::sound_queue(queue)?;
+    let mut list = [0u32; base::MAX_LIST];
+    let m = queue.datagrams.missing(&mut list);
+    ack::write_list(out, true, &list[..m])
 }
 
-// Either list. The receiver is only read.
-fn write_list(queue: &RecvQueue, nack: bool, out: &mut [u8]) -> Result<usize, Refusal>
-    ensures { wrote_output result out.new ≡ output_of (writing_of nack queue.now out.old) }
+// Numbers as ACK: straight from their place where they ascend, as those that receive keeps do.
+#[tactic(auto, using(crate::proofs::Sorted::sorted_same))]
+fn write_numbers(out: &mut [u8], numbers: &[u32], rising: bool) -> Result<usize, Refusal>
+    requires few { length numbers.now ≤ max_unsent }
+    requires rising { rising ≡ ascending numbers.now }
+    ensures result_value { answer result ≡ write_list_of (length out.old) false (sorted numbers.now) }
+    ensures out_after { out.new ≡ written_of out.old false (sorted numbers.now) }
 {
-    let nexts = recv_channel::nexts_of(queue);
-    let h = Heads {
-        datagrams: queue.datagrams.low,
-        reliables: queue.reliables.low,
-        pending: queue.pending,
-    };
-    write::list_written(
-        h,
-        &queue.datagrams.bits,
-        &queue.reliables.bits,
-        &nexts,
-        &queue.unsent,
-        nack,
-        out,
-    )
+    if rising {
+        ack::write_list(out, false, numbers)
+    } else {
+        write_sorted(out, numbers)
+    }
+}
+
+// The numbers, sorted in a copy, as ACK. The array is made here alone, so that a call which needs no copy makes none.
+#[inline(never)]
+fn write_sorted(out: &mut [u8], numbers: &[u32]) -> Result<usize, Refusal>
+    requires { length numbers.now ≤ max_unsent }
+    ensures result_value { answer result ≡ write_list_of (length out.old) false (sorted numbers.now) }
+    ensures out_after { out.new ≡ written_of out.old false (sorted numbers.now) }
+{
+    let mut copy = [0u32; base::MAX_UNSENT as usize];
+    let list = &mut copy[..numbers.len()];
+    list.copy_from_slice(numbers);
+    list.sort_unstable();
+    ack::write_list(out, false, list)
 }

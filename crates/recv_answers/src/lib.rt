@@ -14,6 +14,7 @@ use base::Refusal;
 use recv_steps::Received;
 use recv_take::Taken;
 
+// C lays these structs out: a number, 0 or the refusal's, and a flag stand beside the values, in place of a `Result` and an enum.
 #[repr(C)]
 #[derive(Clone, Copy, Default)]
 pub struct QueueReceived {
@@ -103,7 +104,7 @@ impl From<Result<Taken, Refusal>> for QueueTaken {
     }
 }
 
-// What make new answers, which gives no values.
+// What make new answers, which gives no values: for C, a number alone.
 pub fn new_number(made: Result<(), Refusal>) -> u32
     ensures { result ≡ number_of (answer made) }
 {

@@ -1,11 +1,11 @@
 -- What a receiver is once its channels' records are advanced. Document 01: "For kinds 3 and 7 the channel's next then rises by one, and a
 -- held message of that number follows in the same way"; request 1: "each channel remembers ..". The numbers to which they are moved are
 -- those of the definition of receive.
-use Rattle.std.specs.Prelude.{ℕ, zero, suc, List, set}
-use Rattle.base.specs.Limits.{max_ord_chans}
+use Rattle.std.specs.Prelude.{ℕ, List, set}
 use Rattle.receiver.specs.declared.Channel.{Channel}
+use Rattle.receiver.specs.declared.Nexts.{Nexts}
 use Rattle.receiver.specs.declared.RecvQueue.{RecvQueue}
-use Rattle.receiver.specs.Parts.{channel_with, next_at, newest_at}
+use Rattle.receiver.specs.Parts.{channel_with}
 
 -- the receiver with other channels, and another memory of its own
 abbrev pub with_channels : RecvQueue → List Channel → ℕ → RecvQueue
@@ -24,11 +24,6 @@ with_channels q cs newest =
 unfoldable pub advanced_to : RecvQueue → ℕ → ℕ → ℕ → RecvQueue
 advanced_to q c n m = with_channels q (set q.channels c (channel_with n m)) q.newest
 
--- the first k channels, each at its numbers
-unfoldable pub first_at : ℕ → List Channel → List ℕ → List Channel
-first_at zero cs ns = cs
-first_at (suc k) cs ns = set (first_at k cs ns) k (channel_with (next_at ns k) (newest_at ns k))
-
 -- each channel's record is moved to its numbers, and the receiver's own memory to the last
-unfoldable pub advanced_all : RecvQueue → List ℕ → RecvQueue
-advanced_all q ns = with_channels q (first_at 32 q.channels ns) (newest_at ns max_ord_chans)
+unfoldable pub advanced_all : RecvQueue → Nexts → RecvQueue
+advanced_all q n = with_channels q n.channels n.newest

@@ -1,5 +1,5 @@
 // A channel's record, advanced in place. Document 01: "thin function on a channel record lent by &mut: next order number moved past ready
-// messages, after the by-value core". Receive works on the nexts and memories as numbers (`nexts_of`); the records are then moved to those
+// messages, after the by-value core". Receive works on a copy of the nexts and memories (`nexts_of`); the records are then moved to those
 // that it comes to.
 
 #![tactic(auto)]
@@ -8,24 +8,17 @@ ghost use Rattle.std.specs.Prelude.{◌≡◌};
 ghost use Rattle.receiver.specs.Parts.{channel_with, nexts_of};
 ghost use Rattle.recv_channel.specs.Advance.{advanced_all};
 
-use receiver::{Channel, RecvQueue};
+use receiver::{Channel, Nexts, RecvQueue};
 
-// The receiver's own memory stands after the channels' nexts and memories.
-const OWN_MEMORY: usize = 2 * base::MAX_ORD_CHANS as usize;
-
-// Each channel's next and memory, as its record has them, then the receiver's own memory and its profile.
-#[tactic(auto, using(crate::proofs::Laws::filled_all), unfolding(receiver::specs::Parts::nexts_of))]
-pub fn nexts_of(queue: &RecvQueue) -> [u32; base::NEXTS]
+#[tactic(auto, unfolding(receiver::specs::Parts::nexts_of, receiver::specs::Queue::profile_in))]
+pub fn nexts_of(queue: &RecvQueue) -> Nexts
     ensures { result ≡ nexts_of queue.now }
 {
-    let mut nexts = [0u32; base::NEXTS];
-    for (i, channel) in queue.channels.iter().enumerate() {
-        nexts[2 * i] = channel.next;
-        nexts[2 * i + 1] = channel.newest;
+    Nexts {
+        channels: queue.channels,
+        newest: queue.newest,
+        profile: reliability::profile_of(queue.profile),
     }
-    nexts[OWN_MEMORY] = queue.newest;
-    nexts[receiver::PROFILE_PLACE] = queue.profile;
-    nexts
 }
 
 // "A channel's record is advanced in place": the record is lent, and its next is moved past the ready messages, its memory to the newest.
@@ -44,14 +37,21 @@ fn advanced(mut channel: Channel, next: u32, newest: u32) -> Channel
     channel
 }
 
-// Every record of the receiver, and its own memory; what has no number goes to 0. It keeps its profile.
-#[tactic(auto, using(crate::proofs::Laws::first_more, crate::proofs::Laws::first_all), unfolding(crate::specs::Advance::first_at))]
-pub fn advance_all(queue: &mut RecvQueue, nexts: &[u32])
+// Every record is moved to the numbers of the one at its place.
+#[tactic(auto, using(crate::proofs::Laws::one_more))]
+fn advance_each(channels: &mut [Channel; 32], numbers: &[Channel; 32])
+    ensures { channels.new ≡ numbers.now }
+{
+    for (c, channel) in channels.iter_mut().enumerate() {
+        advance(channel, numbers[c].next, numbers[c].newest);
+    }
+}
+
+// Every record of the receiver, and its own memory. It keeps its profile.
+#[tactic(auto, unfolding(crate::specs::Advance::advanced_all))]
+pub fn advance_all(queue: &mut RecvQueue, nexts: &Nexts)
     ensures { queue.new ≡ advanced_all queue.old nexts.now }
 {
-    let number = |i: usize| nexts.get(i).copied().unwrap_or(0);
-    for (c, channel) in queue.channels.iter_mut().enumerate() {
-        advance(channel, number(2 * c), number(2 * c + 1));
-    }
-    queue.newest = number(OWN_MEMORY);
+    advance_each(&mut queue.channels, &nexts.channels);
+    queue.newest = nexts.newest;
 }

@@ -1,2 +1,1 @@
-pub mod CoveredCases
 pub mod Settles

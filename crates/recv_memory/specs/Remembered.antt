@@ -1,9 +1,10 @@
 -- A sequence number remembered: request 1, "each channel remembers the highest sequence number it made ready by kind 1".
-use Rattle.std.specs.Prelude.{ℕ, ◌+◌, List, set}
+use Rattle.std.specs.Prelude.{ℕ, ◌+◌}
 use Rattle.base.specs.If.{if_lt}
 use Rattle.base.specs.Limits.{numbers24}
-use Rattle.receiver.specs.Parts.{memory_place}
+use Rattle.receiver.specs.declared.Nexts.{Nexts}
+use Rattle.receiver.specs.Parts.{with_newest}
 
--- memory m of these nexts and memories is the number n; one of 2^24 or more is no sequence number
-unfoldable pub remembered : ℕ → ℕ → List ℕ → List ℕ
-remembered m n ns = if_lt n numbers24 (set ns (memory_place m) (n + 1)) ns
+-- memory m is the number s; one of 2^24 or more is no sequence number
+unfoldable pub remembered : ℕ → ℕ → Nexts → Nexts
+remembered m s n = if_lt s numbers24 (with_newest m (s + 1) n) n

@@ -3,7 +3,7 @@
 use Prim.Native.Nat.{ℕ, suc, ◌*◌, ◌≤◌}
 use mathlib.Core.Path.{◌≡◌, refl, sym, ◌∙◌, ap}
 use mathlib.Core.Bool.{Bool, true, false}
-use mathlib.Core.List.{List, [], ◌∷◌, ◌++◌, map, append_assoc}
+use mathlib.Core.List.{List, [], ◌∷◌, ◌++◌, map, map-append, append_assoc}
 use native.Mathlib.Nat.{suc-mul}
 use native.Mathlib.Omega.{arith}
 use lib.Dec.{eqb}
@@ -14,7 +14,6 @@ use Rattle.base.specs.Lists.{every, count_of}
 use Rattle.base.proofs.Choices.{cases, and_left, and_right}
 use Rattle.base.proofs.Lists.{every-mem}
 use Rattle.base.proofs.Counts.{count_map}
-use Rattle.rows.proofs.ListMaps.{map-append}
 use Rattle.bare.specs.Frame.{Frame}
 use Rattle.cells.specs.Cell.{Cell, Slot, is_free, is_ready, mark, empty_slot, change, map_if}
 use Rattle.cells.specs.Datagram.{Work, place, frame, frames, is_first, is_before, rank, renumber, sweep, State, with_slots, begin, datagram}
@@ -98,8 +97,8 @@ unfolding datagram begin renumber map_if
 datagram-many s fs = frames-many fs (begin s) ∙ length-map s.slots (change is_ready (λ x. mark 3 (rank s.slots x.cell.turn) x))
 
 module _ (t : List Slot) (unused : every is_free t ≡ true) where
-  change-beside : (p : Slot → Bool) (g : Slot → Slot) → ((s : Slot) → is_free s ≡ true → p s ≡ false) → (l : List Slot) → map_if p g (l ++ t)
-      ≡ map_if p g l ++ t
+  change-beside : (p : Slot → Bool) (g : Slot → Slot) → ((s : Slot) → is_free s ≡ true → p s ≡ false) → (l : List Slot)
+      → map_if p g (l ++ t) ≡ map_if p g l ++ t
   unfolding map_if change
   change-beside p g blind l = map-append (change p g) l t
       ∙ ap (λ (r : List Slot). map (change p g) l ++ r) (map-fixed (change p g) t (λ s m. rw (blind s (every-mem is_free t unused s m))))

@@ -48,9 +48,12 @@ module _ (q : RecvQueue) (rs : List Cell) (st d : List ℕ) (k : ℕ)
       ≡ beside (drop k rs) (receive_first q (length rs) (take k rs) st d)
   receive_fit t =
       let long = length-take-le k rs few in
-      let some : (1 ≤ k) × (last_used rs ≤ k) × (k ≤ length rs) × (k < length rs → last_used rs + length (frames_of (profile_in q) d min_datagram) < k) =
+      let some : (1 ≤ k) × (last_used rs ≤ k) × (k ≤ length rs)
+      × (k < length rs → last_used rs + length (frames_of (profile_in q) d min_datagram) < k)
+      =
       receive-some (profile_in q) (last_used rs) (length rs) (length st) d k is t (last_within rs) in
-      let room : (drop k rs ≡ [] → ⊥) → length (frames_of (profile_in q) d min_datagram) ≤ count_of is_unused (take k rs) = λ more. cases (ltb k (length rs))
+      let room : (drop k rs ≡ [] → ⊥) → length (frames_of (profile_in q) d min_datagram) ≤ count_of is_unused (take k rs)
+      = λ more. cases (ltb k (length rs))
       (λ s. let l : last_used rs + length (frames_of (profile_in q) d min_datagram) < k = some.3 (ltb-true k (length rs) s) in
       omega (arith, unused-count rs k few))
       (λ s. absurd (more (let e : k ≡ length rs = omega (arith, ltb-false k (length rs) s, few) in ap (λ (n : ℕ). drop n rs) e
@@ -65,7 +68,8 @@ module _ (q : RecvQueue) (rs : List Cell) (st d : List ℕ) (k : ℕ)
   unfolding receive_first beside refused_result
   receive-none t =
       let e : refused_result q (take k rs) st 9 ≡ receive_first q (length rs) (take k rs) st d = true-no _ _ _ _ t refl in
-      receive-unfit q rs st d t ∙ ap (λ (cs : List Cell). refused_result q cs st 9) (sym (take-append-drop k rs)) ∙ ap (beside (drop k rs)) e
+      receive-unfit q rs st d t ∙ ap (λ (cs : List Cell). refused_result q cs st 9) (sym (take-append-drop k rs))
+      ∙ ap (beside (drop k rs)) e
 
   -- A receive is that over the first k records, with the others beside them.
   pub receive-enough : receive_of q rs st d ≡ beside (drop k rs) (receive_first q (length rs) (take k rs) st d)
@@ -77,7 +81,8 @@ module _ (q : RecvQueue) (rs : List Cell) (st buffer : List ℕ) (k : ℕ) (is :
   take-fit : lengths (length rs) (length st) ≡ true → take_of q rs st buffer ≡ beside_taken (drop k rs)
       (take_first q (length rs) (take k rs) st buffer)
   take-fit t =
-      let some : (1 ≤ k) × (last_used rs ≤ k) × (k ≤ length rs) = take-some (last_used rs) (length rs) (length st) k is t (last_within rs) in
+      let some : (1 ≤ k) × (last_used rs ≤ k) × (k ≤ length rs) =
+      take-some (last_used rs) (length rs) (length st) k is t (last_within rs) in
       let long = length-take-le k rs some.2 in
       split (λ cs. take_of q cs st buffer) (λ n. beside_taken (drop k rs) (take_first q n (take k rs) st buffer)) rs k some.2
       (take-first q (take k rs) (drop k rs) st buffer (rest-unused rs k some.1) (omega (arith, some.0)))

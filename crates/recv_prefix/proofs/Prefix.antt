@@ -3,7 +3,7 @@
 use Prim.Native.Nat.{ℕ, zero, suc, ◌≤◌}
 use mathlib.Core.Path.{◌≡◌, refl, ◌∙◌, ap}
 use mathlib.Core.Bool.{Bool, true, false, cond, ◌||◌, false≢true}
-use mathlib.Core.List.{List, [], ◌∷◌, ◌++◌, map, Memᴰ}
+use mathlib.Core.List.{List, [], ◌∷◌, ◌++◌, map, map-append, Memᴰ}
 use native.Mathlib.Omega.{arith}
 use lib.ListN.{length, length-append}
 use borrow.Author.Tests.{eqb-true}
@@ -11,12 +11,14 @@ use Rattle.base.specs.Lists.{any, every, count_of, below}
 use Rattle.base.proofs.Choices.{by_bool, cases, same_cond}
 use Rattle.base.proofs.Lists.{every-mem}
 use Rattle.base.proofs.Counts.{count_none, count-length}
-use Rattle.rows.proofs.ListMaps.{any_append, map-append}
+use Rattle.rows.proofs.ListMaps.{any_append}
 use Rattle.bare.specs.Frame.{Frame, in_limits}
 use Rattle.bare.specs.Bare.{seen_before}
-use Rattle.cells.specs.Cell.{Slot, Key, open_as, held_as, of, sits, is_free, all_there, clash, mark, change, map_if, turn_to, put_slot, slot_of}
-use Rattle.cells.specs.Datagram.{Work, drop_one, fill_up, place, made, rise, remember_in, accept_in, is_held, go_on, cascade, follows, Fate, late}
-use Rattle.cells.specs.Datagram.{early, due, newer, free, fate, fate_of, roomy, readied, whole, joins, kept, piece, keep_in, frame, frames}
+use Rattle.cells.specs.Cell.{Slot, Key, open_as, held_as, of, sits, is_free, all_there, clash, mark, change, map_if, turn_to}
+use Rattle.cells.specs.Cell.{put_slot, slot_of}
+use Rattle.cells.specs.Datagram.{Work, drop_one, fill_up, place, made, rise, remember_in, accept_in, is_held, go_on, cascade, follows}
+use Rattle.cells.specs.Datagram.{Fate, late, early, due, newer, free, fate, fate_of, roomy, readied, whole, joins}
+use Rattle.cells.specs.Datagram.{kept, piece, keep_in, frame, frames}
 use Rattle.cells.proofs.PutSlot.{free-put}
 use Rattle.cells.proofs.Keys.{of-free, sits-free}
 use Rattle.cells.proofs.FrameSlot.{slot-free}

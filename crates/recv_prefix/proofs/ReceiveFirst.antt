@@ -82,7 +82,8 @@ module _ (q : RecvQueue) (first rest : List Cell) (a b d : List ℕ) (unused : e
     work-more : datagram (state_of q (first ++ rest) (a ++ b)) (frames_in (profile_in q) d) ≡ place (work.state.slots ++ others) work
     unfolding state_of frames_in work
     work-more =
-        ap (λ (l : List Slot). datagram (with_slots l (state_of q first a)) (frames_in (profile_in q) d)) (slots-append first rest a b short exact)
+        ap (λ (l : List Slot). datagram (with_slots l (state_of q first a)) (frames_in (profile_in q) d))
+        (slots-append first rest a b short exact)
         ∙ datagram-beside others others-free (state_of q first a) (frames_in (profile_in q) d)
         (rw (slots-count first a, length-map (frames_of (profile_in q) d min_datagram) (frame_in d)) room)
 
@@ -103,7 +104,8 @@ module _ (q : RecvQueue) (first rest : List Cell) (a b d : List ℕ) (unused : e
     unfolding place
     full-more w e = ap (λ (z : Work). z.full) e
 
-  receive-more : sound_call q (first ++ rest) (a ++ b) ≡ sound_call q first a → length (frames_of (profile_in q) d min_datagram) ≤ count_of is_unused first
+  receive-more : sound_call q (first ++ rest) (a ++ b) ≡ sound_call q first a
+      → length (frames_of (profile_in q) d min_datagram) ≤ count_of is_unused first
       → More (receive_of q (first ++ rest) (a ++ b) d) (receive_of q first a d)
   unfolding receive_of work
   receive-more same room =
@@ -114,7 +116,8 @@ module _ (q : RecvQueue) (first rest : List Cell) (a b d : List ℕ) (unused : e
       (λ i. same_true More _ _ refl (λ o. refused-more 4)
       (λ o. same-lt More window_places (distance q.datagrams.low (datagram_number d)) (refused-more 5)
       (same-le More max_unsent q.pending (refused-more 6)
-      (same-option More (accept_all q.reliables (frames_in (profile_in q) d)) (accept_all q.reliables (frames_in (profile_in q) d)) refl (λ e. refused-more 7)
+      (same-option More (accept_all q.reliables (frames_in (profile_in q) d)) (accept_all q.reliables (frames_in (profile_in q) d)) refl
+      (λ e. refused-more 7)
       (λ v e. let short = bodies-short q first a (sym same ∙ s) in
       same_true More _ _ (full-more short room _ (work-more short room)) (λ f. refused-more 8)
       (λ f. ap (accepted_result q (a ++ b) d v) (work-more short room) ∙ accepted-more short room v))))))
@@ -161,8 +164,8 @@ module _ (q : RecvQueue) (first rest : List Cell) (st d : List ℕ) (unused : ev
       ∙ receive-more q first rest part others-bytes d unused exact (ap (sound_call q (first ++ rest)) whole ∙ sound-first q first rest st
       unused some fit) room
 
-  receive-fitting : ((rest ≡ [] → ⊥) → length (frames_of (profile_in q) d min_datagram) ≤ count_of is_unused first) → receive_of q (first ++ rest) st d
-      ≡ beside rest (with_rest others-bytes (receive_of q first part d))
+  receive-fitting : ((rest ≡ [] → ⊥) → length (frames_of (profile_in q) d min_datagram) ≤ count_of is_unused first)
+      → receive_of q (first ++ rest) st d ≡ beside rest (with_rest others-bytes (receive_of q first part d))
   receive-fitting room = by-rest rest refl
     where
       by-rest : (l : List Cell) → rest ≡ l → receive_of q (first ++ rest) st d

@@ -61,7 +61,8 @@ module _ (first rest : List Cell) (st : List ℕ) (fit : lengths (length first +
   -- the store is one cell for each record
   pub store_long : length st ≡ cell_bytes * (length first + length rest)
   unfolding lengths
-  store_long = eqb-true _ _ (and_right (leb (length first + length rest) max_cells) _ (and_right (leb 1 (length first + length rest)) _ fit))
+  store_long = eqb-true _ _ (and_right (leb (length first + length rest) max_cells) _
+      (and_right (leb 1 (length first + length rest)) _ fit))
 
   few : length first + length rest ≤ max_cells
   unfolding lengths

@@ -4,7 +4,7 @@ use Prim.Native.Nat.{ℕ, zero, suc, ◌+◌, ◌*◌, ◌≤◌}
 use mathlib.Core.Path.{◌≡◌, refl, sym, ◌∙◌, ap}
 use mathlib.Core.Bool.{Bool, true, false, cond, ◌||◌, false≢true}
 use mathlib.Core.Option.{none, some}
-use mathlib.Core.List.{List, [], ◌∷◌, ◌++◌}
+use mathlib.Core.List.{List, [], ◌∷◌, ◌++◌, map-append}
 use native.Mathlib.Omega.{arith}
 use lib.Dec.{eqb}
 use lib.ListN.{length, take, drop, length-append, take-append-drop}
@@ -15,7 +15,6 @@ use Rattle.base.specs.Lists.{find, any, every}
 use Rattle.base.proofs.Choices.{cases, same_cond, same-option, and_left, and_right, or_left, or_right}
 use Rattle.base.proofs.Lists.{find-some, any-mem}
 use Rattle.base.proofs.Ifs.{true-yes, true-no, le_yes}
-use Rattle.rows.proofs.ListMaps.{map-append}
 use Rattle.bare.specs.Frame.{Message}
 use Rattle.cells.specs.Cell.{Cell, Slot, Key, ready_as, bears, at, sits, is_free, is_ready, join, message_of, message_at, empty_cell, freed}
 use Rattle.cells.specs.Records.{index_of, change_cells}

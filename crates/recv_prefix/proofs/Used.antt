@@ -5,12 +5,10 @@ use Prim.Native.Nat.{ℕ, zero, suc, ◌+◌, ◌<◌, ◌≤◌}
 use native.Mathlib.Nat.{eq-or-lt_of_le}
 use native.Mathlib.Omega.{arith}
 use mathlib.Core.Logic.{◌⊎◌, inl, inr}
-use mathlib.Core.Bool.{Bool, true, false, cond, not}
+use mathlib.Core.Bool.{Bool, true, cond}
 use mathlib.Core.List.{List, [], ◌∷◌}
-use lib.Dec.{T, ltb, eqb}
 use lib.ListN.{length, get_or, take, drop, length-drop}
 use lib.Seq.{get_or-drop, get_or-take, length-take-le}
-use borrow.Author.Tests.{ltb-false, eq-eqb, eqb-true}
 use Rattle.base.specs.Lists.{every, count_of}
 use Rattle.base.proofs.Choices.{by_bool, cases, and_left, and_right, and_both}
 use Rattle.cells.specs.Cell.{Cell}
@@ -18,31 +16,9 @@ use Rattle.row_slots.specs.First.{blank}
 use Rattle.recv_prefix.specs.First.{is_unused}
 use Rattle.recv_prefix.specs.Needs.{used_in, last_used}
 
--- ---- the loop's turns
-
-pub test-fails : (u : ℕ) → T (not (ltb 0 u)) → u ≤ 0
-test-fails u h = cases (ltb 0 u) (λ t. absurd (subst (λ (b : Bool). T (not b)) t h)) (λ t. ltb-false 0 u t)
-
-used-test : (u : ℕ) → 0 < u → eqb u 0 ≡ false
-used-test u l = cases (eqb u 0) (λ t. absurd (let e : u ≡ 0 = eqb-true u 0 t in omega arith)) (λ t. t)
-
-pub used_all : (rs : List Cell) → used_in rs (length rs) ≡ last_used rs
-unfolding last_used
-used_all rs = refl
-
 pub used-none : (rs : List Cell) → used_in rs 0 ≡ 0
 unfolding used_in
 used-none rs = refl
-
--- record n is used
-pub used-found : (rs : List Cell) (n : ℕ) → 0 < (get_or rs n blank).used → used_in rs (suc n) ≡ suc n
-unfolding used_in is_unused
-used-found rs n l = rw (used-test (get_or rs n blank).used l)
-
--- record n is unused
-pub used-less : (rs : List Cell) (n : ℕ) → (get_or rs n blank).used ≤ 0 → used_in rs (suc n) ≡ used_in rs n
-unfolding used_in is_unused
-used-less rs n l = let e : eqb (get_or rs n blank).used 0 ≡ true = eq-eqb (get_or rs n blank).used 0 (omega arith) in rw e
 
 -- ---- what is past the last used one
 
@@ -63,8 +39,8 @@ past-used rs (suc n) i l m = cases (is_unused (get_or rs n blank))
     (λ t. by t (λ j. past-used rs n i (subst (λ (b : Bool). cond b (used_in rs n) (suc n) ≤ i) t l) j) (eq-or-lt_of_le (omega arith)))
     (λ t. absurd (let k : suc n ≤ i = subst (λ (b : Bool). cond b (used_in rs n) (suc n) ≤ i) t l in omega arith))
   where
-    by : is_unused (get_or rs n blank) ≡ true → (i < n → is_unused (get_or rs i blank) ≡ true) → (i ≡ n) ⊎ (i < n) → is_unused (get_or rs i blank)
-        ≡ true
+    by : is_unused (get_or rs n blank) ≡ true → (i < n → is_unused (get_or rs i blank) ≡ true) → (i ≡ n) ⊎ (i < n)
+        → is_unused (get_or rs i blank) ≡ true
     by t f (inl e) = rw (e, t)
     by t f (inr j) = f j
 

@@ -53,10 +53,10 @@ used-past rs n (suc k) l e =
     ap (used_in rs) s ∙ rw u (used-past rs n k (omega arith) e)
 
 -- those after the first n are unused
-pub last-passed : (rs front : List Cell) (n : ℕ) → n ≤ length rs → front ≡ take n rs → every is_unused (drop n rs) ≡ true → last_used front
+pub last_passed : (rs front : List Cell) (n : ℕ) → n ≤ length rs → front ≡ take n rs → every is_unused (drop n rs) ≡ true → last_used front
     ≡ last_used rs
 unfolding last_used
-last-passed rs front n l is e =
+last_passed rs front n l is e =
     let k : n + (length rs - n) ≡ length rs = omega arith in
     ap last_used is ∙ (ap (used_in (take n rs)) (length-take-le n rs l) ∙ (used-first rs n n (omega arith)
     ∙ (sym (used-past rs n (length rs - n) (omega arith) e) ∙ ap (used_in rs) k)))
@@ -67,8 +67,9 @@ last-one : (rs : List Cell) (n : ℕ) → length rs ≡ suc n → every is_unuse
 unfolding every used_in
 last-one rs n long e =
     let none : drop (suc n) rs ≡ [] = drop_of_length-le rs {i = suc n} (omega arith) in
-    let last : drop n rs ≡ get_or rs n blank ∷ [] = drop-cons rs n blank (omega arith) ∙ ap (λ (l : List Cell). get_or rs n blank ∷ l) none in
-    let u : is_unused (get_or rs n blank) ≡ false = sym (and-true (is_unused (get_or rs n blank))) ∙ (sym (ap (every is_unused) last) ∙ e) in
+    let c : Cell = get_or rs n blank in
+    let last : drop n rs ≡ c ∷ [] = drop-cons rs n blank (omega arith) ∙ ap (λ (l : List Cell). c ∷ l) none in
+    let u : is_unused c ≡ false = sym (and-true (is_unused c)) ∙ (sym (ap (every is_unused) last) ∙ e) in
     rw u refl
 
 -- the last of n records is used, or there is none
@@ -77,6 +78,6 @@ found-at rs zero long h = sym (used-none rs)
 found-at rs (suc n) long (inl l) = absurd (omega arith)
 found-at rs (suc n) long (inr e) = sym (last-one rs n long (simp unary_clauses at e))
 
-pub last-found : (rs : List Cell) → (length rs < 1) ⊎ (every is_unused (drop (length rs - 1) rs) ≡ false) → length rs ≡ last_used rs
+pub last_found : (rs : List Cell) → (length rs < 1) ⊎ (every is_unused (drop (length rs - 1) rs) ≡ false) → length rs ≡ last_used rs
 unfolding last_used
-last-found rs h = found-at rs (length rs) refl h
+last_found rs h = found-at rs (length rs) refl h

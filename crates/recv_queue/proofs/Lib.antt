@@ -1,7 +1,4 @@
-pub mod Parts
-pub mod Words
-pub mod Loaded
-pub mod Saved
+pub mod Copied
 pub mod Freed
 pub mod LastUsed
 pub mod Receives

@@ -1,14 +1,16 @@
 -- `receive` as a call that loads, works and saves.
-use mathlib.Core.Path.{◌≡◌, refl, sym, ◌∙◌, ap, subst}
+use mathlib.Core.Path.{◌≡◌, refl, sym, ◌∙◌, ap}
 use Rattle.std.specs.Prelude.{Result, Ok, Err}
 use Prim.Native.Nat.{ℕ, ◌+◌, ◌*◌, ◌≤◌, min}
 use native.Mathlib.Omega.{arith}
 use mathlib.Core.Bool.{Bool, true, false}
-use mathlib.Core.List.{List, ◌++◌, map}
-use lib.ListN.{length, take, drop, take-append-drop}
+use mathlib.Core.List.{List, [], ◌++◌, map, append-nil}
+use lib.ListN.{length, take, drop, length-map, take-append-drop}
+use lib.Seq.{length-take-le, take_all}
+use Rattle.std.proofs.lemmas.List.{drop_all}
 use Rattle.base.specs.Answer.{Answer, refused, gives}
 use Rattle.base.specs.declared.refusal.Refusal.{Refusal}
-use Rattle.base.specs.Refusals.{answer_by}
+use Rattle.base.specs.Refusals.{number_of, answer_by}
 use Rattle.base.specs.Limits.{cell_bytes, max_cells, min_datagram}
 use Rattle.base.proofs.Ifs.{by-yes, by-no}
 use Rattle.reliability.specs.declared.Profile.{Profile}
@@ -18,12 +20,11 @@ use Rattle.frame.specs.Frames.{read_frames_of}
 use Rattle.cells.specs.Cell.{Cell}
 use Rattle.cells.specs.Sound.{lengths}
 use Rattle.rows.specs.declared.Row.{Row}
-use Rattle.rows.specs.Rows.{row_words, cell_of}
-use Rattle.row_slots.specs.First.{first_rows, after_rows, first_cells}
+use Rattle.rows.specs.Rows.{cell_of, stored_row}
+use Rattle.row_slots.specs.First.{first_cells}
 use Rattle.row_slots.proofs.First.{first-cells-of, stored-cells}
 use Rattle.receiver.specs.declared.RecvQueue.{RecvQueue}
 use Rattle.receiver.specs.Queue.{profile_in}
-use Rattle.receiver.specs.Parts.{nexts_of}
 use Rattle.receiver.specs.Receive.{Report, Received, refused_result, accepted_result, receive_of}
 use Rattle.receiver.proofs.AnswerCases.{by-true, by_le, receive-ways}
 use Rattle.recv_prefix.specs.Needs.{last_used, receive_needs}
@@ -32,42 +33,36 @@ use Rattle.recv_prefix.proofs.Enough.{receive-enough}
 use Rattle.recv_prefix.proofs.Used.{last_within}
 use Rattle.recv_prefix.proofs.Needs.{room-read, receive-few}
 use Rattle.recv_steps.specs.declared.Received as Code
-use Rattle.recv_steps.specs.Outcome.{report_of, rows_accepted, rows_by_answer, rows_outcome}
-use Rattle.recv_lent.specs.Calls.{ReceivedWith, received_with, receive_with_of}
-use Rattle.recv_queue.specs.Records.{loaded, saved}
-use Rattle.recv_queue.specs.Answers.{received, rows_written}
-use Rattle.recv_queue.proofs.Loaded.{loaded-part, loaded-cells}
-use Rattle.recv_queue.proofs.Saved.{saved-cells, saved-none, saved-part}
-use Rattle.recv_queue.proofs.Parts.{PartOf, part}
+use Rattle.recv_steps.specs.Outcome.{RowsReceived, report_of, received_rows, rows_left, receive_rows_of}
+use Rattle.recv_queue.specs.Answers.{received}
 
 -- how many records a call works on
-abbrev pub Enough : RecvQueue → List Cell → List ℕ → List ℕ → ℕ → Type 0
+abbrev Enough : RecvQueue → List Cell → List ℕ → List ℕ → ℕ → Type 0
 Enough q rs st d k = k ≡ receive_needs (profile_in q) (last_used rs) (length rs) (length st) d
 
 -- `needed`, where the lengths fit, of the count of the frames read, and where they do not
 module _ (q : RecvQueue) (rs : List Cell) (st d : List ℕ) (fit : Bool) (is : fit ≡ lengths (length rs) (length st)) where
-  pub enough-read : fit ≡ true → (p : Profile) (r : FramesRead) (u k : ℕ) → p ≡ profile_of q.profile → r ≡ read_frames_of p d min_datagram
+  pub enough_read : fit ≡ true → (p : Profile) (r : FramesRead) (u k : ℕ) → p ≡ profile_of q.profile → r ≡ read_frames_of p d min_datagram
       → u ≡ last_used rs → k ≡ min (length rs) (u + r.count + 1) → Enough q rs st d k
   unfolding receive_needs profile_in
-  enough-read t p r u k profile read used h =
+  enough_read t p r u k profile read used h =
       by-yes _ fit _ _ _ is t (room-read (profile_of q.profile) (last_used rs) (length rs) k d r
       (read ∙ ap (λ (p : Profile). read_frames_of p d min_datagram) profile) (h ∙ ap (λ (n : ℕ). min (length rs) (n + r.count + 1)) used))
 
-  pub enough-none : fit ≡ false → Enough q rs st d 0
+  pub enough_none : fit ≡ false → Enough q rs st d 0
   unfolding receive_needs
-  enough-none t = by-no _ fit _ _ _ is t refl
+  enough_none t = by-no _ fit _ _ _ is t refl
 
-pub enough-few : (q : RecvQueue) (rs : List Cell) (st d : List ℕ) (k : ℕ) → Enough q rs st d k → (k ≤ length rs) × (k ≤ max_cells)
-enough-few q rs st d k is = receive-few (profile_in q) (last_used rs) (length rs) (length st) d k is (last_within rs)
+-- they are there, and no more than a receiver may have
+module _ (p : Profile) (rs : List Cell) (n : ℕ) (d : List ℕ) where
+  few : (receive_needs p (last_used rs) (length rs) n d ≤ length rs) × (receive_needs p (last_used rs) (length rs) n d ≤ max_cells)
+  few = receive-few p (last_used rs) (length rs) n d (receive_needs p (last_used rs) (length rs) n d) refl (last_within rs)
 
--- what the core promises of the receiver q, where it gets k rows of c in the words ws, the store st and the datagram d, answers r and
--- leaves the receiver h, the words w and the store s
-abbrev pub CoreSays : RecvQueue → ℕ → ℕ → List ℕ → List ℕ → List ℕ → Result Code.Received Refusal → RecvQueue → List ℕ → List ℕ → Type 0
-CoreSays q c k ws st d r h w s = received_with r h (first_rows k w) (after_rows k w) s ≡ receive_with_of q k c ws st d
+  pub needs_within : receive_needs p (last_used rs) (length rs) n d ≤ length rs
+  needs_within = few.0
 
--- what the call promises
-abbrev pub CallSays : RecvQueue → List Cell → List ℕ → List ℕ → Result Code.Received Refusal → RecvQueue → List Cell → List ℕ → Type 0
-CallSays q rs st d a h zs s = received a h zs s ≡ receive_of q rs st d
+  pub needs_few : receive_needs p (last_used rs) (length rs) n d ≤ max_cells
+  needs_few = few.1
 
 -- ---- a refusal leaves the records as they were
 abbrev Leaves : List Cell → Received → Type 0
@@ -86,76 +81,53 @@ first-leaves q n cs st d =
     by-true (Leaves cs) (lengths n (length st)) (λ t. by_le (Leaves cs) (length cs) n
     (λ l. call-leaves q cs (take (cell_bytes * length cs) st) d) (λ l m e. refl)) (λ t m e. refl)
 
--- ---- the records that are saved
-module _ (q : RecvQueue) (rs : List Cell) (k : ℕ) (w : List ℕ) (room : row_words * k ≤ length w) (rows : List Row) (after : List ℕ)
-    (x : Received) (leaves : Leaves (take k rs) x) where
-  saved-by : (a : Answer Report) → a ≡ x.answer → first_rows k w ≡ (rows_by_answer a q (nexts_of q) rows after x).rows
-      → saved rs (rows_written a k) w ≡ x.records ++ drop k rs
-  unfolding rows_written rows_by_answer rows_accepted
-  saved-by (refused number) e is = sym (saved-none rs w) ∙ (sym (take-append-drop k rs) ∙ ap (λ (cs : List Cell). cs ++ drop k rs)
-      (sym (leaves number (sym e))))
-  saved-by (gives report) e is =
-      let cells : first_cells k w ≡ x.records = first-cells-of k w ∙ (ap (map cell_of) is ∙ stored-cells x.records) in
-      saved-cells rs w k room ∙ ap (λ (cs : List Cell). cs ++ drop k rs) cells
-
-module _ (q : RecvQueue) (rs : List Cell) (st d : List ℕ) (k : ℕ) (is : Enough q rs st d k) where
-  few : k ≤ length rs
-  few = (enough-few q rs st d k is).0
-
-  -- these are lent
-  pub lent : PartOf rs k
-  lent = part rs k few
-
+-- ---- the call's promise, of what the calls in its body return and leave: the core gets the first k records as the rows ls, answers r and
+-- leaves the receiver h, the rows ws and the store s
+module _ (q : RecvQueue) (rs : List Cell) (st d : List ℕ) (ls ws : List Row) (h : RecvQueue) (s : List ℕ) (k : ℕ) (is : Enough q rs st d k)
+    (load : ls ≡ map stored_row (take k rs)) where
   -- the first k records decide
   abbrev first : Received
   first = receive_first q (length rs) (take k rs) st d
 
-  received-of : (r : Result Code.Received Refusal) (h : RecvQueue) (w s : List ℕ) (rows : List Row) (after : List ℕ) → row_words * k ≤ length w
-      → answer_by report_of r ≡ first.answer → h ≡ first.queue → first_rows k w ≡ (rows_outcome q (nexts_of q) rows after first).rows
-      → s ≡ first.store → CallSays q rs st d r h (saved rs (rows_written (answer_by report_of r) k) w) s
-  unfolding received beside rows_outcome
-  received-of r h w s rows after room answer queue left store =
-      let zs : saved rs (rows_written (answer_by report_of r) k) w ≡ first.records ++ drop k rs =
-      saved-by q rs k w room rows after first (first-leaves q (length rs) (take k rs) st d) (answer_by report_of r) answer
-      (left ∙ ap (λ (a : Answer Report). (rows_by_answer a q (nexts_of q) rows after first).rows) (sym answer))
-      in
-      let e : received r h (saved rs (rows_written (answer_by report_of r) k) w) s ≡ beside (drop k rs) first = rw (zs, answer, queue, store) in
-      e ∙ sym (receive-enough q rs st d k is)
+  said : (r : Result Code.Received Refusal) → received_rows r h ws s ≡ receive_rows_of q k (length rs) ls st d → received_rows r h ws s
+      ≡ record { answer = first.answer; queue = first.queue; rows = rows_left first.answer ls first.records; store = first.store }
+  unfolding receive_rows_of
+  said r core =
+      let few = length-take-le k rs (rw is (needs_within (profile_in q) rs (length st) d)) in
+      let long : length ls ≡ k = ap length load ∙ length-map (take k rs) stored_row ∙ few in
+      let whole : take k ls ≡ ls = take_all k ls (omega arith) in
+      let none : drop k ls ≡ [] = drop_all k ls (omega arith) in
+      let cells : first_cells k ls ≡ take k rs = first-cells-of k ls ∙ ap (map cell_of) (whole ∙ load) ∙ stored-cells (take k rs) in
+      core ∙ rw (cells, whole, none, append-nil)
 
-  -- The call's promise, of what its body does.
-  pub received-in : (ws : List ℕ) (r : Result Code.Received Refusal) (h : RecvQueue) (w s : List ℕ) → row_words * k ≤ length ws → length w ≡ length ws
-      → CoreSays q (length rs) k (loaded rs k ws) st d r h w s
-      → CallSays q rs st d r h (saved rs (rows_written (answer_by report_of r) k) w) s
-  unfolding received_with receive_with_of
-  received-in ws r h w s room len said =
-      let ls : List ℕ = loaded rs k ws in
-      let cells : first_cells k ls ≡ take k rs = loaded-cells rs ws k few room in
-      let of : Received → ReceivedWith = λ x. record {
-        answer = x.answer;
-        queue = x.queue;
-        rows = (rows_outcome q (nexts_of q) (first_rows k ls) (after_rows k ls) x).rows;
-        after = (rows_outcome q (nexts_of q) (first_rows k ls) (after_rows k ls) x).after;
-        store = x.store;
-      } in
-      let e : received_with r h (first_rows k w) (after_rows k w) s ≡ of first =
-      said ∙ ap (λ (cs : List Cell). of (receive_first q (length rs) cs st d)) cells in
-      received-of r h w s (first_rows k ls) (after_rows k ls) (omega arith) (ap (λ (x : ReceivedWith). x.answer) e)
-      (ap (λ (x : ReceivedWith). x.queue) e) (ap (λ (x : ReceivedWith). x.rows) e) (ap (λ (x : ReceivedWith). x.store) e)
+  received-of : (r : Result Code.Received Refusal) (zs : List Cell) → zs ≡ first.records ++ drop k rs → answer_by report_of r ≡ first.answer
+      → h ≡ first.queue → s ≡ first.store → received r h zs s ≡ receive_of q rs st d
+  unfolding received beside
+  received-of r zs e answer queue store = rw (e, answer, queue, store) (sym (receive-enough q rs st d k is))
 
-  -- the same, of what the calls in its body return and leave, where the core refuses and where it accepts
-  module _ (ws vs : List ℕ) (h : RecvQueue) (w s : List ℕ) (room : row_words * k ≤ length ws)
-      (load : vs ≡ loaded (take k rs) (length (take k rs)) ws) (len : length w ≡ length ws) where
-    by-loaded : (r : Result Code.Received Refusal) → CoreSays q (length rs) k vs st d r h w s
-        → CallSays q rs st d r h (saved rs (rows_written (answer_by report_of r) k) w) s
-    by-loaded r core = received-in ws r h w s room len
-        (subst (λ (v : List ℕ). CoreSays q (length rs) k v st d r h w s) (load ∙ loaded-part rs ws k few) core)
+  -- it refuses
+  pub received_err : (e : Refusal) → received_rows (Err e) h ws s ≡ receive_rows_of q k (length rs) ls st d
+      → received (Err e) h rs s ≡ receive_of q rs st d
+  unfolding received_rows
+  received_err e core =
+      let o = said (Err e) core in
+      let answer = ap (λ (x : RowsReceived). x.answer) o in
+      let same = first-leaves q (length rs) (take k rs) st d (number_of e) (sym answer) in
+      received-of (Err e) rs (sym (take-append-drop k rs) ∙ ap (λ (cs : List Cell). cs ++ drop k rs) (sym same))
+      answer (ap (λ (x : RowsReceived). x.queue) o) (ap (λ (x : RowsReceived). x.store) o)
 
-    pub received-err : (r : Refusal) → CoreSays q (length rs) k vs st d (Err r) h w s → CallSays q rs st d (Err r) h rs s
-    unfolding rows_written
-    received-err r core = ap (λ (cs : List Cell). received (Err r) h cs s) (saved-none rs w) ∙ by-loaded (Err r) core
+  -- it accepts
+  pub received_ok : (x : Code.Received) (zs : List Cell) → received_rows (Ok x) h ws s ≡ receive_rows_of q k (length rs) ls st d
+      → zs ≡ map cell_of ws → received (Ok x) h (zs ++ drop k rs) s ≡ receive_of q rs st d
+  unfolding received_rows rows_left
+  received_ok x zs core save =
+      let o = said (Ok x) core in
+      let answer = ap (λ (x : RowsReceived). x.answer) o in
+      let rows : ws ≡ map stored_row first.records = ap (λ (x : RowsReceived). x.rows) o
+      ∙ ap (λ (a : Answer Report). rows_left a ls first.records) (sym answer) in
+      received-of (Ok x) (zs ++ drop k rs)
+      (ap (λ (cs : List Cell). cs ++ drop k rs) (save ∙ ap (map cell_of) rows ∙ stored-cells first.records))
+      answer (ap (λ (x : RowsReceived). x.queue) o) (ap (λ (x : RowsReceived). x.store) o)
 
-    pub received-ok : (r : Code.Received) (zs : List Cell) → CoreSays q (length rs) k vs st d (Ok r) h w s
-        → zs ≡ first_cells (length (take k rs)) w → CallSays q rs st d (Ok r) h (zs ++ drop k rs) s
-    unfolding rows_written
-    received-ok r zs core save =
-        ap (λ (cs : List Cell). received (Ok r) h cs s) (saved-part rs zs w k few (omega arith) save) ∙ by-loaded (Ok r) core
+-- what the body of `receive_in` needs
+pub ruleset receives = (length-take-le, needs_within, received_err, received_ok)

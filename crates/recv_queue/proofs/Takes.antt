@@ -1,12 +1,12 @@
 -- `take` as a call that loads, works and frees the records of the message.
-use mathlib.Core.Path.{◌≡◌, refl, sym, ◌∙◌, ap, subst}
+use mathlib.Core.Path.{◌≡◌, refl, sym, ◌∙◌, ap}
 use Rattle.std.specs.Prelude.{Result, Ok, Err}
-use Prim.Native.Nat.{ℕ, ◌*◌, ◌≤◌, max}
+use Prim.Native.Nat.{ℕ, ◌≤◌, max}
 use native.Mathlib.Omega.{arith}
 use mathlib.Core.Bool.{Bool, true, false}
 use mathlib.Core.List.{List, ◌++◌, map}
-use lib.ListN.{length, take, drop, take-append-drop}
-use Rattle.base.specs.Answer.{Answer, refused, gives}
+use lib.ListN.{length, take, drop, length-map, take-append-drop}
+use lib.Seq.{length-take-le, take_all}
 use Rattle.base.specs.declared.refusal.Refusal.{Refusal}
 use Rattle.base.specs.Refusals.{answer_by}
 use Rattle.base.specs.Limits.{max_cells}
@@ -15,97 +15,72 @@ use Rattle.base.proofs.IfCases.{lt_both}
 use Rattle.cells.specs.Cell.{Cell}
 use Rattle.cells.specs.Records.{change_cells}
 use Rattle.cells.specs.Sound.{lengths}
-use Rattle.rows.specs.Rows.{row_words}
+use Rattle.rows.specs.declared.Row.{Row}
+use Rattle.rows.specs.Rows.{cell_of, stored_row}
 use Rattle.row_slots.specs.First.{first_cells}
+use Rattle.row_slots.proofs.First.{first-cells-of, stored-cells}
 use Rattle.receiver.specs.declared.RecvQueue.{RecvQueue}
-use Rattle.receiver.specs.Take.{Handed, take_of}
+use Rattle.receiver.specs.Take.{take_of}
 use Rattle.recv_prefix.specs.Needs.{last_used, take_needs}
-use Rattle.recv_prefix.specs.Taking.{beside_taken, take_first}
+use Rattle.recv_prefix.specs.Taking.{beside_taken}
 use Rattle.recv_prefix.proofs.Enough.{take-enough}
 use Rattle.recv_prefix.proofs.Used.{last_within}
 use Rattle.recv_prefix.proofs.Needs.{take-few}
-use Rattle.recv_take.specs.declared.Taken.{Taken}
 use Rattle.recv_take.specs.declared.TakenRows.{TakenRows}
 use Rattle.recv_take.specs.Outcome.{handed_of, take_result, without_turn, turn_given, taken_rows, take_rows_of, records_left}
 use Rattle.recv_take.proofs.First.{whole_take}
-use Rattle.recv_queue.specs.Records.{loaded, record_left_by, freed_to}
-use Rattle.recv_queue.specs.Answers.{rows_written}
-use Rattle.recv_queue.proofs.Loaded.{loaded-part, loaded-cells}
-use Rattle.recv_queue.proofs.Freed.{freed-none, freed-part}
-use Rattle.recv_queue.proofs.Parts.{PartOf, part}
+use Rattle.recv_queue.specs.Records.{record_left_by}
 
 -- how many records a call works on
-abbrev pub Enough : List Cell → List ℕ → ℕ → Type 0
+abbrev Enough : List Cell → List ℕ → ℕ → Type 0
 Enough rs st k = k ≡ take_needs (last_used rs) (length rs) (length st)
 
 -- `needed`, where the lengths fit, and where they do not
 module _ (rs : List Cell) (st : List ℕ) (fit : Bool) (is : fit ≡ lengths (length rs) (length st)) where
-  pub enough-fit : fit ≡ true → (u k : ℕ) → u ≡ last_used rs → k ≡ max u 1 → Enough rs st k
+  pub enough_fit : fit ≡ true → (u k : ℕ) → u ≡ last_used rs → k ≡ max u 1 → Enough rs st k
   unfolding take_needs
-  enough-fit t u k used h = by-yes _ fit _ _ _ is t
+  enough_fit t u k used h = by-yes _ fit _ _ _ is t
       (lt_both (λ (n : ℕ). k ≡ n) 1 (last_used rs) (last_used rs) 1 (λ l. omega arith) (λ l. omega arith))
 
-  pub enough-none : fit ≡ false → Enough rs st 0
+  pub enough_none : fit ≡ false → Enough rs st 0
   unfolding take_needs
-  enough-none t = by-no _ fit _ _ _ is t refl
+  enough_none t = by-no _ fit _ _ _ is t refl
 
-pub enough-few : (rs : List Cell) (st : List ℕ) (k : ℕ) → Enough rs st k → (k ≤ length rs) × (k ≤ max_cells)
-enough-few rs st k is = take-few (last_used rs) (length rs) (length st) k is (last_within rs)
+-- they are there, and no more than a receiver may have
+module _ (rs : List Cell) (n : ℕ) where
+  few : (take_needs (last_used rs) (length rs) n ≤ length rs) × (take_needs (last_used rs) (length rs) n ≤ max_cells)
+  few = take-few (last_used rs) (length rs) n (take_needs (last_used rs) (length rs) n) refl (last_within rs)
 
--- what the core promises of the receiver q, where it gets k rows of c in the words ws, the store st and the joining buffer j, answers r and
--- leaves the buffer u
-abbrev pub CoreSays : RecvQueue → ℕ → ℕ → List ℕ → List ℕ → List ℕ → Result TakenRows Refusal → List ℕ → Type 0
-CoreSays q c k ws st j r u = taken_rows r u ≡ take_rows_of q k c ws st j
+  pub needs_within : take_needs (last_used rs) (length rs) n ≤ length rs
+  needs_within = few.0
 
--- what the call promises
-abbrev pub CallSays : RecvQueue → List Cell → List ℕ → List ℕ → Result Taken Refusal → List Cell → List ℕ → Type 0
-CallSays q rs st j a zs u = take_result a zs u ≡ take_of q rs st j
+  pub needs_few : take_needs (last_used rs) (length rs) n ≤ max_cells
+  needs_few = few.1
 
--- what is freed among the first records is what the answer leaves of them
-freed-is : (a : Answer Handed) (turn : ℕ) (rs : List Cell) (k : ℕ) → freed_to rs (rows_written a k) turn ≡ records_left a turn (take k rs)
-    ++ drop k rs
-unfolding freed_to rows_written change_cells record_left_by
-freed-is (refused number) turn rs k = sym (take-append-drop k rs)
-freed-is (gives h) turn rs k = refl
-
-module _ (rs : List Cell) (st : List ℕ) (k : ℕ) (is : Enough rs st k) where
-  few : k ≤ length rs
-  few = (enough-few rs st k is).0
-
-  -- the first k records are lent
-  pub lent : PartOf rs k
-  lent = part rs k few
-
-module _ (q : RecvQueue) (rs : List Cell) (st j : List ℕ) (k : ℕ) (is : Enough rs st k) where
-  -- The call's promise, of what its body does.
-  pub taken_in : (ws : List ℕ) (r : Result TakenRows Refusal) (u : List ℕ) → row_words * k ≤ length ws
-      → CoreSays q (length rs) k (loaded rs k ws) st j r u
-      → CallSays q rs st j (without_turn r) (freed_to rs (rows_written (answer_by handed_of (without_turn r)) k) (turn_given r)) u
+-- ---- the call's promise, of what the calls in its body return and leave: the core gets the first k records as the rows ls, answers r and
+-- leaves the joining buffer u
+module _ (q : RecvQueue) (rs : List Cell) (st j : List ℕ) (ls : List Row) (u : List ℕ) (k : ℕ) (is : Enough rs st k)
+    (load : ls ≡ map stored_row (take k rs)) where
+  said : (r : Result TakenRows Refusal) → taken_rows r u ≡ take_rows_of q k (length rs) ls st j
+      → take_result (without_turn r) (records_left (answer_by handed_of (without_turn r)) (turn_given r) (take k rs) ++ drop k rs) u
+      ≡ take_of q rs st j
   unfolding take_result beside_taken
-  taken_in ws r u room said =
-      let a : Answer Handed = answer_by handed_of (without_turn r) in
-      let t : ℕ = turn_given r in
-      let cells : first_cells k (loaded rs k ws) ≡ take k rs = loaded-cells rs ws k (few rs st k is) room in
-      let first : take_result (without_turn r) (records_left a t (take k rs)) u ≡ take_first q (length rs) (take k rs) st j =
-      subst (λ (cs : List Cell). take_result (without_turn r) (records_left a t cs) u ≡ take_first q (length rs) cs st j) cells
-      (whole_take q k (length rs) (loaded rs k ws) st j r u said)
-      in
-      ap (λ (cs : List Cell). take_result (without_turn r) cs u) (freed-is a t rs k)
-      ∙ (ap (beside_taken (drop k rs)) first ∙ sym (take-enough q rs st j k is))
+  said r core =
+      let few = length-take-le k rs (rw is (needs_within rs (length st))) in
+      let long : length ls ≡ k = ap length load ∙ length-map (take k rs) stored_row ∙ few in
+      let cells : first_cells k ls ≡ take k rs = first-cells-of k ls ∙ ap (map cell_of) (take_all k ls (omega arith) ∙ load)
+      ∙ stored-cells (take k rs) in
+      ap (beside_taken (drop k rs)) (rw cells at (whole_take q k (length rs) ls st j r u core)) ∙ sym (take-enough q rs st j k is)
 
-  -- the same, of what the calls in its body return and leave, where the core refuses and where it gives a message
-  module _ (ws vs u : List ℕ) (room : row_words * k ≤ length ws) (load : vs ≡ loaded (take k rs) (length (take k rs)) ws) where
-    by-loaded : (r : Result TakenRows Refusal) → CoreSays q (length rs) k vs st j r u
-        → CallSays q rs st j (without_turn r) (freed_to rs (rows_written (answer_by handed_of (without_turn r)) k) (turn_given r)) u
-    by-loaded r core = taken_in ws r u room
-        (subst (λ (v : List ℕ). CoreSays q (length rs) k v st j r u) (load ∙ loaded-part rs ws k (few rs st k is)) core)
+  -- it refuses
+  pub taken_err : (r : Refusal) → taken_rows (Err r) u ≡ take_rows_of q k (length rs) ls st j → take_result (Err r) rs u ≡ take_of q rs st j
+  taken_err r core = ap (λ (cs : List Cell). take_result (Err r) cs u) (sym (take-append-drop k rs)) ∙ said (Err r) core
 
-    pub taken-err : (r : Refusal) → CoreSays q (length rs) k vs st j (Err r) u → CallSays q rs st j (Err r) rs u
-    unfolding rows_written
-    taken-err r core = ap (λ (cs : List Cell). take_result (Err r) cs u) (freed-none rs 0) ∙ by-loaded (Err r) core
+  -- it gives a message
+  pub taken_ok : (t : TakenRows) (zs : List Cell) → taken_rows (Ok t) u ≡ take_rows_of q k (length rs) ls st j
+      → zs ≡ map (record_left_by t.turn) (take k rs) → take_result (Ok t.taken) (zs ++ drop k rs) u ≡ take_of q rs st j
+  unfolding change_cells record_left_by
+  taken_ok t zs core free = ap (λ (cs : List Cell). take_result (Ok t.taken) (cs ++ drop k rs) u) free ∙ said (Ok t) core
 
-    pub taken-ok : (t : TakenRows) (zs : List Cell) → CoreSays q (length rs) k vs st j (Ok t) u
-        → zs ≡ map (record_left_by t.turn) (take k rs) → CallSays q rs st j (Ok t.taken) (zs ++ drop k rs) u
-    unfolding rows_written
-    taken-ok t zs core free =
-        ap (λ (cs : List Cell). take_result (Ok t.taken) cs u) (freed-part rs zs t.turn k free) ∙ by-loaded (Ok t) core
+-- what the body of `take_in` needs
+pub ruleset takes = (length-take-le, needs_within, taken_err, taken_ok)

@@ -1,6 +1,5 @@
--- What a receive returns and leaves, as its definition has it; and how many records a call writes.
+-- What a receive returns and leaves, as its definition has it.
 use Rattle.std.specs.Prelude.{ℕ, List, Result}
-use Rattle.base.specs.Answer.{Answer, refused, gives}
 use Rattle.base.specs.declared.refusal.Refusal.{Refusal}
 use Rattle.base.specs.Refusals.{answer_by}
 use Rattle.cells.specs.Cell.{Cell}
@@ -12,8 +11,3 @@ use Rattle.recv_steps.specs.Outcome.{report_of}
 -- a receive's outcome, of what it returns and of the last values of receiver, records and store
 unfoldable pub received : Result Code.Received Refusal → RecvQueue → List Cell → List ℕ → Received
 received r q rs st = record { answer = answer_by report_of r; queue = q; records = rs; store = st }
-
--- how many of k records a call with this answer writes: a refusal writes none
-unfoldable pub rows_written : {A : Type 0} → Answer A → ℕ → ℕ
-rows_written (refused number) k = 0
-rows_written (gives x) k = k

@@ -1,23 +1,23 @@
 // "One record stands beside each cell, in a lent slice of structs": receive and take over such a slice, and the few functions that touch
-// it; the other calls are offered here too. The cores of receive and take work on rows of words.
+// it; the other calls are offered here too. The cores of receive and take work on rows.
 
 #![tactic(auto)]
 
-ghost use Rattle.std.specs.Prelude.{◌≡◌, ◌<◌, ◌≤◌, ◌+◌, ◌-◌, ◌*◌, ◌⊎◌, false, length, map, drop};
+ghost use Rattle.std.specs.Prelude.{◌≡◌, ◌<◌, ◌≤◌, ◌-◌, ◌⊎◌, false, length, map, drop};
 ghost use Rattle.base.specs.Limits.{max_cells};
 ghost use Rattle.base.specs.Lists.{every};
 ghost use Rattle.cells.specs.Cell.{bears, ready_as};
-ghost use Rattle.rows.specs.Rows.{row_words, cell_of};
-ghost use Rattle.row_slots.specs.First.{first_cells, stored_row};
+ghost use Rattle.rows.specs.Rows.{cell_of, stored_row};
 ghost use Rattle.recv_prefix.specs.First.{is_unused};
 ghost use Rattle.recv_prefix.specs.Needs.{last_used};
-ghost use Rattle.recv_queue.specs.Records.{put_row, loaded, record_left_by};
+ghost use Rattle.recv_queue.specs.Records.{record_left_by};
 
 use rows::Row;
 
 pub mod receiving;
 pub mod taking;
 
+pub use base::Refusal;
 pub use cells::CellRecord;
 pub use receiver::RecvQueue;
 pub use receiving::receive;
@@ -29,8 +29,8 @@ pub use recv_take::Taken;
 pub use reliability::Profile;
 pub use taking::take;
 
-// A call works on the records that it may need, and zeroes words for them: of five sizes, the last for as many records as a receiver
-// may have.
+// A call works on the records that it may need, and has rows for them from an array: of five sizes, the last for as many records as a
+// receiver may have.
 const FEW_CELLS: usize = 8;
 
 const SMALL_CELLS: usize = 32;
@@ -39,84 +39,32 @@ const MIDDLE_CELLS: usize = 256;
 
 const MANY_CELLS: usize = 1024;
 
-const FEW_WORDS: usize = rows::ROW * FEW_CELLS;
+// ---- the records as rows, and back
 
-const SMALL_WORDS: usize = rows::ROW * SMALL_CELLS;
-
-const MIDDLE_WORDS: usize = rows::ROW * MIDDLE_CELLS;
-
-const MANY_WORDS: usize = rows::ROW * MANY_CELLS;
-
-const MOST_WORDS: usize = rows::ROW * base::MAX_CELLS;
-
-// ---- a record as a row of words, and back
-
-fn row_of(r: CellRecord) -> Row
-    ensures { result ≡ stored_row r }
-{
-    Row {
-        used: r.used,
-        kind: r.kind,
-        channel: r.channel,
-        id: r.id,
-        index: r.index,
-        count: r.count,
-        length: r.length,
-        sequence: r.sequence,
-        order: r.order,
-        turn: r.turn,
-        place: 0,
-    }
-}
-
-fn record_of(r: Row) -> CellRecord
-    ensures { result ≡ cell_of r }
-{
-    CellRecord {
-        used: r.used,
-        kind: r.kind,
-        channel: r.channel,
-        id: r.id,
-        index: r.index,
-        count: r.count,
-        length: r.length,
-        sequence: r.sequence,
-        order: r.order,
-        turn: r.turn,
-    }
-}
-
-// A record is written as row i.
-fn put_cell(words: &mut [u32], i: usize, r: CellRecord)
-    requires { row_words * i + row_words ≤ length words.old }
-    ensures { words.new ≡ put_row words.old i (stored_row r) }
-{
-    rows::put_row(words, i, row_of(r));
-}
-
-// The records are written as the first rows.
-fn load(records: &[CellRecord], words: &mut [u32])
-    requires { row_words * length records.now ≤ length words.old }
-    ensures { words.new ≡ loaded records.now (length records.now) words.old }
+#[tactic(auto, using(crate::proofs::Copied::copied_more, crate::proofs::Copied::copied_all))]
+fn load(records: &[CellRecord], rows: &mut [Row])
+    requires { length rows.old ≡ length records.now }
+    ensures { rows.new ≡ map stored_row records.now }
 {
     for (i, r) in records.iter().enumerate() {
-        put_cell(words, i, *r);
+        rows[i] = (*r).into();
     }
 }
 
-// The records are read from the first rows.
-fn save(records: &mut [CellRecord], words: &[u32])
-    requires { row_words * length records.old ≤ length words.now }
-    ensures { records.new ≡ first_cells (length records.old) words.now }
+#[tactic(auto, using(crate::proofs::Copied::copied_more, crate::proofs::Copied::copied_all))]
+fn save(records: &mut [CellRecord], rows: &[Row])
+    requires { length rows.now ≡ length records.old }
+    ensures { records.new ≡ map cell_of rows.now }
 {
-    for (i, r) in records.iter_mut().enumerate() {
-        *r = record_of(rows::whole_row(words, i));
+    for (i, row) in rows.iter().enumerate() {
+        records[i] = (*row).into();
     }
 }
 
 // ---- which are in use
 
 // Is it of the ready message of that turn?
+#[tactic(auto, unfolding(cells::specs::Cell::bears))]
 fn is_taken(r: CellRecord, turn: u32) -> bool
     ensures { result ≡ bears (ready_as turn) r }
 {
@@ -124,6 +72,7 @@ fn is_taken(r: CellRecord, turn: u32) -> bool
 }
 
 // "A taken message frees its cells": those of the records that are its own.
+#[tactic(auto, using(crate::proofs::Freed::freed_here, crate::proofs::Freed::freed_left))]
 fn free_turn(records: &mut [CellRecord], turn: u32)
     ensures { records.new ≡ map (record_left_by turn) records.old }
 {
@@ -134,7 +83,7 @@ fn free_turn(records: &mut [CellRecord], turn: u32)
     }
 }
 
-// Is none of them in use? All uses are looked at, without a branch for each.
+// Is none of them in use? All uses are looked at, without a branch for each: `all` takes longer.
 fn all_unused(records: &[CellRecord]) -> bool
     ensures { result ≡ every is_unused records.now }
 {
@@ -143,7 +92,9 @@ fn all_unused(records: &[CellRecord]) -> bool
         .fold(true, |all, r| all & (r.used == cells::UNUSED))
 }
 
-// The records up to the last N of which one is in use, or up to fewer than N: those after them are unused.
+// The records up to the last N of which one is in use, or up to fewer than N: those after them are unused. (std's `any`, `rchunks` and
+// `rposition` take two to six times as long.)
+#[tactic(auto, using(crate::proofs::LastUsed::last_passed))]
 fn up_to_used<const N: usize>(records: &[CellRecord]) -> &[CellRecord]
     requires some { 0 < N }
     requires few { N ≤ 8 }
@@ -161,36 +112,54 @@ fn up_to_used<const N: usize>(records: &[CellRecord]) -> &[CellRecord]
 }
 
 // How many records there are up to the last used one: those after it are unused. Eight at a time are passed over.
+#[tactic(auto, using(crate::proofs::LastUsed::last_found))]
 fn last_used(records: &[CellRecord]) -> usize
     ensures { result ≡ last_used records.now }
 {
     up_to_used::<1>(up_to_used::<8>(records)).len()
 }
 
-// ---- words to work on
+// ---- rows to work on
 
-// f on so many words, all 0. It is a function of its own for each size, so that a large array stays out of the frame of every call.
+// (Of `Row::default()`, an array is written twice: as zeros, and row by row.)
+const BLANK: Row = Row {
+    used: 0,
+    kind: 0,
+    channel: 0,
+    id: 0,
+    index: 0,
+    count: 0,
+    length: 0,
+    sequence: 0,
+    order: 0,
+    turn: 0,
+    place: 0,
+};
+
+// f on the first k of so many blank rows. It is a function of its own for each size, so that a large array stays out of the frame of every
+// call.
 #[inline(never)]
-fn on_zeros<const WORDS: usize, R, F: FnMut(&mut [u32]) -> R>(f: &mut F) -> R
-    requires size { WORDS ≤ row_words * max_cells }
-    requires callable { (ws : _) → length ws.now ≡ WORDS → F.pre f.old ws }
-    ensures { (ws : _) × (left : _) × (length ws.now ≡ WORDS) × F.step f.old ws result left f.new }
+fn on_zeros<const CELLS: usize, R, F: FnMut(&mut [Row]) -> R>(k: usize, f: &mut F) -> R
+    requires size { CELLS ≤ max_cells }
+    requires few { k ≤ CELLS }
+    requires callable { (rows : _) → length rows.now ≡ k → F.pre f.old rows }
+    ensures { (rows : _) × (left : _) × (length rows.now ≡ k) × F.step f.old rows result left f.new }
 {
-    let mut words = [0u32; WORDS];
-    f(&mut words)
+    let mut rows = [BLANK; CELLS];
+    f(&mut rows[..k])
 }
 
-// f on words for k records.
-fn with_words<R, F: FnMut(&mut [u32]) -> R>(k: usize, f: &mut F) -> R
+// f on rows for k records.
+fn with_rows<R, F: FnMut(&mut [Row]) -> R>(k: usize, f: &mut F) -> R
     requires few { k ≤ max_cells }
-    requires callable { (ws : _) → row_words * k ≤ length ws.now → F.pre f.old ws }
-    ensures { (ws : _) × (left : _) × (row_words * k ≤ length ws.now) × F.step f.old ws result left f.new }
+    requires callable { (rows : _) → length rows.now ≡ k → F.pre f.old rows }
+    ensures { (rows : _) × (left : _) × (length rows.now ≡ k) × F.step f.old rows result left f.new }
 {
     match k {
-        ..=FEW_CELLS => on_zeros::<FEW_WORDS, R, F>(f),
-        ..=SMALL_CELLS => on_zeros::<SMALL_WORDS, R, F>(f),
-        ..=MIDDLE_CELLS => on_zeros::<MIDDLE_WORDS, R, F>(f),
-        ..=MANY_CELLS => on_zeros::<MANY_WORDS, R, F>(f),
-        _ => on_zeros::<MOST_WORDS, R, F>(f),
+        ..=FEW_CELLS => on_zeros::<FEW_CELLS, R, F>(k, f),
+        ..=SMALL_CELLS => on_zeros::<SMALL_CELLS, R, F>(k, f),
+        ..=MIDDLE_CELLS => on_zeros::<MIDDLE_CELLS, R, F>(k, f),
+        ..=MANY_CELLS => on_zeros::<MANY_CELLS, R, F>(k, f),
+        _ => on_zeros::<{ base::MAX_CELLS }, R, F>(k, f),
     }
 }

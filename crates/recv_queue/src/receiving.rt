@@ -1,6 +1,5 @@
 // Receive: the records that it may need are loaded as rows, the core works on these, and where it accepts the datagram they are saved.
-ghost use Rattle.std.specs.Prelude.{◌≡◌, ◌≤◌, ◌+◌, ◌*◌, min, length};
-ghost use Rattle.rows.specs.Rows.{row_words};
+ghost use Rattle.std.specs.Prelude.{◌≡◌, ◌+◌, min, length};
 ghost use Rattle.receiver.specs.Queue.{profile_in};
 ghost use Rattle.receiver.specs.Receive.{receive_of};
 ghost use Rattle.recv_prefix.specs.Needs.{last_used, receive_needs};
@@ -10,8 +9,10 @@ use base::Refusal;
 use cells::CellRecord;
 use receiver::RecvQueue;
 use recv_steps::Received;
+use rows::Row;
 
 // How many records a call works on.
+#[tactic(auto, using(crate::proofs::Receives::enough_read, crate::proofs::Receives::enough_none))]
 fn needed(queue: &RecvQueue, records: &[CellRecord], store: &[u8], datagram: &[u8]) -> usize
     ensures { result ≡ receive_needs (profile_in queue.now) (last_used records.now) (length records.now)
         (length store.now) datagram.now }
@@ -32,29 +33,29 @@ fn with_room(used: usize, frames: usize, cells: usize) -> usize
     used.saturating_add(frames).saturating_add(1).min(cells)
 }
 
-// The call on the first k records, where the words are lent too and have room for them. A refusal saves none.
+// The call on as many of the records as there are rows, which are lent too. A refusal saves none.
 #[inline(never)]
+#[tactic(auto, using(crate::proofs::Receives::receives))]
 fn receive_in(
     queue: &mut RecvQueue,
     records: &mut [CellRecord],
-    words: &mut [u32],
-    k: usize,
+    rows: &mut [Row],
     store: &mut [u8],
     datagram: &[u8],
 ) -> Result<Received, Refusal>
-    requires needed { k ≡ receive_needs (profile_in queue.old) (last_used records.old) (length records.old)
+    requires { length rows.old ≡ receive_needs (profile_in queue.old) (last_used records.old) (length records.old)
         (length store.old) datagram.now }
-    requires room { row_words * k ≤ length words.old }
     ensures { received result queue.new records.new store.new
         ≡ receive_of queue.old records.old store.old datagram.now }
 {
-    super::load(&records[..k], words);
-    let answer = recv_lent::receive_with(queue, words, k, records.len(), store, datagram);
-    let received = answer?;
-    super::save(&mut records[..k], words);
+    let k = rows.len();
+    super::load(&records[..k], rows);
+    let received = recv_steps::receive_rows(queue, rows, k, records.len(), store, datagram)?;
+    super::save(&mut records[..k], rows);
     Ok(received)
 }
 
+#[tactic(auto, using(crate::proofs::Receives::needs_few))]
 pub fn receive(
     queue: &mut RecvQueue,
     records: &mut [CellRecord],
@@ -65,6 +66,6 @@ pub fn receive(
         ≡ receive_of queue.old records.old store.old datagram.now }
 {
     let k = needed(queue, records, store, datagram);
-    let mut call = |words: &mut [u32]| receive_in(queue, records, words, k, store, datagram);
-    super::with_words(k, &mut call)
+    let mut call = |rows: &mut [Row]| receive_in(queue, records, rows, store, datagram);
+    super::with_rows(k, &mut call)
 }

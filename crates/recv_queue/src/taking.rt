@@ -1,6 +1,5 @@
 // Take: the records that it may need are loaded as rows, the core reads these, and where it gives a message its records are freed.
-ghost use Rattle.std.specs.Prelude.{◌≡◌, ◌≤◌, ◌*◌, length};
-ghost use Rattle.rows.specs.Rows.{row_words};
+ghost use Rattle.std.specs.Prelude.{◌≡◌, length};
 ghost use Rattle.receiver.specs.Take.{take_of};
 ghost use Rattle.recv_prefix.specs.Needs.{last_used, take_needs};
 ghost use Rattle.recv_take.specs.Outcome.{take_result};
@@ -9,8 +8,10 @@ use base::Refusal;
 use cells::CellRecord;
 use receiver::RecvQueue;
 use recv_take::Taken;
+use rows::Row;
 
 // How many records a call works on.
+#[tactic(auto, using(crate::proofs::Takes::enough_fit, crate::proofs::Takes::enough_none))]
 fn needed(records: &[CellRecord], store: &[u8]) -> usize
     ensures { result ≡ take_needs (last_used records.now) (length records.now) (length store.now) }
 {
@@ -20,27 +21,28 @@ fn needed(records: &[CellRecord], store: &[u8]) -> usize
     0
 }
 
-// The call on the first k records, where the words are lent too and have room for them. A refusal frees none.
+// The call on as many of the records as there are rows, which are lent too. A refusal frees none.
 #[inline(never)]
+#[tactic(auto, using(crate::proofs::Takes::takes))]
 fn take_in(
     queue: &RecvQueue,
     records: &mut [CellRecord],
-    words: &mut [u32],
-    k: usize,
+    rows: &mut [Row],
     store: &[u8],
     joined: &mut [u8],
 ) -> Result<Taken, Refusal>
-    requires needed { k ≡ take_needs (last_used records.old) (length records.old) (length store.now) }
-    requires room { row_words * k ≤ length words.old }
+    requires { length rows.old ≡ take_needs (last_used records.old) (length records.old) (length store.now) }
     ensures { take_result result records.new joined.new
         ≡ take_of queue.now records.old store.now joined.old }
 {
-    super::load(&records[..k], words);
-    let given = recv_lent::take_with(queue, words, k, records.len(), store, joined)?;
+    let k = rows.len();
+    super::load(&records[..k], rows);
+    let given = recv_take::take_rows(queue, rows, k, records.len(), store, joined)?;
     super::free_turn(&mut records[..k], given.turn);
     Ok(given.taken)
 }
 
+#[tactic(auto, using(crate::proofs::Takes::needs_few))]
 pub fn take(
     queue: &RecvQueue,
     records: &mut [CellRecord],
@@ -51,6 +53,6 @@ pub fn take(
         ≡ take_of queue.now records.old store.now joined.old }
 {
     let k = needed(records, store);
-    let mut call = |words: &mut [u32]| take_in(queue, records, words, k, store, joined);
-    super::with_words(k, &mut call)
+    let mut call = |rows: &mut [Row]| take_in(queue, records, rows, store, joined);
+    super::with_rows(k, &mut call)
 }

@@ -1,11 +1,12 @@
 -- Changes of the rows, as the code makes them, as changes of the slots.
 -- Assumes nothing.
 use Prim.Native.Nat.{ℕ, suc, ◌≤◌, ◌<◌}
-use mathlib.Core.Path.{◌≡◌, refl, sym, ◌∙◌, ap}
+use mathlib.Core.Path.{◌≡◌, refl, sym, ◌∙◌, ap, subst}
 use mathlib.Core.Bool.{false, true≢false}
 use mathlib.Core.List.{List, [], ◌∷◌, map}
 use native.Mathlib.Omega.{arith}
 use lib.Dec.{ltb}
+use Rattle.std.proofs.lemmas.List.{set_past}
 use lib.ListN.{length, take, drop, set, length-take, length-drop}
 use Rattle.base.specs.Lists.{any}
 use Rattle.base.proofs.Choices.{cases}
@@ -14,8 +15,7 @@ use Rattle.cells.specs.Cell.{Slot, Key, bears, is_free, put_slot, slot_of, turn_
 use Rattle.cells.specs.Records.{unused_at}
 use Rattle.cells.specs.Store.{cell_size}
 use Rattle.rows.specs.declared.Row.{Row}
-use Rattle.rows.specs.Rows.{row_count, rows_of, cell_of, cells_in, mark_row, change_rows}
-use Rattle.rows.proofs.Rows.{rows-length}
+use Rattle.rows.specs.Rows.{cell_of, cells_in, mark_row, change_rows}
 use Rattle.row_slots.specs.Slots.{slots_in}
 use Rattle.row_slots.proofs.Changes.{slots-put, slots-turned}
 use Rattle.row_slots.proofs.Fitting.{fit-frame, fit-set, fit-turned}
@@ -58,12 +58,15 @@ module _ (d : List ℕ) (p : Placed) (s : Stands d p) where
       short : length (frame_in d p).body ≤ cell_size
       short = let w = ok.within in rw body-long (omega arith)
 
--- As the code finds it.
-pub frame-put : (ws ws' : List ℕ) (p : Placed) (u t : ℕ) (r : Row) (i : ℕ) → ReadablePlaced p → 0 < u → r ≡ row_for p u t → i
-    ≡ unused_at (cells_in ws) → rows_of ws' ≡ set (rows_of ws) i r
-    → (d : List ℕ) → Stands d p → Changes d (put_slot (slot_of (frame_in d p) u t)) (rows_of ws) (rows_of ws')
-unfolding cells_in
-frame-put ws ws' p u t r i ok pos er ei e d s = put-changes d p s (rows_of ws) (rows_of ws') u t ok pos (e ∙ rw (er, ei))
+-- As the code finds it: the row is put where there is one.
+module _ (rs : List Row) (p : Placed) (u t : ℕ) {r : Row} {i : ℕ} (ok : ReadablePlaced p) (pos : 0 < u) (er : r ≡ row_for p u t)
+    (ei : i ≡ unused_at (cells_in rs)) where
+  pub frame_put : (d : List ℕ) → Stands d p → Changes d (put_slot (slot_of (frame_in d p) u t)) rs (set rs i r)
+  unfolding cells_in
+  frame_put d s = put-changes d p s rs (set rs i r) u t ok pos (rw (er, ei))
+
+  pub frame_left : length rs ≤ i → (d : List ℕ) → Stands d p → Changes d (put_slot (slot_of (frame_in d p) u t)) rs rs
+  frame_left ge d s = subst (Changes d (put_slot (slot_of (frame_in d p) u t)) rs) (set_past rs i r ge) (frame_put d s)
 
 -- ---- the rows of a message
 
@@ -83,8 +86,8 @@ put-none x [] e = refl
 put-none x (s ∷ l) e = cases (is_free s) (λ t. absurd (true≢false (rw t at e)))
     (λ t. rw t (ap (λ (m : List Slot). s ∷ m) (put-none x l (rw t at e))))
 
--- There is an unused slot exactly if the lowest-numbered unused row was one of the rows.
-pub room-is : (ws ws' : List ℕ) (i : ℕ) → i ≡ unused_at (cells_in ws) → length ws' ≡ length ws → (store d : List ℕ) → ltb i (row_count ws')
-    ≡ any is_free (slots_in (rows_of ws) store d)
+-- There is an unused slot exactly if the lowest-numbered unused row is one of the rows.
+pub room_is : (rs : List Row) (i : ℕ) → i ≡ unused_at (cells_in rs) → (store d : List ℕ)
+    → ltb i (length rs) ≡ any is_free (slots_in rs store d)
 unfolding cells_in
-room-is ws ws' i e long store d = rw (e, long, ← rows-length ws) (sym (room-below (rows_of ws) store d))
+room_is rs i e store d = rw e (sym (room-below rs store d))

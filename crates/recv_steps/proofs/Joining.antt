@@ -15,12 +15,12 @@ use Rattle.cells.specs.Cell.{Cell, open_as, bears, is_free, all_there, clash, pu
 use Rattle.cells.specs.Records.{clashes}
 use Rattle.cells.specs.Datagram.{drop_one, place, remember_in, fate_of, follows, joins, kept, piece}
 use Rattle.rows.specs.declared.Row.{Row}
-use Rattle.rows.specs.Rows.{rows_of, cell_of, cells_in, mark_row, change_rows}
+use Rattle.rows.specs.Rows.{cell_of, cells_in, mark_row, change_rows}
 use Rattle.row_slots.specs.Slots.{slots_in}
 use Rattle.row_slots.proofs.Tests.{piece-clash-rows}
 use Rattle.row_slots.proofs.Complete.{piece-complete}
+use Rattle.receiver.specs.declared.Nexts.{Nexts}
 use Rattle.receiver.specs.Receive.{frame_in}
-use Rattle.receiver.specs.Parts.{profile_for}
 use Rattle.recv_memory.specs.Remembered.{remembered}
 use Rattle.recv_steps.specs.declared.Tally.{Tally}
 use Rattle.recv_steps.specs.declared.Course.{Course}
@@ -35,7 +35,7 @@ use Rattle.recv_steps.proofs.Wholes.{put_full, found-by}
 
 -- ---- a joined message
 
-module _ (x : Tally) (ns : List ℕ) (rs rs' : List Row) (p : Placed) (r : Course) (h : (x : Tally) (a : ℕ → Bool) (store d : List ℕ)
+module _ (x : Tally) (ns : Nexts) (rs rs' : List Row) (p : Placed) (r : Course) (h : (x : Tally) (a : ℕ → Bool) (store d : List ℕ)
     → fate_is r ≡ fate_of (frame_in d p) (work_of a x ns rs store d)) {id : ℕ} (ei : id ≡ p.frame.meta.id) where
   placed : (u : ℕ) → 0 < u → rs' ≡ change_rows (bears (open_as id)) (mark_row u 0) rs → (d : List ℕ)
       → Moves d (λ w. place (turn_to (open_as (frame_in d p).id) u 0 w.state.slots) w) x ns rs x ns rs'
@@ -56,8 +56,8 @@ module _ (x : Tally) (ns : List ℕ) (rs rs' : List Row) (p : Placed) (r : Cours
   unfolding joins fate_is
   joins-early e q d = found-by x ns rs p r h joins Early e x ns rs' d (placed 2 (omega arith) q d)
 
-  module _ (y : Tally) (m₀ : (ns d : List ℕ) → Moves d (turn_ready id) x ns rs y ns rs') where
-    turned : (ns d : List ℕ) → Moves d (turn_ready p.frame.meta.id) x ns rs y ns rs'
+  module _ (y : Tally) (m₀ : (ns : Nexts) (d : List ℕ) → Moves d (turn_ready id) x ns rs y ns rs') where
+    turned : (ns : Nexts) (d : List ℕ) → Moves d (turn_ready p.frame.meta.id) x ns rs y ns rs'
     turned = rw ei at m₀
 
     pub joins-free : r ≡ Free → (d : List ℕ) → Moves d (by_fate joins (frame_in d p)) x ns rs y ns rs'
@@ -65,14 +65,14 @@ module _ (x : Tally) (ns : List ℕ) (rs rs' : List Row) (p : Placed) (r : Cours
     joins-free e d = found-by x ns rs p r h joins Free e y ns rs' d (turned ns d)
 
     pub joins-newer : r ≡ Newer → {n : ℕ} → Rises n ns → ReadablePlaced p → p.frame.channel < max_ord_chans
-        → (ns' : List ℕ) → ns' ≡ remembered (memory_of (profile_for ns) p.frame.kind p.frame.channel) p.frame.sequence ns → (d : List ℕ)
+        → (ns' : Nexts) → ns' ≡ remembered (memory_of ns.profile p.frame.kind p.frame.channel) p.frame.sequence ns → (d : List ℕ)
         → Moves d (by_fate joins (frame_in d p)) x ns rs y ns' rs'
     unfolding joins fate_is turn_ready frame_in remember_in
     joins-newer e rises fit lt ns' en d = found-by x ns rs p r h joins Newer e y ns' rs' d
         (moves-then d (remember_in (frame_in d p)) (turn_ready p.frame.meta.id) x x y ns ns' ns' rs rs rs'
         (rw en (moves-remember d x ns rs p rises.long lt fit.sequence)) (turned ns' d))
 
-    pub joins-due : r ≡ Due → {channel : ℕ} → channel ≡ p.frame.channel → (z : Tally) (ns' : List ℕ) (rs'' : List Row)
+    pub joins-due : r ≡ Due → {channel : ℕ} → channel ≡ p.frame.channel → (z : Tally) (ns' : Nexts) (rs'' : List Row)
         → ((d : List ℕ) → Moves d (follows channel) y ns rs' z ns' rs'') → (d : List ℕ) → Moves d (by_fate joins (frame_in d p)) x
         ns rs z ns' rs''
     unfolding joins fate_is turn_ready frame_in
@@ -81,38 +81,38 @@ module _ (x : Tally) (ns : List ℕ) (rs rs' : List Row) (p : Placed) (r : Cours
 
 -- An open message's slots become a ready one's.
 pub ready_turned : (x y : Tally) (rs rs' : List Row) (id : ℕ) → rs' ≡ change_rows (bears (open_as id)) (mark_row 3 x.turn) rs → y
-    ≡ made_one x → (ns d : List ℕ) → Moves d (turn_ready id) x ns rs y ns rs'
+    ≡ made_one x → (ns : Nexts) (d : List ℕ) → Moves d (turn_ready id) x ns rs y ns rs'
 unfolding turn_ready work_of
 ready_turned x y rs rs' id e ey ns d = let ch = turn-changes d (open_as id) 3 x.turn rs rs' (omega arith) e in
     rw ey (moves-made d x ns rs rs' (λ w. turn_to (open_as id) 3 w.turn w.state.slots) (λ a. ch.is) ch.fits)
 
 -- ---- a piece kept
 
-module _ (x : Tally) (ns ws : List ℕ) (p : Placed) {id : ℕ} (ei : id ≡ p.frame.meta.id) (n : ℕ) (en : n ≡ count_of (bears (open_as id)) (cells_in ws))
-    (d : List ℕ) (c : Counted d p (rows_of ws)) where
+module _ (x : Tally) (ns : Nexts) (rs : List Row) (p : Placed) {id : ℕ} (ei : id ≡ p.frame.meta.id) (n : ℕ)
+    (en : n ≡ count_of (bears (open_as id)) (cells_in rs)) (d : List ℕ) (c : Counted d p rs) where
   there : (a : ℕ → Bool) (store : List ℕ) (b : Bool) → eqb n p.frame.meta.count ≡ b → all_there (open_as (frame_in d p).id)
-      (work_of a x ns (rows_of ws) store d).state.slots (frame_in d p).count ≡ b
+      (work_of a x ns rs store d).state.slots (frame_in d p).count ≡ b
   unfolding frame_in work_of cells_in
   there a store b e = c store ∙ (rw (← ei, ← en) e)
 
-  pub kept-joins : n ≡ p.frame.meta.count → (y : Tally) (ns' : List ℕ) (rs' : List Row)
-      → ((d : List ℕ) → Moves d (by_fate joins (frame_in d p)) x ns (rows_of ws) y ns' rs') → Moves d (kept (frame_in d p)) x ns (rows_of ws) y
+  pub kept-joins : n ≡ p.frame.meta.count → (y : Tally) (ns' : Nexts) (rs' : List Row)
+      → ((d : List ℕ) → Moves d (by_fate joins (frame_in d p)) x ns rs y ns' rs') → Moves d (kept (frame_in d p)) x ns rs y
       ns' rs'
   unfolding kept by_fate
   kept-joins e y ns' rs' m = record {
     is = λ a store. (m d).is a store ∙ rw (there a store true (eq-eqb n p.frame.meta.count e));
     fits = (m d).fits;
-    profile = (m d).profile;
+    long = (m d).long;
   }
 
-  pub kept-waits : (n ≡ p.frame.meta.count → ⊥) → Moves d (kept (frame_in d p)) x ns (rows_of ws) x ns (rows_of ws)
+  pub kept-waits : (n ≡ p.frame.meta.count → ⊥) → Moves d (kept (frame_in d p)) x ns rs x ns rs
   unfolding kept
-  kept-waits ne = record { is = λ a store. rw (there a store false (ne_eqb n p.frame.meta.count ne)); fits = λ v. v; profile = refl }
+  kept-waits ne = record { is = λ a store. rw (there a store false (ne_eqb n p.frame.meta.count ne)); fits = λ v. v; long = refl }
 
 -- ---- step 3
 
 -- A piece put beside the open ones, where there is room.
-module _ (x : Tally) (ns : List ℕ) (rs rs' : List Row) (p : Placed) (room : Bool)
+module _ (x : Tally) (ns : Nexts) (rs rs' : List Row) (p : Placed) (room : Bool)
     (h : (store d : List ℕ) → room ≡ any is_free (slots_in rs store d))
     (ch : (d : List ℕ) → Stands d p → Changes d (put_slot (slot_of (frame_in d p) 1 0)) rs rs') where
   pub piece-full : room ≡ false → (y : Tally) → y ≡ filled_up x → (d : List ℕ) → Stands d p → Sane d rs → Beside d p rs
@@ -121,7 +121,7 @@ module _ (x : Tally) (ns : List ℕ) (rs rs' : List Row) (p : Placed) (room : Bo
   piece-full u y ey d s v c = put_full x rs rs' p 1 0 room h ch u
       (λ w. kept (frame_in d p) (place (put_slot (slot_of (frame_in d p) 1 0) w.state.slots) w)) y ey ns d s
 
-  pub piece-kept : room ≡ true → p.frame.piece ≡ true → Limited p → (y : Tally) (ns' : List ℕ) (rs'' : List Row)
+  pub piece-kept : room ≡ true → p.frame.piece ≡ true → Limited p → (y : Tally) (ns' : Nexts) (rs'' : List Row)
       → ((d : List ℕ) → Counted d p rs' → Moves d (kept (frame_in d p)) x ns rs' y ns' rs'')
       → (d : List ℕ) → Stands d p → Sane d rs → Beside d p rs → Moves d (put_piece (frame_in d p)) x ns rs y ns' rs''
   unfolding put_piece
@@ -135,32 +135,33 @@ module _ (x : Tally) (ns : List ℕ) (rs rs' : List Row) (p : Placed) (room : Bo
           (λ a. (ch d s).is) (ch d s).fits
 
       counted : Counted d p rs'
-      counted store = unfold frame_in in piece-complete (frame_in d p) (slots_in rs store d) rs' store d ((ch d s).is store) (v store) (lim d) e
-          (c store) (sym (h store d) ∙ u)
+      counted store = unfold frame_in in
+          piece-complete (frame_in d p) (slots_in rs store d) rs' store d ((ch d s).is store) (v store) (lim d) e (c store)
+          (sym (h store d) ∙ u)
 
 -- The test of step 3.
-module _ (x : Tally) (ns ws : List ℕ) (p : Placed) (e : p.frame.piece ≡ true) (row : Row) (er : row ≡ row_for p 1 0) (b : Bool)
-    (eb : b ≡ any (clashes (cell_of row)) (cells_in ws)) where
-  clashing : (d : List ℕ) → Stands d p → (store : List ℕ) → any (clash (frame_in d p)) (slots_in (rows_of ws) store d) ≡ b
+module _ (x : Tally) (ns : Nexts) (rs : List Row) (p : Placed) (e : p.frame.piece ≡ true) (row : Row) (er : row ≡ row_for p 1 0) (b : Bool)
+    (eb : b ≡ any (clashes (cell_of row)) (cells_in rs)) where
+  clashing : (d : List ℕ) → Stands d p → (store : List ℕ) → any (clash (frame_in d p)) (slots_in rs store d) ≡ b
   unfolding cells_in
   clashing d s store =
-      piece-clash-rows (rows_of ws) store d (frame_in d p) (unfold frame_in in e)
-      ∙ (ap (λ (c : Cell). any (clashes c) (map cell_of (rows_of ws))) (sym (row-cell d p s 1 0) ∙ ap cell_of (sym er)) ∙ sym eb)
+      piece-clash-rows rs store d (frame_in d p) (unfold frame_in in e)
+      ∙ (ap (λ (c : Cell). any (clashes c) (map cell_of rs)) (sym (row-cell d p s 1 0) ∙ ap cell_of (sym er)) ∙ sym eb)
 
-  pub piece-drops : b ≡ true → (y : Tally) → y ≡ dropped_one x → (d : List ℕ) → Stands d p → Sane d (rows_of ws)
-      → Moves d (piece (frame_in d p)) x ns (rows_of ws) y ns (rows_of ws)
+  pub piece-drops : b ≡ true → (y : Tally) → y ≡ dropped_one x → (d : List ℕ) → Stands d p → Sane d rs
+      → Moves d (piece (frame_in d p)) x ns rs y ns rs
   unfolding piece work_of
   piece-drops t y ey d s v = rw ey (record {
-    is = λ a store. (moves-drop d x ns (rows_of ws)).is a store ∙ rw (clashing d s store ∙ t);
+    is = λ a store. (moves-drop d x ns rs).is a store ∙ rw (clashing d s store ∙ t);
     fits = λ z. z;
-    profile = refl;
+    long = refl;
   })
 
-  pub piece-puts : b ≡ false → (y : Tally) (ns' : List ℕ) (rs' : List Row)
-      → ((d : List ℕ) → Stands d p → Sane d (rows_of ws) → Beside d p (rows_of ws) → Moves d (put_piece (frame_in d p)) x ns (rows_of ws) y ns'
+  pub piece-puts : b ≡ false → (y : Tally) (ns' : Nexts) (rs' : List Row)
+      → ((d : List ℕ) → Stands d p → Sane d rs → Beside d p rs → Moves d (put_piece (frame_in d p)) x ns rs y ns'
       rs')
-      → (d : List ℕ) → Stands d p → Sane d (rows_of ws) → Moves d (piece (frame_in d p)) x ns (rows_of ws) y ns' rs'
+      → (d : List ℕ) → Stands d p → Sane d rs → Moves d (piece (frame_in d p)) x ns rs y ns' rs'
   unfolding piece put_piece work_of
   piece-puts t y ns' rs' m d s v =
       let n = m d s v (λ store. clashing d s store ∙ t) in
-      record { is = λ a store. n.is a store ∙ rw (clashing d s store ∙ t); fits = n.fits; profile = n.profile }
+      record { is = λ a store. n.is a store ∙ rw (clashing d s store ∙ t); fits = n.fits; long = n.long }

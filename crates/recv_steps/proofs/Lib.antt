@@ -9,8 +9,7 @@ pub mod Stepping
 pub mod Numbering
 pub mod Passing
 pub mod Flushing
-pub mod Clearing
-pub mod Receiving
 pub mod Beginning
+pub mod Receiving
 pub mod ReceivingAccepted
 pub mod ReceivingRows

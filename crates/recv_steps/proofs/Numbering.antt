@@ -8,7 +8,6 @@ use mathlib.Core.List.{List, ◌∷◌}
 use native.Mathlib.Omega.{arith}
 use lib.Dec.{eqb}
 use borrow.Author.Tests.{lt-ltb, le-ltb}
-use Rattle.std.specs.Prelude.{Ok}
 use Rattle.base.specs.declared.refusal.Refusal.{Refusal}
 use Rattle.base.specs.declared.refusal.Refusal.TheVariants as refusal
 use Rattle.base.specs.Refusals.{number_of}
@@ -18,13 +17,14 @@ use Rattle.base.proofs.Choices.{cases}
 use Rattle.window.specs.declared.ReliableWindow.{ReliableWindow}
 use Rattle.window.specs.Proper.{Sized}
 use Rattle.window.specs.Window as Window
-use Rattle.window.specs.Window.{window_of, Insertion, insert_of, inserted_in, give, refuse}
+use Rattle.window.specs.Window.{Insertion, insert_of, give, refuse}
 use Rattle.window.proofs.Inserts.{insert-ways, accept-accepts}
 use Rattle.frame.specs.declared.Placed.{Placed}
 use Rattle.bare.specs.Frame.{Frame, carries_reliable}
 use Rattle.bare.specs.Bare.{accept_reliable, seen_before}
 use Rattle.cells.specs.Datagram.{Work, accept_in, frame}
 use Rattle.rows.specs.declared.Row.{Row}
+use Rattle.receiver.specs.declared.Nexts.{Nexts}
 use Rattle.receiver.specs.Receive.{frame_in, accept_all}
 use Rattle.recv_steps.specs.declared.Tally.{Tally}
 use Rattle.recv_steps.specs.CountChanges.{dropped_one}
@@ -32,17 +32,6 @@ use Rattle.recv_steps.specs.Work.{work_of}
 use Rattle.recv_steps.specs.Moves.{Moves, limited}
 use Rattle.recv_steps.specs.Frames.{number_in}
 use Rattle.recv_steps.proofs.Moving.{moves-drop}
-
--- As the code finds it.
-module _ (low : ℕ) (bits : List ℕ) (p : Placed) (b : Bool) (e : b ≡ carries_reliable p.frame.kind) where
-  pub number-carried : b ≡ true → {i : Insertion} → i ≡ insert_of (window_of low bits) p.frame.reliable → i ≡ number_in (window_of low bits)
-      p
-  unfolding number_in
-  number-carried t q = rw (sym e ∙ t) q
-
-  pub number-plain : b ≡ false → inserted_in low (Ok low) bits ≡ number_in (window_of low bits) p
-  unfolding number_in
-  number-plain t = rw (sym e ∙ t)
 
 -- The other refusals have other numbers.
 pub five-beyond : (r : Refusal) → number_of r ≡ 5 → r ≡ refusal.Beyond
@@ -98,7 +87,8 @@ module _ (w : ReliableWindow) (p : Placed) (small : p.frame.reliable < numbers24
 
   number-seen : (n : ℕ) (v : ReliableWindow) → (n ≡ 5 → ⊥) → refuse n v ≡ number_in w p → Seen v
   unfolding Seen
-  number-seen n v ne = ways (λ i. refuse n v ≡ i → (v ≡ w) × (carries_reliable p.frame.kind ≡ true) × (Window.accepted w p.frame.reliable ≡ true))
+  number-seen n v ne = ways (λ i. refuse n v ≡ i → (v ≡ w) × (carries_reliable p.frame.kind ≡ true)
+      × (Window.accepted w p.frame.reliable ≡ true))
       (λ c e. given-refused w v n (sym e))
       (λ c a near e. given-refused _ v n (sym e))
       (λ c a e. (ap (λ (i : Insertion). i.window) e, c, a))
@@ -128,7 +118,7 @@ module _ (w : ReliableWindow) (p : Placed) (small : p.frame.reliable < numbers24
       unfolding accept_all frame_in Seen
       number-skips n v ne e = let s = number-seen n v ne e in rw (s.0, s.1, s.2)
 
-    module _ (x : Tally) (ns : List ℕ) (rs : List Row) where
+    module _ (x : Tally) (ns : Nexts) (rs : List Row) where
       abbrev before : List ℕ → Work
       before store = work_of (Window.accepted w) x ns rs store d
 
@@ -139,14 +129,14 @@ module _ (w : ReliableWindow) (p : Placed) (small : p.frame.reliable < numbers24
       number-drops n v ne e store = let s = number-seen n v ne e in
           rw (s.0, s.1, s.2) ((moves-drop d x ns rs).is (Window.accepted w) store)
 
-      module _ (y : Tally) (ns' : List ℕ) (rs' : List Row) (places : Sized w) where
+      module _ (y : Tally) (ns' : Nexts) (rs' : List Row) (places : carries_reliable p.frame.kind ≡ true → Sized w) where
         -- The working state once the number is accepted.
         taken : carries_reliable p.frame.kind ≡ true → Window.accepted w p.frame.reliable ≡ false → p.frame.reliable ≤ w.low +
             window_places → (store : List ℕ)
             → work_of (Window.accepted (Window.accept w p.frame.reliable)) x ns rs store d ≡ accept_in (frame_in d p) (before store)
         unfolding accept_in
         taken c a near store = unfold work_of in ap (λ (k : ℕ → Bool). work_of k x ns rs store d)
-            (λ i m. (accept-accepts w p.frame.reliable m places a near ∙ joined m) i)
+            (λ i m. (accept-accepts w p.frame.reliable m (places c) a near ∙ joined m) i)
           where
             joined : (m : ℕ) → (eqb m p.frame.reliable || Window.accepted w m) ≡ accept_reliable (frame_in d p) (Window.accepted w) m
             joined m = unfold accept_reliable frame_in in rw c

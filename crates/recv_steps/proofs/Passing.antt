@@ -15,34 +15,36 @@ use Rattle.base.specs.declared.refusal.Refusal.{Refusal}
 use Rattle.base.specs.declared.refusal.Refusal.TheVariants.{Beyond, ReliableBeyond}
 use Rattle.base.specs.Refusals.{number_of, answer}
 use Rattle.base.specs.Bytes.{Bytes}
-use Rattle.base.specs.Limits.{numbers24, max_ord_chans, many_nexts, max_cells, min_datagram, max_datagram}
+use Rattle.base.specs.Limits.{numbers24, max_ord_chans, max_cells, min_datagram, max_datagram}
 use Rattle.reliability.specs.declared.Profile.{Profile}
 use Rattle.window.specs.Proper.{Sized}
-use Rattle.window.specs.Window.{window_of, accepted, give, refuse}
+use Rattle.window.specs.declared.ReliableWindow.{ReliableWindow}
+use Rattle.window.specs.Window.{accepted, give, refuse}
 use Rattle.frame.specs.declared.Placed.{Placed}
 use Rattle.frame.specs.Read.{read_frame_of}
 use Rattle.frame.specs.Frames.{frames_of, end_of}
 use Rattle.frame.proofs.Bounds.{read_small}
 use Rattle.frame.proofs.Reading.{read_whole}
 use Rattle.frame.proofs.FramesOf.{frames-more, end_more, frames-cut, end-cut}
-use Rattle.bare.specs.Frame.{Frame}
+use Rattle.bare.specs.Frame.{Frame, carries_reliable}
+use mathlib.Core.Bool.{true}
 use Rattle.cells.specs.Datagram.{Work, frame, frames}
 use Rattle.cells.specs.Sound as sound
 use Rattle.cells.proofs.Growing.{Grows, frame-grows}
 use Rattle.cells.proofs.SoundCascade.{Sound}
 use Rattle.cells.proofs.SoundFrames.{frames-sound}
-use Rattle.rows.specs.Rows.{row_count, rows_of}
-use Rattle.rows.proofs.Rows.{rows-length}
+use Rattle.rows.specs.declared.Row.{Row}
 use Rattle.row_slots.specs.Slots.{slots_in, AllFit}
 use Rattle.row_slots.proofs.Meaning.{slots-in-length}
-use Rattle.receiver.specs.Parts.{next_at, profile_at, profile_for}
-use Rattle.receiver.proofs.ByParts.{next_past}
+use Rattle.receiver.specs.declared.Nexts.{Nexts}
+use Rattle.receiver.specs.Parts.{next_at}
+use Rattle.receiver.proofs.NextsSet.{next_past}
 use Rattle.receiver.specs.Receive.{frame_in, frames_in, accept_all, bytes_left}
 use Rattle.recv_steps.specs.declared.Tally.{Tally}
 use Rattle.recv_steps.specs.Work.{work_of}
-use Rattle.recv_steps.specs.CountChanges.{dropped_one, CanCount, Rises}
+use Rattle.recv_steps.specs.CountChanges.{dropped_one}
 use Rattle.recv_steps.specs.Placing.{Stands, ReadablePlaced}
-use Rattle.recv_steps.specs.Moves.{Moves, Sane, limited}
+use Rattle.recv_steps.specs.Moves.{MayStep, Moves, Sane, limited}
 use Rattle.recv_steps.specs.Frames.{number_in, Begun, begun_tally, Ran}
 use Rattle.recv_steps.proofs.Numbering.{five-beyond, number-beyond, number-goes, number-skips, number-drops, number-keeps}
 
@@ -79,33 +81,33 @@ abbrev high : ℕ → ℕ
 high at = max_cells + at * (max_cells + 1)
 
 -- the working state
-abbrev work : ℕ → List ℕ → List ℕ → List ℕ → Tally → List ℕ → List ℕ → Work
-work low bits ns ws x store d = work_of (accepted (window_of low bits)) x ns (rows_of ws) store d
+abbrev work : ReliableWindow → Nexts → List Row → Tally → List ℕ → List ℕ → Work
+work v ns rs x store d = work_of (accepted v) x ns rs store d
 
 -- What is left to do gives what was to be done at first.
-pub record Going (f : Profile) (low₀ : ℕ) (bits₀ ns₀ ws₀ : List ℕ) (turn₀ : ℕ) (d : List ℕ) (low : ℕ) (bits ns ws : List ℕ) (x : Tally) (at : ℕ) : Type 0
+pub record Going (f : Profile) (w₀ : ReliableWindow) (ns₀ : Nexts) (rs₀ : List Row) (turn₀ : ℕ) (d : List ℕ)
+    (v : ReliableWindow) (ns : Nexts) (rs : List Row) (x : Tally) (at : ℕ) : Type 0
   where
-    pub begun : Begun low₀ bits₀ ns₀ (rows_of ws₀) turn₀ d
+    pub begun : Begun w₀ ns₀ rs₀ turn₀ d
     pub bytes : Bytes d
-    pub long : length ws ≡ length ws₀
+    pub long : length rs ≡ length rs₀
     pub here : at ≤ max_datagram
-    pub is : (store : List ℕ) → frames (work low bits ns ws x store d) (map (frame_in d) (frames_of f d at))
-        ≡ frames (work low₀ bits₀ ns₀ ws₀ (begun_tally turn₀) store d) (frames_in (profile_for ns₀) d)
-    pub fits : AllFit d (rows_of ws)
-    pub sound : (store : List ℕ) → Sound (next_at ns) (slots_in (rows_of ws) store d) x.turn
-    pub reaches : accept_all (window_of low bits) (map (frame_in d) (frames_of f d at)) ≡ accept_all (window_of low₀ bits₀) (frames_in (profile_for ns₀) d)
-    pub end : end_of (profile_for ns₀) d min_datagram ≡ end_of f d at
-    pub places : Sized (window_of low bits)
-    pub nexts : length ns ≡ many_nexts
-    pub profile : profile_at ns ≡ profile_at ns₀
+    pub is : (store : List ℕ) → frames (work v ns rs x store d) (map (frame_in d) (frames_of f d at))
+        ≡ frames (work w₀ ns₀ rs₀ (begun_tally turn₀) store d) (frames_in ns₀.profile d)
+    pub fits : AllFit d rs
+    pub sound : (store : List ℕ) → Sound (next_at ns) (slots_in rs store d) x.turn
+    pub reaches : accept_all v (map (frame_in d) (frames_of f d at))
+        ≡ accept_all w₀ (frames_in ns₀.profile d)
+    pub end : end_of ns₀.profile d min_datagram ≡ end_of f d at
+    pub nexts : length ns.channels ≡ max_ord_chans
     pub turn : x.turn ≤ high at
     pub ready : x.ready ≤ high at
     pub dropped : x.dropped ≤ high at
 
-pub going-begins : (f : Profile) (low : ℕ) (bits ns ws : List ℕ) (turn₀ : ℕ) (d : List ℕ) → f ≡ profile_for ns
-    → Begun low bits ns (rows_of ws) turn₀ d → Bytes d → Going f low bits ns ws turn₀ d low bits ns ws (begun_tally turn₀) min_datagram
+pub going-begins : (f : Profile) (u : ReliableWindow) (ns : Nexts) (rs : List Row) (turn₀ : ℕ) (d : List ℕ) → f ≡ ns.profile
+    → Begun u ns rs turn₀ d → Bytes d → Going f u ns rs turn₀ d u ns rs (begun_tally turn₀) min_datagram
 unfolding frames_in
-going-begins f low bits ns ws turn₀ d e v by = record {
+going-begins f u ns rs turn₀ d e v by = record {
   begun = v;
   bytes = by;
   long = refl;
@@ -115,16 +117,14 @@ going-begins f low bits ns ws turn₀ d e v by = record {
   sound = v.sound;
   reaches = rw e;
   end = rw e;
-  places = v.places;
   nexts = v.nexts;
-  profile = refl;
   turn = let p = v.first in omega arith;
   ready = omega arith;
   dropped = omega arith;
 }
 
-module _ (f : Profile) (low₀ : ℕ) (bits₀ ns₀ ws₀ : List ℕ) (turn₀ : ℕ) (d : List ℕ) (low : ℕ) (bits ns ws : List ℕ) (x : Tally) (at : ℕ)
-    (g : Going f low₀ bits₀ ns₀ ws₀ turn₀ d low bits ns ws x at) where
+module _ (f : Profile) (w₀ : ReliableWindow) (ns₀ : Nexts) (rs₀ : List Row) (turn₀ : ℕ) (d : List ℕ)
+    (v : ReliableWindow) (ns : Nexts) (rs : List Row) (x : Tally) (at : ℕ) (g : Going f w₀ ns₀ rs₀ turn₀ d v ns rs x at) where
   -- What the next frame asks for.
   next_small : (c : ℕ) → next_at ns c ≤ numbers24
   next_small c = go (dec_lt c max_ord_chans)
@@ -134,22 +134,20 @@ module _ (f : Profile) (low₀ : ℕ) (bits₀ ns₀ ws₀ : List ℕ) (turn₀ 
       go (no ge) = subst (λ (z : ℕ). z ≤ numbers24) (sym past) (omega arith)
         where
           past : next_at ns c ≡ 0
-          past = next_past ns c (omega arith)
+          past = next_past ns g.nexts c (omega arith)
 
-  pub going-counts : CanCount (max_cells + 2) x
-  going-counts = let h = g.here in record {
-    turn = let p = g.turn in omega arith;
-    ready = let p = g.ready in omega arith;
-    dropped = let p = g.dropped in omega arith;
+  pub may-step : MayStep rs ns x
+  may-step = record {
+    few = rw g.long g.begun.few;
+    counts = let h = g.here in record {
+      turn = let p = g.turn in omega arith;
+      ready = let p = g.ready in omega arith;
+      dropped = let p = g.dropped in omega arith;
+    };
+    nexts = record { long = g.nexts; next = λ c. let p = next_small c in omega arith };
   }
 
-  pub going-rises : Rises (max_cells + 1) ns
-  going-rises = record { long = g.nexts; next = λ c. let p = next_small c in omega arith }
-
-  pub going-few : row_count ws ≤ max_cells
-  going-few = let a = g.begun.few in let b = rows-length ws₀ in let e = g.long in rw e (omega arith)
-
-  going-sane : Sane d (rows_of ws)
+  going-sane : Sane d rs
   going-sane store = (g.sound store).core
 
   module _ (r : Result (Placed × ℕ) Refusal) (er : answer r ≡ read_frame_of f d at) where
@@ -170,28 +168,28 @@ module _ (f : Profile) (low₀ : ℕ) (bits₀ ns₀ ws₀ : List ℕ) (turn₀ 
       going_less = let w = read_whole f d at p next read in omega arith
 
       -- The number is beyond reach.
-      pub going-stops : (bits' : List ℕ) → refuse 5 (window_of low bits') ≡ number_in (window_of low bits) p → (bits'' ns'' ws'' : List ℕ)
-          → Ran low₀ bits₀ ns₀ (rows_of ws₀) turn₀ d (Err ReliableBeyond) bits'' ns'' (rows_of ws'')
+      pub going-stops : (v' : ReliableWindow) → refuse 5 v' ≡ number_in v p
+          → (v'' : ReliableWindow) (ns'' : Nexts) (rs'' : List Row) → Ran w₀ ns₀ rs₀ turn₀ d (Err ReliableBeyond) v'' ns'' rs''
       unfolding Ran
-      going-stops bits' e bits'' ns'' ws'' = (
+      going-stops v' e v'' ns'' rs'' = (
         refl,
-        sym g.reaches ∙ (ap (accept_all (window_of low bits)) more
-            ∙ number-beyond (window_of low bits) p going-readable.reliable d (rest f d next) (window_of low bits') e),
+        sym g.reaches ∙ (ap (accept_all v) more
+            ∙ number-beyond v p going-readable.reliable d (rest f d next) v' e),
       )
 
       -- The frame is worked on, whatever comes of it.
-      module _ (low' : ℕ) (bits' : List ℕ) (wide : length bits' ≡ length bits) (y : Tally) (ns' ws' : List ℕ) (long : length ws' ≡ length ws)
-          (many : length ns' ≡ length ns)
-          (one : (store : List ℕ) → work low' bits' ns' ws' y store d ≡ frame (work low bits ns ws x store d) (frame_in d p))
-          (goes : accept_all (window_of low bits) (frame_in d p ∷ rest f d next) ≡ accept_all (window_of low' bits') (rest f d next))
-          (fits' : AllFit d (rows_of ws')) (same : profile_at ns' ≡ profile_at ns) where
-        first : (store : List ℕ) → frames (frame (work low bits ns ws x store d) (frame_in d p)) (rest f d next)
-            ≡ frames (work low bits ns ws x store d) (rest f d at)
+      module _ (v' : ReliableWindow) (y : Tally) (ns' : Nexts) (rs' : List Row)
+          (long : length rs' ≡ length rs) (many : length ns'.channels ≡ length ns.channels)
+          (one : (store : List ℕ) → work v' ns' rs' y store d ≡ frame (work v ns rs x store d) (frame_in d p))
+          (goes : accept_all v (frame_in d p ∷ rest f d next) ≡ accept_all v' (rest f d next))
+          (fits' : AllFit d rs') where
+        first : (store : List ℕ) → frames (frame (work v ns rs x store d) (frame_in d p)) (rest f d next)
+            ≡ frames (work v ns rs x store d) (rest f d at)
         first store = unfold frames in rw more
 
-        after : (store : List ℕ) → Sound (next_at ns') (slots_in (rows_of ws') store d) y.turn
+        after : (store : List ℕ) → Sound (next_at ns') (slots_in rs' store d) y.turn
         after store = unfold work_of in subst (λ (w : Work). Sound w.state.next w.state.slots w.turn) (sym (one store))
-            (unfold frames in frames-sound (frame_in d p ∷ []) (work low bits ns ws x store d) ok (unfold work_of in g.sound store))
+            (unfold frames in frames-sound (frame_in d p ∷ []) (work v ns rs x store d) ok (unfold work_of in g.sound store))
           where
             ok : (z : Frame) → Memᴰ z (frame_in d p ∷ []) → sound.Readable z
             ok z m = here (Memᴰ.cases_cons m)
@@ -200,13 +198,12 @@ module _ (f : Profile) (low₀ : ℕ) (bits₀ ns₀ ws₀ : List ℕ) (turn₀ 
                 here (inl i) = subst sound.Readable (sym i) (read_ok f d g.bytes g.begun.short at p next read)
                 here (inr m) = absurd (Memᴰ.not-nil m)
 
-        grown : Grows (1 + max_cells) (work low bits ns ws x [] d) (work low' bits' ns' ws' y [] d)
-        grown = subst (Grows (1 + max_cells) (work low bits ns ws x [] d)) (sym (one []))
-            (frame-grows max_cells (frame_in d p) (work low bits ns ws x [] d) few)
+        grown : Grows (1 + max_cells) (work v ns rs x [] d) (work v' ns' rs' y [] d)
+        grown = subst (Grows (1 + max_cells) (work v ns rs x [] d)) (sym (one []))
+            (frame-grows max_cells (frame_in d p) (work v ns rs x [] d) few)
           where
-            few : length (work low bits ns ws x [] d).state.slots ≤ max_cells
-            few = unfold work_of in (let a = slots-in-length (rows_of ws) [] d in let b = rows-length ws in let c = going-few in
-                omega arith)
+            few : length (work v ns rs x [] d).state.slots ≤ max_cells
+            few = unfold work_of in (omega (arith, slots-in-length rs [] d, may-step.few))
 
         turned : y.turn ≤ x.turn + (1 + max_cells)
         turned = unfold work_of in grown.turn
@@ -220,7 +217,7 @@ module _ (f : Profile) (low₀ : ℕ) (bits₀ ns₀ ws₀ : List ℕ) (turn₀ 
         raised : (k : Tally → ℕ) → k y ≤ k x + (1 + max_cells) → k x ≤ high at → k y ≤ high next
         raised k a b = let w = read_whole f d at p next read in let l : at + 1 ≤ next = omega arith in omega arith
 
-        going-goes : Going f low₀ bits₀ ns₀ ws₀ turn₀ d low' bits' ns' ws' y next
+        going-goes : Going f w₀ ns₀ rs₀ turn₀ d v' ns' rs' y next
         going-goes = record {
           begun = g.begun;
           bytes = g.bytes;
@@ -229,59 +226,57 @@ module _ (f : Profile) (low₀ : ℕ) (bits₀ ns₀ ws₀ : List ℕ) (turn₀ 
           is = λ store. ap (λ (w : Work). frames w (rest f d next)) (one store) ∙ (first store ∙ g.is store);
           fits = fits';
           sound = after;
-          reaches = sym goes ∙ (ap (accept_all (window_of low bits)) (sym more) ∙ g.reaches);
+          reaches = sym goes ∙ (ap (accept_all v) (sym more) ∙ g.reaches);
           end = g.end ∙ end_more f d at p next read;
-          places = wide ∙ g.places;
           nexts = many ∙ g.nexts;
-          profile = same ∙ g.profile;
           turn = raised (λ (z : Tally). z.turn) turned g.turn;
           ready = raised (λ (z : Tally). z.ready) readied g.ready;
           dropped = raised (λ (z : Tally). z.dropped) lost g.dropped;
         }
 
       -- It carries no number, or its number was accepted.
-      pub going-keeps : (low' : ℕ) (bits' : List ℕ) → length bits' ≡ length bits
-          → give (window_of low' bits') ≡ number_in (window_of low bits) p → (y : Tally) (ns' ws' : List ℕ) → length ws' ≡ length ws
-          → length ns' ≡ length ns
-          → ((d : List ℕ) → Stands d p → Sane d (rows_of ws) → Moves d (limited (frame_in d p)) x ns (rows_of ws) y ns' (rows_of ws'))
-          → Going f low₀ bits₀ ns₀ ws₀ turn₀ d low' bits' ns' ws' y next
-      going-keeps low' bits' wide e y ns' ws' long many steps =
+      pub going-keeps : (v' : ReliableWindow) → (carries_reliable p.frame.kind ≡ true → Sized v) → give v' ≡ number_in v p
+          → (y : Tally) (ns' : Nexts) (rs' : List Row)
+          → length rs' ≡ length rs
+          → ((d : List ℕ) → Stands d p → Sane d rs → Moves d (limited (frame_in d p)) x ns rs y ns' rs')
+          → Going f w₀ ns₀ rs₀ turn₀ d v' ns' rs' y next
+      going-keeps v' sized e y ns' rs' long steps =
           let m = steps d going-stands going-sane in
-          going-goes low' bits' wide y ns' ws' long many
-          (number-keeps (window_of low bits) p going-readable.reliable d x ns (rows_of ws) y ns' (rows_of ws') g.places (window_of low' bits') m e)
-          (number-goes (window_of low bits) p going-readable.reliable d (rest f d next) (window_of low' bits') e)
-          (m.fits g.fits) m.profile
+          going-goes v' y ns' rs' long m.long
+          (number-keeps v p going-readable.reliable d x ns rs y ns' rs' sized v' m e)
+          (number-goes v p going-readable.reliable d (rest f d next) v' e)
+          (m.fits g.fits)
 
       -- Its number was accepted before.
-      pub going-drops : (n : Refusal) → (n ≡ Beyond → ⊥) → (bits' : List ℕ) → length bits' ≡ length bits
-          → refuse (number_of n) (window_of low bits') ≡ number_in (window_of low bits) p → (y : Tally) → y ≡ dropped_one x
-          → Going f low₀ bits₀ ns₀ ws₀ turn₀ d low bits' ns ws y next
-      going-drops n ne bits' wide e y ey =
-          rw ey (going-goes low bits' wide (dropped_one x) ns ws refl refl
-          (number-drops (window_of low bits) p going-readable.reliable d x ns (rows_of ws) (number_of n) (window_of low bits')
+      pub going-drops : (n : Refusal) → (n ≡ Beyond → ⊥) → (v' : ReliableWindow)
+          → refuse (number_of n) v' ≡ number_in v p → (y : Tally) → y ≡ dropped_one x
+          → Going f w₀ ns₀ rs₀ turn₀ d v' ns rs y next
+      going-drops n ne v' e y ey =
+          rw ey (going-goes v' (dropped_one x) ns rs refl refl
+          (number-drops v p going-readable.reliable d x ns rs (number_of n) v'
           (λ z. ne (five-beyond n z)) e)
-          (number-skips (window_of low bits) p going-readable.reliable d (rest f d next) (number_of n) (window_of low bits')
+          (number-skips v p going-readable.reliable d (rest f d next) (number_of n) v'
           (λ z. ne (five-beyond n z)) e)
-          g.fits refl)
+          g.fits)
 
     pub going-ends : (n : Refusal) → r ≡ Err n → (left : ℕ) → left ≡ length d - at
-        → Ran low₀ bits₀ ns₀ (rows_of ws₀) turn₀ d (Ok (record { low = low; counts = x; left = left })) bits ns (rows_of ws)
+        → Ran w₀ ns₀ rs₀ turn₀ d (Ok (record { counts = x; left = left })) v ns rs
     unfolding Ran
     going-ends n q left e = record {
-      is = λ store. done store ∙ (ap (frames (work low bits ns ws x store d)) (sym none_left) ∙ g.is store);
+      is = λ store. done store ∙ (ap (frames (work v ns rs x store d)) (sym none_left) ∙ g.is store);
       fits = g.fits;
-      reaches = sym g.reaches ∙ (ap (accept_all (window_of low bits)) none_left ∙ taken);
+      reaches = sym g.reaches ∙ (ap (accept_all v) none_left ∙ taken);
       end = e ∙ (unfold bytes_left in rw (g.end, end-cut f d at (number_of n) cut));
-      profile = g.profile;
+      nexts = g.nexts;
     }
       where
         cut : read_frame_of f d at ≡ refused (number_of n)
         cut = sym er ∙ ap answer q
 
-        done : (store : List ℕ) → work low bits ns ws x store d ≡ frames (work low bits ns ws x store d) []
+        done : (store : List ℕ) → work v ns rs x store d ≡ frames (work v ns rs x store d) []
         done store = unfold frames in refl
 
-        taken : accept_all (window_of low bits) [] ≡ some (window_of low bits)
+        taken : accept_all v [] ≡ some v
         taken = unfold accept_all in refl
 
         none_left : map (frame_in d) (frames_of f d at) ≡ []

@@ -1,7 +1,8 @@
 -- Changes of counts and nexts alone: a frame dropped, room run out, a message made ready, a channel's next raised.
-use Rattle.std.specs.Prelude.{ℕ, ◌+◌, ◌^◌, ◌<◌, ◌≡◌, true, List, set, length}
-use Rattle.base.specs.Limits.{many_nexts}
-use Rattle.receiver.specs.Parts.{next_place, next_at}
+use Rattle.std.specs.Prelude.{ℕ, ◌+◌, ◌^◌, ◌<◌, ◌≡◌, true, length}
+use Rattle.base.specs.Limits.{max_ord_chans}
+use Rattle.receiver.specs.declared.Nexts.{Nexts}
+use Rattle.receiver.specs.Parts.{next_at, with_next}
 use Rattle.recv_steps.specs.declared.Tally.{Tally}
 
 unfoldable pub dropped_one : Tally → Tally
@@ -13,8 +14,8 @@ filled_up x = record { turn = x.turn; ready = x.ready; dropped = x.dropped; full
 unfoldable pub made_one : Tally → Tally
 made_one x = record { turn = x.turn + 1; ready = x.ready + 1; dropped = x.dropped; full = x.full }
 
-unfoldable pub risen : ℕ → List ℕ → List ℕ
-risen c ns = set ns (next_place c) (next_at ns c + 1)
+abbrev pub risen : ℕ → Nexts → Nexts
+risen c ns = with_next c (next_at ns c + 1) ns
 
 -- n more messages can be made ready or dropped, and no number wraps
 pub record CanCount (n : ℕ) (x : Tally) : Type 0 where
@@ -22,7 +23,7 @@ pub record CanCount (n : ℕ) (x : Tally) : Type 0 where
   pub ready : x.ready + n < 2 ^ 32
   pub dropped : x.dropped + n < 2 ^ 32
 
--- there is a next for each channel, and the memories, and each next can rise by n
-pub record Rises (n : ℕ) (ns : List ℕ) : Type 0 where
-  pub long : length ns ≡ many_nexts
+-- there is a next for each channel, and each can rise by n
+pub record Rises (n : ℕ) (ns : Nexts) : Type 0 where
+  pub long : length ns.channels ≡ max_ord_chans
   pub next : (c : ℕ) → next_at ns c + n < 2 ^ 32

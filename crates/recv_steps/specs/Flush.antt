@@ -3,10 +3,9 @@ use Rattle.std.specs.Prelude.{ℕ, ◌*◌, ◌-◌, cond, List, map, take, drop
 use Rattle.base.specs.Put.{put}
 use Rattle.cells.specs.Store.{cell_size}
 use Rattle.rows.specs.declared.Row.{Row}
-use Rattle.rows.specs.Rows.{cell_of, blank_row, change_row}
+use Rattle.rows.specs.Rows.{cell_of, stored_row, blank_row, change_row}
 use Rattle.row_tests.specs.Uses.{uses}
 use Rattle.row_slots.specs.Slots.{is_placed}
-use Rattle.row_slots.specs.First.{stored_row}
 use Rattle.cells.specs.Cell.{released_use}
 
 -- the store once the body of row i was copied, if the row has one in the datagram

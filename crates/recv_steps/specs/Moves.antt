@@ -1,31 +1,40 @@
 -- What a function over counts, nexts and rows does to the working state, whatever the store's bytes.
-use Rattle.std.specs.Prelude.{ℕ, ◌≡◌, Bool, false, cond, List, map, eqb}
+use Rattle.std.specs.Prelude.{ℕ, ◌+◌, ◌≤◌, ◌≡◌, Bool, false, cond, List, map, length, eqb}
+use Rattle.base.specs.Limits.{max_cells}
 use Rattle.base.specs.Lists.{any, count_of}
 use Rattle.frame.specs.declared.Placed.{Placed}
 use Rattle.bare.specs.Frame.{Frame, in_limits}
 use Rattle.cells.specs.Cell.{Slot, open_as, bears, all_there, clash, put_slot, slot_of, turn_to, open_use, ready_use}
 use Rattle.cells.specs.Datagram.{Work, Fate, fate_of, drop_one, place, made, roomy, kept, keep_in}
 use Rattle.cells.proofs.SoundCore.{Core}
-use Rattle.receiver.specs.Parts.{profile_at}
+use Rattle.receiver.specs.declared.Nexts.{Nexts}
 use Rattle.receiver.specs.Receive.{frame_in}
 use Rattle.rows.specs.declared.Row.{Row}
 use Rattle.rows.specs.Rows.{cell_of}
 use Rattle.row_slots.specs.Slots.{slots_in, AllFit}
 use Rattle.recv_steps.specs.declared.Tally.{Tally}
 use Rattle.recv_steps.specs.Work.{work_of}
+use Rattle.recv_steps.specs.CountChanges.{CanCount, Rises}
 
 -- the rows rs become rs': their slots are changed by g, and they still fit
 pub record Changes (d : List ℕ) (g : List Slot → List Slot) (rs rs' : List Row) : Type 0 where
   pub is : (store : List ℕ) → slots_in rs' store d ≡ g (slots_in rs store d)
   pub fits : AllFit d rs → AllFit d rs'
 
--- x, ns and rs become y, ns' and rs': the working state is changed by g, whatever numbers were accepted, the rows still fit, and the profile
--- stays
-pub record Moves (d : List ℕ) (g : Work → Work) (x : Tally) (ns : List ℕ) (rs : List Row) (y : Tally) (ns' : List ℕ) (rs' : List Row) : Type
-    0 where
+-- x, ns and rs become y, ns' and rs': the working state is changed by g, whatever numbers were accepted, the rows still fit, and
+-- the channels are as many
+pub record Moves (d : List ℕ) (g : Work → Work) (x : Tally) (ns : Nexts) (rs : List Row) (y : Tally) (ns' : Nexts) (rs' : List Row)
+    : Type 0 where
   pub is : (a : ℕ → Bool) (store : List ℕ) → work_of a y ns' rs' store d ≡ g (work_of a x ns rs store d)
   pub fits : AllFit d rs → AllFit d rs'
-  pub profile : profile_at ns' ≡ profile_at ns
+  pub long : length ns'.channels ≡ length ns.channels
+
+-- what steps 2 to 4 ask of the rows rs, the nexts ns and the counts x: not more rows than cells, and no number wraps, even if all held
+-- messages follow
+pub record MayStep (rs : List Row) (ns : Nexts) (x : Tally) : Type 0 where
+  pub few : length rs ≤ max_cells
+  pub counts : CanCount (max_cells + 2) x
+  pub nexts : Rises (max_cells + 1) ns
 
 -- a piece's message has all indices exactly if it has as many records as the piece says
 abbrev pub Counted : List ℕ → Placed → List Row → Type 0

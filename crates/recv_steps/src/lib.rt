@@ -3,8 +3,8 @@
 
 #![tactic(auto)]
 
-ghost use Rattle.std.specs.Prelude.{◌≡◌, Bool, ◌+◌, ◌<◌, ◌^◌, ℕ, length, List};
-ghost use Rattle.base.specs.Limits.{max_ord_chans, many_nexts};
+ghost use Rattle.std.specs.Prelude.{◌≡◌, Bool, ◌+◌, ◌<◌, ◌^◌, ℕ, List};
+ghost use Rattle.base.specs.Limits.{max_ord_chans};
 ghost use Rattle.recv_steps.specs.declared.Tally.{Tally};
 ghost use Rattle.recv_steps.specs.Work.{work_of, fate_is};
 ghost use Rattle.recv_steps.specs.CountChanges.{dropped_one, filled_up, made_one, risen};
@@ -12,7 +12,6 @@ ghost use Rattle.base.specs.Lists.{any};
 ghost use Rattle.bare.specs.Frame.{in_limits};
 ghost use Rattle.cells.specs.Cell.{is_free, put_slot, slot_of};
 ghost use Rattle.cells.specs.Datagram.{fate_of};
-ghost use Rattle.rows.specs.Rows.{rows_of};
 ghost use Rattle.row_slots.specs.Slots.{slots_in};
 ghost use Rattle.receiver.specs.Receive.{frame_in};
 ghost use Rattle.receiver.specs.Parts.{next_at};
@@ -20,7 +19,8 @@ ghost use Rattle.recv_steps.specs.Placing.{row_for, Stands, ReadablePlaced};
 ghost use Rattle.recv_steps.specs.Moves.{Changes};
 
 use frame::Placed;
-use rows::{ROW, Row};
+use receiver::Nexts;
+use rows::Row;
 
 mod steps;
 
@@ -32,14 +32,6 @@ pub struct Received {
     pub ready: u32,
     pub dropped: u32,
     pub left: usize,
-}
-
-// What receive on rows gives: low of the window of reliable numbers, and whether the unsent numbers ascend.
-#[derive(Clone, Copy, Debug, PartialEq, Eq)]
-pub struct PassedRows {
-    pub received: Received,
-    pub low: u32,
-    pub ascending: bool,
 }
 
 // What a datagram's frames count. turn: that of the next message made ready. full: a body found no cell.
@@ -83,10 +75,9 @@ impl Tally {
     }
 }
 
-// What the frames come to, all worked on: the window's low, the counts and the bytes left.
+// What the frames come to, all worked on: the counts and the bytes left.
 #[derive(Clone, Copy)]
 struct Framed {
-    low: u32,
     counts: Tally,
     left: usize,
 }
@@ -102,25 +93,23 @@ enum Course {
     Free,
 }
 
-// ---- nexts
+// ---- nexts (`as usize`: u32 has no From to it)
 
-fn next_of(nexts: &[u32], channel: u32) -> u32
-    requires channel_lt_max_ord_chans { channel < max_ord_chans }
-    requires nexts_len { length nexts.now ≡ many_nexts }
+#[tactic(auto, unfolding(receiver::specs::Parts::next_at, receiver::specs::Queue::next_in))]
+fn next_of(nexts: &Nexts, channel: u32) -> u32
+    requires { channel < max_ord_chans }
     ensures { result ≡ next_at nexts.now channel }
 {
-    nexts[2 * channel as usize]
+    nexts.channels[channel as usize].next
 }
 
-#[tactic(auto, unfolding(crate::specs::CountChanges::risen))]
-fn rise(nexts: &mut [u32], channel: u32)
+#[tactic(auto, unfolding(receiver::specs::Parts::next_at, receiver::specs::Parts::with_next, receiver::specs::Queue::next_in))]
+fn rise(nexts: &mut Nexts, channel: u32)
     requires channel_lt_max_ord_chans { channel < max_ord_chans }
-    requires nexts_len { length nexts.old ≡ many_nexts }
     requires channel_bound { next_at nexts.old channel + 1 < 2 ^ 32 }
     ensures { nexts.new ≡ risen channel nexts.old }
 {
-    let n = next_of(nexts, channel);
-    nexts[2 * channel as usize] = n + 1;
+    nexts.channels[channel as usize].next += 1;
 }
 
 // ---- a frame
@@ -135,6 +124,8 @@ fn in_limits(placed: Placed) -> bool
     (f.channel < base::MAX_ORD_CHANS) & (!f.piece | few)
 }
 
+// The frame's row. (`as u32`: a datagram has at most 1,500 bytes.)
+#[tactic(auto, unfolding(crate::specs::Placing::row_for))]
 fn row_of(placed: Placed, used: u32, turn: u32) -> Row
     requires { ReadablePlaced placed }
     ensures { result ≡ row_for placed used turn }
@@ -163,25 +154,28 @@ fn row_of(placed: Placed, used: u32, turn: u32) -> Row
 // ---- the rows
 
 // The frame's row takes the place of the lowest-numbered unused one; false where there is none.
-fn put_frame(words: &mut [u32], placed: Placed, used: u32, turn: u32) -> bool
+#[tactic(auto, using(crate::proofs::Changing::frame_put, crate::proofs::Changing::frame_left, crate::proofs::Changing::room_is))]
+fn put_frame(rows: &mut [Row], placed: Placed, used: u32, turn: u32) -> bool
     requires readable_placed { ReadablePlaced placed }
     requires used_nonzero { 0 < used }
-    ensures room { (store d : List ℕ) → result ≡ any is_free (slots_in (rows_of words.old) store d) }
+    ensures room { (store d : List ℕ) → result ≡ any is_free (slots_in rows.old store d) }
     ensures put { (d : List ℕ) → Stands d placed → Changes d (put_slot (slot_of (frame_in d placed) used turn))
-        (rows_of words.old) (rows_of words.new) }
+        rows.old rows.new }
 {
     let row = row_of(placed, used, turn);
-    let i = row_scans::first_unused(words);
-    rows::put_row(words, i, row);
-    i < words.len() / ROW
+    let i = row_scans::first_unused(rows);
+    let room = i < rows.len();
+    if room {
+        rows[i] = row;
+    }
+    room
 }
 
 // Step 4: what is to be done with the frame's message.
-fn fate_of(words: &[u32], nexts: &[u32], placed: Placed) -> Course
-    requires channel_lt_max_ord_chans { placed.frame.channel < max_ord_chans }
-    requires nexts_len { length nexts.now ≡ many_nexts }
+fn fate_of(rows: &[Row], nexts: &Nexts, placed: Placed) -> Course
+    requires { placed.frame.channel < max_ord_chans }
     ensures { (x : Tally) (a : ℕ → Bool) (store d : List ℕ) → fate_is result
-        ≡ fate_of (frame_in d placed) (work_of a x nexts.now (rows_of words.now) store d) }
+        ≡ fate_of (frame_in d placed) (work_of a x nexts.now rows.now store d) }
 {
     let f = placed.frame;
     match f.kind {
@@ -192,7 +186,7 @@ fn fate_of(words: &[u32], nexts: &[u32], placed: Placed) -> Course
             if f.order < next {
                 return Course::Late;
             }
-            if row_scans::any_held(words, channel, f.order) {
+            if row_scans::any_held(rows, channel, f.order) {
                 return Course::Late;
             }
             if f.order == next {

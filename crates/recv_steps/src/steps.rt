@@ -1,34 +1,35 @@
 // Step 4: whole frames, and the held messages that follow. Step 3: pieces, and messages joined from them.
-ghost use Rattle.std.specs.Prelude.{◌≡◌, List, ℕ, ◌+◌, ◌<◌, ◌≤◌, true};
+ghost use Rattle.std.specs.Prelude.{◌≡◌, List, ℕ, ◌+◌, ◌<◌, ◌≤◌, true, length};
 ghost use Rattle.base.specs.Limits.{max_ord_chans, max_cells};
 ghost use Rattle.cells.specs.Datagram.{early, due, free};
-ghost use Rattle.rows.specs.Rows.{row_count, rows_of};
+ghost use Rattle.receiver.specs.declared.Nexts.{Nexts};
 ghost use Rattle.receiver.specs.Receive.{frame_in};
 ghost use Rattle.recv_steps.specs.CountChanges.{made_one, CanCount, Rises};
 ghost use Rattle.recv_steps.specs.Placing.{Stands, ReadablePlaced, Limited};
-ghost use Rattle.recv_steps.specs.Moves.{Moves, by_fate, Counted, Sane, Beside, put_piece, turn_ready, limited};
+ghost use Rattle.recv_steps.specs.Moves.{MayStep, Moves, by_fate, Counted, Sane, Beside, put_piece, turn_ready, limited};
 ghost use Rattle.cells.specs.Datagram as Datagram;
 
 use super::{Course, Tally};
 use frame::Placed;
-use rows::ROW;
+use receiver::Nexts;
+use rows::Row;
 
 pub mod datagram;
 
 // The channel's next rises by one, and the held messages follow. The sweep that makes one ready finds whether it is held.
-fn follows(words: &mut [u32], nexts: &mut [u32], s: Tally, channel: u32) -> Tally
+fn follows(rows: &mut [Row], nexts: &mut Nexts, s: Tally, channel: u32) -> Tally
     requires channel_lt_max_ord_chans { channel < max_ord_chans }
-    requires words_bound { row_count words.old ≤ max_cells }
+    requires rows_bound { length rows.old ≤ max_cells }
     requires can_count { CanCount (max_cells + 1) s }
     requires rises { Rises (max_cells + 1) nexts.old }
-    ensures { (d : List ℕ) → Moves d (Datagram.follows channel) s nexts.old (rows_of words.old)
-        result nexts.new (rows_of words.new) }
+    ensures { (d : List ℕ) → Moves d (Datagram.follows channel) s nexts.old rows.old
+        result nexts.new rows.new }
 {
     super::rise(nexts, channel);
     let mut t = s;
-    for _ in 0..words.len() / ROW {
+    for _ in 0..rows.len() {
         let next = super::next_of(nexts, channel);
-        if !row_sweeps::turn_held(words, channel, next, t.turn) {
+        if !row_sweeps::turn_held(rows, channel, next, t.turn) {
             return t;
         }
         super::rise(nexts, channel);
@@ -38,182 +39,168 @@ fn follows(words: &mut [u32], nexts: &mut [u32], s: Tally, channel: u32) -> Tall
 }
 
 // A whole frame of an early message is held.
-fn hold(words: &mut [u32], s: Tally, placed: Placed) -> Tally
+fn hold(rows: &mut [Row], s: Tally, placed: Placed) -> Tally
     requires { ReadablePlaced placed }
-    ensures { (ns d : List ℕ) → Stands d placed → Moves d (Datagram.whole early (frame_in d placed)) s ns
-        (rows_of words.old) result ns (rows_of words.new) }
+    ensures { (ns : Nexts) (d : List ℕ) → Stands d placed → Moves d (Datagram.whole early (frame_in d placed)) s ns
+        rows.old result ns rows.new }
 {
-    if super::put_frame(words, placed, cells::HELD, 0) {
+    if super::put_frame(rows, placed, cells::HELD, 0) {
         return s;
     }
     s.fill_up()
 }
 
 // A whole frame is made ready that no other follows.
-fn ready(words: &mut [u32], s: Tally, placed: Placed) -> Tally
+fn ready(rows: &mut [Row], s: Tally, placed: Placed) -> Tally
     requires readable_placed { ReadablePlaced placed }
     requires can_count { CanCount 1 s }
-    ensures { (ns d : List ℕ) → Stands d placed → Moves d (Datagram.whole free (frame_in d placed)) s ns
-        (rows_of words.old) result ns (rows_of words.new) }
+    ensures { (ns : Nexts) (d : List ℕ) → Stands d placed → Moves d (Datagram.whole free (frame_in d placed)) s ns
+        rows.old result ns rows.new }
 {
-    if super::put_frame(words, placed, cells::READY, s.turn) {
+    if super::put_frame(rows, placed, cells::READY, s.turn) {
         return s.make_one();
     }
     s.fill_up()
 }
 
 // A whole frame of the channel's next message is made ready, and the held ones follow.
-fn ready_due(words: &mut [u32], nexts: &mut [u32], s: Tally, placed: Placed) -> Tally
+fn ready_due(rows: &mut [Row], nexts: &mut Nexts, s: Tally, placed: Placed) -> Tally
     requires readable_placed { ReadablePlaced placed }
     requires channel_lt_max_ord_chans { placed.frame.channel < max_ord_chans }
-    requires words_bound { row_count words.old ≤ max_cells }
-    requires can_count { CanCount (max_cells + 2) s }
-    requires rises { Rises (max_cells + 1) nexts.old }
+    requires may_step { MayStep rows.old nexts.old s }
     ensures { (d : List ℕ) → Stands d placed → Moves d (Datagram.whole due (frame_in d placed))
-        s nexts.old (rows_of words.old) result nexts.new (rows_of words.new) }
+        s nexts.old rows.old result nexts.new rows.new }
 {
-    if super::put_frame(words, placed, cells::READY, s.turn) {
+    if super::put_frame(rows, placed, cells::READY, s.turn) {
         let t = s.make_one();
-        return follows(words, nexts, t, placed.frame.channel.into());
+        return follows(rows, nexts, t, placed.frame.channel.into());
     }
     s.fill_up()
 }
 
 // A whole frame is a message at once.
-fn whole(words: &mut [u32], nexts: &mut [u32], s: Tally, placed: Placed) -> Tally
+fn whole(rows: &mut [Row], nexts: &mut Nexts, s: Tally, placed: Placed) -> Tally
     requires readable_placed { ReadablePlaced placed }
     requires channel_lt_max_ord_chans { placed.frame.channel < max_ord_chans }
-    requires words_bound { row_count words.old ≤ max_cells }
-    requires can_count { CanCount (max_cells + 2) s }
-    requires rises { Rises (max_cells + 1) nexts.old }
+    requires may_step { MayStep rows.old nexts.old s }
     ensures { (d : List ℕ) → Stands d placed → Moves d (by_fate Datagram.whole (frame_in d placed))
-        s nexts.old (rows_of words.old) result nexts.new (rows_of words.new) }
+        s nexts.old rows.old result nexts.new rows.new }
 {
-    match super::fate_of(words, nexts, placed) {
+    match super::fate_of(rows, nexts, placed) {
         Course::Late => s.drop_one(),
-        Course::Early => hold(words, s, placed),
-        Course::Due => ready_due(words, nexts, s, placed),
+        Course::Early => hold(rows, s, placed),
+        Course::Due => ready_due(rows, nexts, s, placed),
         Course::Newer => {
             let f = placed.frame;
             recv_memory::remember(nexts, f.kind, f.channel, f.sequence);
-            ready(words, s, placed)
+            ready(rows, s, placed)
         }
-        Course::Free => ready(words, s, placed),
+        Course::Free => ready(rows, s, placed),
     }
 }
 
 // The cells of the open message of this id become a ready one's.
-fn turn_ready(words: &mut [u32], s: Tally, id: u32) -> Tally
+fn turn_ready(rows: &mut [Row], s: Tally, id: u32) -> Tally
     requires { CanCount 1 s }
     ensures own { result ≡ made_one s }
-    ensures is { (ns d : List ℕ) → Moves d (turn_ready id) s ns (rows_of words.old) result ns (rows_of words.new) }
+    ensures is { (ns : Nexts) (d : List ℕ) → Moves d (turn_ready id) s ns rows.old result ns rows.new }
 {
-    row_sweeps::turn_open(words, id, cells::READY, s.turn);
+    row_sweeps::turn_open(rows, id, cells::READY, s.turn);
     s.make_one()
 }
 
 // A joined message's cells are there already.
-fn joins(words: &mut [u32], nexts: &mut [u32], s: Tally, placed: Placed) -> Tally
+fn joins(rows: &mut [Row], nexts: &mut Nexts, s: Tally, placed: Placed) -> Tally
     requires readable_placed { ReadablePlaced placed }
     requires channel_lt_max_ord_chans { placed.frame.channel < max_ord_chans }
-    requires words_bound { row_count words.old ≤ max_cells }
-    requires can_count { CanCount (max_cells + 2) s }
-    requires rises { Rises (max_cells + 1) nexts.old }
-    ensures { (d : List ℕ) → Moves d (by_fate Datagram.joins (frame_in d placed)) s nexts.old (rows_of words.old)
-        result nexts.new (rows_of words.new) }
+    requires may_step { MayStep rows.old nexts.old s }
+    ensures { (d : List ℕ) → Moves d (by_fate Datagram.joins (frame_in d placed)) s nexts.old rows.old
+        result nexts.new rows.new }
 {
     let id = placed.frame.meta.id.into();
-    match super::fate_of(words, nexts, placed) {
+    match super::fate_of(rows, nexts, placed) {
         Course::Late => {
-            row_sweeps::turn_open(words, id, cells::RELEASED, 0);
+            row_sweeps::turn_open(rows, id, cells::RELEASED, 0);
             s.drop_one()
         }
         Course::Early => {
-            row_sweeps::turn_open(words, id, cells::HELD, 0);
+            row_sweeps::turn_open(rows, id, cells::HELD, 0);
             s
         }
         Course::Due => {
-            let t = turn_ready(words, s, id);
-            follows(words, nexts, t, placed.frame.channel.into())
+            let t = turn_ready(rows, s, id);
+            follows(rows, nexts, t, placed.frame.channel.into())
         }
         Course::Newer => {
             let f = placed.frame;
             recv_memory::remember(nexts, f.kind, f.channel, f.sequence);
-            turn_ready(words, s, id)
+            turn_ready(rows, s, id)
         }
-        Course::Free => turn_ready(words, s, id),
+        Course::Free => turn_ready(rows, s, id),
     }
 }
 
-// A piece was kept: where all indices are there, they are one message.
-fn kept(words: &mut [u32], nexts: &mut [u32], s: Tally, placed: Placed) -> Tally
+// A piece was kept: where all indices are there, they are one message. (`as usize`: u32 has no From to it.)
+fn kept(rows: &mut [Row], nexts: &mut Nexts, s: Tally, placed: Placed) -> Tally
     requires readable_placed { ReadablePlaced placed }
     requires channel_lt_max_ord_chans { placed.frame.channel < max_ord_chans }
-    requires words_bound { row_count words.old ≤ max_cells }
-    requires can_count { CanCount (max_cells + 2) s }
-    requires rises { Rises (max_cells + 1) nexts.old }
-    ensures { (d : List ℕ) → Counted d placed (rows_of words.old) → Moves d (Datagram.kept (frame_in d placed))
-        s nexts.old (rows_of words.old) result nexts.new (rows_of words.new) }
+    requires may_step { MayStep rows.old nexts.old s }
+    ensures { (d : List ℕ) → Counted d placed rows.old → Moves d (Datagram.kept (frame_in d placed))
+        s nexts.old rows.old result nexts.new rows.new }
 {
     let m = placed.frame.meta;
-    let n = row_scans::count_open(words, m.id.into());
+    let n = row_scans::count_open(rows, m.id.into());
     if n == m.count as usize {
-        return joins(words, nexts, s, placed);
+        return joins(rows, nexts, s, placed);
     }
     s
 }
 
 // A piece that may be kept beside the open ones is put, where there is room.
-fn put_piece(words: &mut [u32], nexts: &mut [u32], s: Tally, placed: Placed) -> Tally
+fn put_piece(rows: &mut [Row], nexts: &mut Nexts, s: Tally, placed: Placed) -> Tally
     requires readable_placed { ReadablePlaced placed }
     requires piece_value { placed.frame.piece ≡ true }
     requires channel_lt_max_ord_chans { placed.frame.channel < max_ord_chans }
     requires limited { Limited placed }
-    requires words_bound { row_count words.old ≤ max_cells }
-    requires can_count { CanCount (max_cells + 2) s }
-    requires rises { Rises (max_cells + 1) nexts.old }
-    ensures { (d : List ℕ) → Stands d placed → Sane d (rows_of words.old) → Beside d placed (rows_of words.old)
-        → Moves d (put_piece (frame_in d placed)) s nexts.old (rows_of words.old)
-        result nexts.new (rows_of words.new) }
+    requires may_step { MayStep rows.old nexts.old s }
+    ensures { (d : List ℕ) → Stands d placed → Sane d rows.old → Beside d placed rows.old
+        → Moves d (put_piece (frame_in d placed)) s nexts.old rows.old
+        result nexts.new rows.new }
 {
-    if super::put_frame(words, placed, cells::OPEN, 0) {
-        return kept(words, nexts, s, placed);
+    if super::put_frame(rows, placed, cells::OPEN, 0) {
+        return kept(rows, nexts, s, placed);
     }
     s.fill_up()
 }
 
 // Step 3, for a piece within the limits.
-fn piece(words: &mut [u32], nexts: &mut [u32], s: Tally, placed: Placed) -> Tally
+fn piece(rows: &mut [Row], nexts: &mut Nexts, s: Tally, placed: Placed) -> Tally
     requires readable_placed { ReadablePlaced placed }
     requires piece_value { placed.frame.piece ≡ true }
     requires limited { Limited placed }
-    requires words_bound { row_count words.old ≤ max_cells }
-    requires can_count { CanCount (max_cells + 2) s }
-    requires rises { Rises (max_cells + 1) nexts.old }
-    ensures { (d : List ℕ) → Stands d placed → Sane d (rows_of words.old) → Moves d (Datagram.piece (frame_in d placed))
-        s nexts.old (rows_of words.old) result nexts.new (rows_of words.new) }
+    requires may_step { MayStep rows.old nexts.old s }
+    ensures { (d : List ℕ) → Stands d placed → Sane d rows.old → Moves d (Datagram.piece (frame_in d placed))
+        s nexts.old rows.old result nexts.new rows.new }
 {
     let row = super::row_of(placed, cells::OPEN, 0);
-    if row_scans::any_clash(words, row) {
+    if row_scans::any_clash(rows, &row) {
         return s.drop_one();
     }
-    put_piece(words, nexts, s, placed)
+    put_piece(rows, nexts, s, placed)
 }
 
 // Steps 2 to 4, for a frame whose reliable number was accepted.
-fn keep_in(words: &mut [u32], nexts: &mut [u32], s: Tally, placed: Placed) -> Tally
+fn keep_in(rows: &mut [Row], nexts: &mut Nexts, s: Tally, placed: Placed) -> Tally
     requires readable_placed { ReadablePlaced placed }
-    requires words_bound { row_count words.old ≤ max_cells }
-    requires can_count { CanCount (max_cells + 2) s }
-    requires rises { Rises (max_cells + 1) nexts.old }
-    ensures { (d : List ℕ) → Stands d placed → Sane d (rows_of words.old) → Moves d (limited (frame_in d placed))
-        s nexts.old (rows_of words.old) result nexts.new (rows_of words.new) }
+    requires may_step { MayStep rows.old nexts.old s }
+    ensures { (d : List ℕ) → Stands d placed → Sane d rows.old → Moves d (limited (frame_in d placed))
+        s nexts.old rows.old result nexts.new rows.new }
 {
     if super::in_limits(placed) {
         if placed.frame.piece {
-            return piece(words, nexts, s, placed);
+            return piece(rows, nexts, s, placed);
         }
-        return whole(words, nexts, s, placed);
+        return whole(rows, nexts, s, placed);
     }
     s.drop_one()
 }

@@ -8,7 +8,7 @@ use mathlib.Core.List.Memᴰ
 use mathlib.Core.List.{List, [], Memᴰ}
 use native.Mathlib.Omega.{arith}
 use lib.Dec.{eqb}
-use lib.ListN.{length}
+use lib.ListN.{length, get_or}
 use borrow.Author.Tests.{eq-eqb, ltb-true}
 use Rattle.std.specs.Prelude.{Result, Err}
 use Rattle.std.specs.Result.{is_ok}
@@ -31,22 +31,21 @@ use Rattle.cells.proofs.SoundTest.{sound-rest}
 use Rattle.cells.proofs.Store.{cells-slots}
 use Rattle.cells.proofs.Takes.{earliest-below}
 use Rattle.cells.proofs.TurnOrder.{earliest-ready}
-use Rattle.rows.specs.Rows.{row_count, cells_in}
-use Rattle.rows.proofs.Rows.{cells-length}
+use Rattle.rows.specs.Rows.{cells_in}
+use Rattle.rows.proofs.Rows.{cells-length, row_here}
 use Rattle.rows.specs.declared.Row.{Row}
-use Rattle.rows.specs.Whole.{whole_row}
 use Rattle.row_scans.specs.Ready.{first_ready}
 use Rattle.row_scans.proofs.Ready.{index-there, ready-is, ready-none}
 use Rattle.sound_queue.specs.Sound.{queue_sound_of}
 use Rattle.sound_queue.proofs.Rules.{told_is_ok}
 use Rattle.receiver.specs.declared.RecvQueue.{RecvQueue}
-use Rattle.receiver.specs.Queue.{next_of, sound_queue}
+use Rattle.receiver.specs.Queue.{next_in, next_of}
 use Rattle.receiver.specs.Receive.{sound_call}
 use Rattle.receiver.specs.Take.{take_refuses, take_of}
 use Rattle.receiver.proofs.Receives.{store_is, cells-sound}
 use Rattle.recv_take.specs.Outcome.{RowsTaken, taken_rows, outcome_at, earliest_turn}
 use Rattle.recv_take.specs.Pieces.{piece_at, PieceFits, Takeable, take_turn}
-use Rattle.recv_take.proofs.Turns.{ready-used, first-turn}
+use Rattle.recv_take.proofs.Turns.{ready-used, first_turn}
 
 -- The least turn, over slots.
 pub slots-earliest : (cs : List Cell) (st : List ℕ) → earliest (slots_of cs st) ≡ earliest_cell cs
@@ -117,7 +116,7 @@ module _ (q : RecvQueue) (cs : List Cell) (st : List ℕ) (s : sound_call q cs s
       ap (any (at (ready_as t) 0)) (sym (cells-slots cs st)) ∙ (any_cells (at (ready_as t) 0) (slots_of cs st) ∙ there)
 
   -- So it may be taken.
-  takeable : (t : ℕ) → earliest_cell cs ≡ some t → Takeable t cs st
+  pub takeable : (t : ℕ) → earliest_cell cs ≡ some t → Takeable t cs st
   unfolding cell_size
   takeable t e = record { first = first-there t e; within = piece-within t; store = (let n = store_is q cs st s in omega arith) }
 
@@ -130,66 +129,66 @@ module _ (q : RecvQueue) (cs : List Cell) (st : List ℕ) (s : sound_call q cs s
 
 -- ---- the tests that come first
 
-module _ (q : RecvQueue) (ws st : List ℕ) {fit : Bool} (e : fit ≡ lengths (row_count ws) (length st)) where
-  pub lengths-not : fit ≡ false → false ≡ sound_call q (cells_in ws) st
+module _ (q : RecvQueue) (rows : List Row) (st : List ℕ) where
+  pub lengths_not : false ≡ lengths (length rows) (length st) → sound_call q (cells_in rows) st ≡ false
   unfolding sound_call
-  lengths-not f = rw (cells-length ws, ← e, f)
+  lengths_not e = rw (cells-length rows, ← e)
 
-  module _ (f : fit ≡ true) (r : Result Bool Refusal) (g : r ≡ queue_sound_of q) (b : Bool) (h : b ≡ is_ok r) where
-    pub queue-not : b ≡ false → b ≡ sound_call q (cells_in ws) st
+  -- r is what the test of the receiver's own values told.
+  module _ (fit : true ≡ lengths (length rows) (length st)) (r : Result Bool Refusal) (told : r ≡ queue_sound_of q) where
+    pub queue_not : is_ok r ≡ false → sound_call q (cells_in rows) st ≡ false
     unfolding sound_call
-    queue-not k = rw (cells-length ws, ← e, f, ← told_is_ok q r g, ← h, k)
+    queue_not e = rw (cells-length rows, ← fit, ← told_is_ok q r told, e)
 
-    pub cells-decide : b ≡ true → (s : Bool) → s ≡ sound_cells (cells_in ws) (next_of q) → s ≡ sound_call q (cells_in ws) st
-    unfolding sound_call
-    cells-decide k s i = rw (cells-length ws, ← e, f, ← told_is_ok q r g, ← h, k) i
+    pub cells_decide : is_ok r ≡ true → sound_call q (cells_in rows) st ≡ sound_cells (cells_in rows) (next_in q.channels)
+    unfolding sound_call next_of
+    cells_decide e = rw (cells-length rows, ← fit, ← told_is_ok q r told, e)
+
+pub ruleset tests = (lengths_not, queue_not, cells_decide)
 
 -- ---- the code's three ways
 
-module _ (q : RecvQueue) (cs : List Cell) (st buffer : List ℕ) {b : Bool} (is : b ≡ sound_call q cs st) where
-  pub took-9 : b ≡ false → taken_rows (Err NotSound) buffer ≡ outcome_at (earliest_turn cs) (take_of q cs st buffer)
-  unfolding taken_rows outcome_at take_of
-  took-9 f = ap (outcome_at (earliest_turn cs)) (true-no _ _ _ _ (sym is ∙ f) refl)
-
--- i is where the scan ended.
-module _ (q : RecvQueue) (ws st buffer : List ℕ) {b : Bool} (is : b ≡ sound_call q (cells_in ws) st) (f : b ≡ true) (i : ℕ)
-    (found : i ≡ first_ready (cells_in ws)) where
+module _ (q : RecvQueue) (rows : List Row) (st buffer : List ℕ) where
   abbrev cs : List Cell
-  cs = cells_in ws
+  cs = cells_in rows
 
-  pub took-20 : row_count ws ≤ i → taken_rows (Err NoneReady) buffer ≡ outcome_at (earliest_turn cs)
-      (take_of q cs st buffer)
+  pub took_9 : sound_call q cs st ≡ false → taken_rows (Err NotSound) buffer ≡ outcome_at (earliest_turn cs) (take_of q cs st buffer)
   unfolding taken_rows outcome_at take_of
-  took-20 le = ap (outcome_at (earliest_turn cs)) given
-    where
-      none-ready : earliest_cell cs ≡ none
-      none-ready = case_option (earliest_cell cs) (λ e. e) (λ t e.
-          let l = index-there (at (ready_as t) 0) cs (takeable q cs st (sym is ∙ f) t e).first in
-          let h = first-is q cs st (sym is ∙ f) t e in
-          let n = cells-length ws in
-          absurd (omega arith))
+  took_9 f = ap (outcome_at (earliest_turn cs)) (true-no _ _ _ _ f refl)
 
-      given : take_refuses cs buffer 20 ≡ take_of q cs st buffer
-      given = rw (slots-earliest cs st, none-ready) (true-yes _ _ _ _ (sym is ∙ f) refl)
+  -- i is where the scan ended.
+  module _ (sound : sound_call q cs st ≡ true) (i : ℕ) (found : i ≡ first_ready cs) where
+    pub took_20 : length rows ≤ i → taken_rows (Err NoneReady) buffer ≡ outcome_at (earliest_turn cs) (take_of q cs st buffer)
+    unfolding taken_rows outcome_at take_of
+    took_20 le = ap (outcome_at (earliest_turn cs)) given
+      where
+        none-ready : earliest_cell cs ≡ none
+        none-ready = case_option (earliest_cell cs) (λ e. e) (λ t e.
+            let l = index-there (at (ready_as t) 0) cs (takeable q cs st sound t e).first in
+            let h = first-is q cs st sound t e in
+            let n = cells-length rows in
+            absurd (omega arith))
 
-  -- r is the row found.
-  module _ (l : i < row_count ws) (r : Row) (row : r ≡ whole_row ws i) where
-    earliest-here : earliest_cell cs ≡ some r.turn
-    earliest-here = case_option (earliest_cell cs)
-        (λ e. let h = first_past q cs st (sym is ∙ f) e in let n = cells-length ws in absurd (omega arith))
-        (λ t e. e ∙ ap some (sym (first-turn t ws st [] i r (takeable q cs st (sym is ∙ f) t e) (found ∙ first-is q cs st (sym is ∙ f) t e)
-        row)))
+        given : take_refuses cs buffer 20 ≡ take_of q cs st buffer
+        given = rw (slots-earliest cs st, none-ready) (true-yes _ _ _ _ sound refl)
 
-    pub first-here : i ≡ index_of (at (ready_as r.turn) 0) cs
-    first-here = found ∙ first-is q cs st (sym is ∙ f) r.turn earliest-here
+    -- r is the row found.
+    module _ (l : i < length rows) (r : Row) (row : r ≡ get_or rows i r) where
+      pub earliest_here : earliest_cell cs ≡ some r.turn
+      earliest_here = case_option (earliest_cell cs)
+          (λ e. let h = first_past q cs st sound e in let n = cells-length rows in absurd (omega arith))
+          (λ t e. e ∙ ap some (sym (ap (λ (x : Row). x.turn) (row ∙ row_here rows i r l)
+          ∙ rw (found ∙ first-is q cs st sound t e) (first_turn t rows st [] (takeable q cs st sound t e)))))
 
-    pub turn-takeable : Takeable r.turn cs st
-    turn-takeable = takeable q cs st (sym is ∙ f) r.turn earliest-here
+      pub first_here : i ≡ index_of (at (ready_as r.turn) 0) cs
+      first_here = found ∙ first-is q cs st sound r.turn earliest_here
 
-    pub took-turn : (x : RowsTaken) → x ≡ outcome_at r.turn (take_turn r.turn cs st buffer) → x ≡ outcome_at (earliest_turn cs)
-        (take_of q cs st buffer)
-    unfolding take_of take_turn earliest_turn
-    took-turn x h =
-        let given : take_turn r.turn cs st buffer ≡ take_of q cs st buffer = rw (slots-earliest cs st, earliest-here)
-        (true-yes _ _ _ _ (sym is ∙ f) refl) in
-        h ∙ rw earliest-here (ap (outcome_at r.turn) given)
+      pub took_turn : (x : RowsTaken) → x ≡ outcome_at r.turn (take_turn r.turn cs st buffer) → x ≡ outcome_at (earliest_turn cs)
+          (take_of q cs st buffer)
+      unfolding take_of take_turn earliest_turn
+      took_turn x h =
+          let given : take_turn r.turn cs st buffer ≡ take_of q cs st buffer = rw (slots-earliest cs st, earliest_here)
+          (true-yes _ _ _ _ sound refl) in
+          h ∙ rw earliest_here (ap (outcome_at r.turn) given)
+
+pub ruleset ways = (took_9, took_20, first_here, took_turn)

@@ -1,20 +1,18 @@
 -- A take over the first rows: the code's three ways; and what it leaves of the records.
 -- Assumes nothing.
-use Prim.Native.Nat.{ℕ, ◌*◌, ◌≤◌, ◌<◌}
+use Prim.Native.Nat.{ℕ, ◌*◌, ◌≤◌, ◌<◌, min}
 use mathlib.Core.Path.{◌≡◌, refl, sym, ◌∙◌, ap}
-use mathlib.Core.Bool.{Bool, true, false}
+use mathlib.Core.Bool.{true, false}
 use mathlib.Core.List.{List}
-use native.Mathlib.Omega.{arith}
-use lib.Dec.{leb, eqb}
+use lib.Dec.{eqb}
 use lib.ListN.{length, take}
-use borrow.Author.Tests.{leb-true, eqb-true}
 use Rattle.std.specs.Prelude.{Result, Err}
 use Rattle.base.specs.Answer.{Answer, refused, gives}
 use Rattle.base.specs.declared.refusal.Refusal.{Refusal}
 use Rattle.base.specs.declared.refusal.Refusal.TheVariants.{NotSound}
 use Rattle.base.specs.Refusals.{answer_by}
-use Rattle.base.specs.Limits.{max_cells, cell_bytes}
-use Rattle.base.proofs.Choices.{by_bool, and_left, and_right}
+use Rattle.base.specs.Limits.{cell_bytes}
+use Rattle.base.proofs.Choices.{by_bool}
 use Rattle.base.proofs.Ifs.{true-yes, true-no, le_yes, le-no}
 use Rattle.bare.specs.Frame.{Message}
 use Rattle.cells.specs.Cell.{Cell, ready_as, bears, empty_cell}
@@ -23,9 +21,10 @@ use Rattle.cells.specs.Sound.{lengths}
 use Rattle.cells.specs.Store.{slots_of}
 use Rattle.cells.proofs.Records.{cells-freed}
 use Rattle.cells.proofs.Store.{cells-slots}
-use Rattle.rows.specs.Rows.{row_words, cells_in}
-use Rattle.row_slots.specs.First.{rows_in, first_cells}
-use Rattle.row_slots.proofs.First.{rows-in-room, first-whole, first-length}
+use Rattle.rows.specs.declared.Row.{Row}
+use Rattle.rows.specs.Rows.{cells_in}
+use Rattle.row_slots.specs.First.{first_cells}
+use Rattle.row_slots.proofs.First.{first-whole, first-length}
 use Rattle.receiver.specs.declared.RecvQueue.{RecvQueue}
 use Rattle.receiver.specs.Take.{Handed, TakeResult, handed, take_of}
 use Rattle.receiver.proofs.AnswerCases.{by-true, by-lt, by_le, take-ways}
@@ -35,46 +34,31 @@ use Rattle.recv_take.specs.Outcome.{handed_of, take_result, RowsTaken, without_t
 use Rattle.recv_take.specs.Outcome.{earliest_turn, take_rows_of, records_left}
 use Rattle.recv_take.proofs.Calls.{slots-earliest}
 
--- ---- rows and cells at hand
+-- ---- the code's three ways: m is how many records are at hand
 
--- the rows stand within the words
-pub rows-room : (k words m : ℕ) → m ≡ rows_in k words → row_words * m ≤ words
-rows-room k words m are = rw are (rows-in-room k words)
-
--- their cells stand within the store
-pub cells-room : (n m bytes : ℕ) {b : Bool} → b ≡ lengths n bytes → b ≡ true → m ≤ n → cell_bytes * m ≤ bytes
-unfolding lengths
-cells-room n m bytes fit e le = let a : bytes ≡ cell_bytes * n =
-    eqb-true _ _ (and_right (leb n max_cells) _ (and_right (leb 1 n) _ (sym fit ∙ e))) in omega arith
-
-pub cells-few : (n m bytes : ℕ) {b : Bool} → b ≡ lengths n bytes → b ≡ true → m ≤ n → m ≤ max_cells
-unfolding lengths
-cells-few n m bytes fit e le = let a = leb-true n max_cells (and_left (leb n max_cells) _ (and_right (leb 1 n) _ (sym fit ∙ e))) in
-    omega arith
-
--- ---- the code's three ways: b says whether the lengths of all n cells fit, and m is how many records are at hand
-
-module _ (q : RecvQueue) (k n : ℕ) (ws st out : List ℕ) {b : Bool} (fit : b ≡ lengths n (length st)) where
-  pub unfit-takes : b ≡ false → taken_rows (Err NotSound) out ≡ take_rows_of q k n ws st out
+module _ (q : RecvQueue) (k n : ℕ) (rows : List Row) (st out : List ℕ) where
+  pub unfit_takes : false ≡ lengths n (length st) → taken_rows (Err NotSound) out ≡ take_rows_of q k n rows st out
   unfolding taken_rows take_rows_of take_first outcome_at
-  unfit-takes e = ap (outcome_at (earliest_turn (first_cells k ws))) (true-no _ _ _ _ (sym fit ∙ e) refl)
+  unfit_takes e = ap (outcome_at (earliest_turn (first_cells k rows))) (true-no _ _ _ _ (sym e) refl)
 
-  module _ {m : ℕ} (e : b ≡ true) (are : m ≡ rows_in k (length ws)) where
-    many : length (first_cells k ws) ≡ m
-    many = first-length k ws ∙ sym are
-
+  module _ (fit : true ≡ lengths n (length st)) where
     -- there are fewer cells than records at hand
-    pub over-takes : n < m → taken_rows (Err NotSound) out ≡ take_rows_of q k n ws st out
+    pub over_takes : n < min k (length rows) → taken_rows (Err NotSound) out ≡ take_rows_of q k n rows st out
     unfolding taken_rows take_rows_of take_first outcome_at
-    over-takes lt = ap (outcome_at (earliest_turn (first_cells k ws))) (true-yes _ _ _ _ (sym fit ∙ e) (le-no _ _ _ _ _ (rw many lt) refl))
+    over_takes lt = ap (outcome_at (earliest_turn (first_cells k rows)))
+        (true-yes _ _ _ _ (sym fit) (le-no _ _ _ _ _ (rw (first-length k rows) lt) refl))
 
-    pub part-takes : m ≤ n → (x : RowsTaken) → x ≡ outcome_at (earliest_turn (cells_in (take (row_words * m) ws)))
-        (take_of q (cells_in (take (row_words * m) ws)) (take (cell_bytes * m) st) out) → x ≡ take_rows_of q k n ws st out
+    pub part_takes : (m : ℕ) → m ≡ min k (length rows) → m ≤ n → (x : RowsTaken)
+        → x ≡ outcome_at (earliest_turn (cells_in (take m rows))) (take_of q (cells_in (take m rows)) (take (cell_bytes * m) st) out)
+        → x ≡ take_rows_of q k n rows st out
     unfolding take_rows_of take_first
-    part-takes le x h =
-        let whole : first_cells k ws ≡ cells_in (take (row_words * m) ws) = rw are (first-whole k ws) in
-        h ∙ rw (← whole) (ap (outcome_at (earliest_turn (first_cells k ws)))
-        (true-yes _ _ _ _ (sym fit ∙ e) (le_yes _ _ _ _ _ (rw many le) (rw many))))
+    part_takes m are le x h =
+        let many : length (first_cells k rows) ≡ m = first-length k rows ∙ sym are in
+        let whole : first_cells k rows ≡ cells_in (take m rows) = rw are (first-whole k rows) in
+        h ∙ rw (← whole) (ap (outcome_at (earliest_turn (first_cells k rows)))
+        (true-yes _ _ _ _ (sym fit) (le_yes _ _ _ _ _ (rw many le) (rw many))))
+
+pub ruleset ways = (unfit_takes, over_takes, part_takes)
 
 -- ---- the records
 
@@ -104,14 +88,14 @@ first-leaves q n cs st buffer =
     (λ e. refl)
 
 -- What a take over the first rows says, with the records that it leaves, is the take over the first records.
-pub whole_take : (q : RecvQueue) (k n : ℕ) (ws st buffer : List ℕ) (r : Result TakenRows Refusal) (out : List ℕ) → taken_rows r out
-    ≡ take_rows_of q k n ws st buffer
-    → take_result (without_turn r) (records_left (answer_by handed_of (without_turn r)) (turn_given r) (first_cells k ws)) out
-    ≡ take_first q n (first_cells k ws) st buffer
+pub whole_take : (q : RecvQueue) (k n : ℕ) (rows : List Row) (st buffer : List ℕ) (r : Result TakenRows Refusal) (out : List ℕ)
+    → taken_rows r out ≡ take_rows_of q k n rows st buffer
+    → take_result (without_turn r) (records_left (answer_by handed_of (without_turn r)) (turn_given r) (first_cells k rows)) out
+    ≡ take_first q n (first_cells k rows) st buffer
 unfolding taken_rows take_rows_of take_result outcome_at
-whole_take q k n ws st buffer r out e =
-    let x : TakeResult = take_first q n (first_cells k ws) st buffer in
-    let cs : List Cell = first_cells k ws in
+whole_take q k n rows st buffer r out e =
+    let x : TakeResult = take_first q n (first_cells k rows) st buffer in
+    let cs : List Cell = first_cells k rows in
     let a : answer_by handed_of (without_turn r) ≡ x.answer = ap (λ (y : RowsTaken). y.answer) e in
     let t : turn_given r ≡ turn_taken x.answer (earliest_turn cs) = ap (λ (y : RowsTaken). y.turn) e in
     let o : out ≡ x.joined = ap (λ (y : RowsTaken). y.joined) e in

@@ -13,7 +13,7 @@ use lib.Seq.{drop-drop}
 use borrow.Author.Tests.{eqb-true, eq-eqb, ne_eqb}
 use Rattle.std.specs.Prelude.{Ok, Err}
 use Rattle.base.specs.declared.refusal.Refusal.TheVariants.{NoRoom}
-use Rattle.base.specs.Limits.{cell_bytes, max_frags}
+use Rattle.base.specs.Limits.{cell_bytes}
 use Rattle.base.specs.Lists.{option, find}
 use Rattle.base.specs.Put.{put, and_then}
 use Rattle.base.proofs.Choices.{case_option, and_left, and_right, neither}
@@ -24,13 +24,12 @@ use Rattle.cells.specs.Cell.{Cell, Slot, ready_as, bears, at, sits, join, messag
 use Rattle.cells.specs.Records.{index_of}
 use Rattle.cells.specs.Store.{cell_size, cell_body, slots_of}
 use Rattle.rows.specs.declared.Row.{Row}
-use Rattle.rows.specs.Rows.{cell_of, cells_in}
-use Rattle.rows.specs.Whole.{whole_row}
+use Rattle.rows.specs.Rows.{cell_of, cells_in, whole_row}
 use Rattle.receiver.specs.Take.{handed}
 use Rattle.recv_take.specs.declared.Taken.TheVariants.{InStore, Joined}
 use Rattle.recv_take.specs.Outcome.{handed_of, taken_rows, outcome_at}
-use Rattle.recv_take.specs.Pieces.{piece_at, piece_bytes, length_to, joined_to, PieceFits, Takeable, take_turn}
-use Rattle.recv_take.proofs.Pieces.{piece-row, piece-ends}
+use Rattle.recv_take.specs.Pieces.{piece_at, piece_bytes, length_to, joined_to, Takeable, take_turn}
+use Rattle.recv_take.proofs.Pieces.{row_index, piece_row, piece-ends}
 
 -- ---- a record and its slot
 
@@ -65,7 +64,8 @@ body-found p (r ∷ cs) st = go (p r) refl (body-found p cs (drop cell_size st))
         ≡ cell_body (option (find p cs) empty_cell (λ c. c)) (drop (index_of p cs * cell_size) (drop cell_size st))
         → option (cond (p r) (some (record { cell = r; body = cell_body r st }))
         (find (λ (s : Slot). p s.cell) (slots_of cs (drop cell_size st)))) [] (λ s. s.body)
-        ≡ cell_body (option (cond (p r) (some r) (find p cs)) empty_cell (λ c. c)) (drop (cond (p r) 0 (suc (index_of p cs)) * cell_size) st)
+        ≡ cell_body (option (cond (p r) (some r) (find p cs)) empty_cell (λ c. c))
+        (drop (cond (p r) 0 (suc (index_of p cs)) * cell_size) st)
     go true t e = rw t (let z : 0 * cell_size ≡ 0 = omega arith in rw z)
     go false t e =
         let m = suc-mul (index_of p cs) cell_size in
@@ -149,63 +149,51 @@ module _ (t : ℕ) (cs : List Cell) (st : List ℕ) where
               body = bytes;
             }) s.cell) (joined_is s.cell.count))
 
--- ---- the code's three ways
+-- ---- the code's three ways, of the first piece's row
 
-module _ (t : ℕ) (ws st buffer : List ℕ) (j : ℕ) (r : Row) (v : Takeable t (cells_in ws) st)
-    (found : j ≡ index_of (at (ready_as t) 0) (cells_in ws)) (is : r ≡ whole_row ws j) where
-  hands : take_turn t (cells_in ws) st buffer ≡ handed (cells_in ws) st buffer t (message_from t (cells_in ws) st v (cell_of r)) (cell_of r)
-  hands = turn-hands t (cells_in ws) st v buffer ∙ ap (λ (c : Cell). handed (cells_in ws) st buffer t (message_from t (cells_in ws) st v c) c)
-      (sym (piece-row t ws 0 j r found is))
+module _ (t : ℕ) (rows : List Row) (st buffer : List ℕ) (v : Takeable t (cells_in rows) st) where
+  abbrev first : Row
+  first = whole_row rows (row_index t rows 0)
+
+  abbrev body : List ℕ
+  body = joined_to t (cells_in rows) st first.count
+
+  hands : take_turn t (cells_in rows) st buffer
+      ≡ handed (cells_in rows) st buffer t (message_from t (cells_in rows) st v (cell_of first)) (cell_of first)
+  hands = turn-hands t (cells_in rows) st v buffer
+      ∙ ap (λ (c : Cell). handed (cells_in rows) st buffer t (message_from t (cells_in rows) st v c) c) (piece_row t rows 0)
 
   -- "handed back as part of the store"
-  pub took-store : r.count ≡ 1 → taken_rows (Ok (record {
-    taken = InStore r.kind r.channel r.order (j * cell_bytes) r.length;
-    turn = t;
-  })) buffer ≡ outcome_at t (take_turn t (cells_in ws) st buffer)
+  pub took_store : first.count ≡ 1 → outcome_at t (take_turn t (cells_in rows) st buffer)
+      ≡ taken_rows (Ok (record {
+        taken = InStore first.kind first.channel first.order (row_index t rows 0 * cell_bytes) first.length;
+        turn = t;
+      })) buffer
   unfolding taken_rows outcome_at handed_of handed cell_of
-  took-store one = rw (hands, eq-eqb r.count 1 one, found)
+  took_store one = rw (hands, eq-eqb first.count 1 one)
 
-  module _ (several : r.count ≡ 1 → ⊥) (len : ℕ) (long : len ≡ length_to t (cells_in ws) r.count) where
-    len_is : len ≡ length (joined_to t (cells_in ws) st r.count)
-    len_is = long ∙ sym (joined-long t (cells_in ws) st v r.count)
+  module _ (several : first.count ≡ 1 → ⊥) (len : ℕ) (long : len ≡ length_to t (cells_in rows) first.count) where
+    len_is : len ≡ length body
+    len_is = long ∙ sym (joined-long t (cells_in rows) st v first.count)
 
     -- "12 joining buffer shorter than a message of several pieces"
-    pub took-short : length buffer < len → taken_rows (Err NoRoom) buffer
-        ≡ outcome_at t (take_turn t (cells_in ws) st buffer)
+    pub took_short : length buffer < len → outcome_at t (take_turn t (cells_in rows) st buffer) ≡ taken_rows (Err NoRoom) buffer
     unfolding taken_rows outcome_at handed_of handed cell_of
-    took-short l =
-        rw (hands, ne_eqb r.count 1 several)
-        (ap (outcome_at t) (by-lt-yes (length buffer) (length (joined_to t (cells_in ws) st r.count)) len _ _ _ len_is l refl))
+    took_short l = rw (hands, ne_eqb first.count 1 several)
+        (ap (outcome_at t) (sym (by-lt-yes (length buffer) (length body) len _ _ _ len_is l refl)))
 
     -- "or of the joining buffer"
-    pub took-joined : len ≤ length buffer → (out : List ℕ) → out ≡ put buffer 0 (joined_to t (cells_in ws) st r.count)
-        → taken_rows (Ok (record { taken = Joined r.kind r.channel r.order len; turn = t })) out
-        ≡ outcome_at t (take_turn t (cells_in ws) st buffer)
+    pub took_joined : len ≤ length buffer → outcome_at t (take_turn t (cells_in rows) st buffer)
+        ≡ taken_rows (Ok (record { taken = Joined first.kind first.channel first.order len; turn = t })) (put buffer 0 body)
     unfolding taken_rows outcome_at handed_of handed cell_of
-    took-joined l out f =
-        rw (hands, ne_eqb r.count 1 several)
-        (rw (len_is, f) (ap (outcome_at t) (by-lt-no (length buffer) (length (joined_to t (cells_in ws) st r.count)) len _ _ _ len_is
-        l refl)))
+    took_joined l = rw (hands, ne_eqb first.count 1 several)
+        (rw len_is (ap (outcome_at t) (sym (by-lt-no (length buffer) (length body) len _ _ _ len_is l refl))))
 
   -- It is of that turn.
-  pub first-turn : r.turn ≡ t
+  pub first_turn : first.turn ≡ t
   unfolding cell_of at bears
-  first-turn =
-      let passes = ap (at (ready_as t) 0) (piece-row t ws 0 j r found is) ∙ first_passes t (cells_in ws) st v in
-      eqb-true r.turn t (and_right (eqb r.used 3) _ (and_left (eqb r.used 3 && eqb r.turn t) _ passes))
+  first_turn =
+      let passes = ap (at (ready_as t) 0) (sym (piece_row t rows 0)) ∙ first_passes t (cells_in rows) st v in
+      eqb-true first.turn t (and_right (eqb first.used 3) _ (and_left (eqb first.used 3 && eqb first.turn t) _ passes))
 
-  -- The numbers of a first record fit the answer.
-  pub first-within : PieceFits (cell_of r)
-  first-within = subst PieceFits (sym (piece-row t ws 0 j r found is)) (v.within 0)
-
-  pub first_kind : r.kind < 256
-  unfolding cell_of
-  first_kind = first-within.kind
-
-  pub first-channel : r.channel < 256
-  unfolding cell_of
-  first-channel = first-within.channel
-
-  pub first_count : r.count ≤ max_frags
-  unfolding cell_of
-  first_count = first-within.count
+pub ruleset ways = (took_store, took_short, took_joined)

@@ -6,6 +6,7 @@ use Rattle.base.specs.Refusals.{answer_by}
 use Rattle.base.specs.Lists.{option}
 use Rattle.cells.specs.Cell.{Cell, ready_as, bears, empty_cell}
 use Rattle.cells.specs.Records.{change_cells, earliest_cell}
+use Rattle.rows.specs.declared.Row.{Row}
 use Rattle.row_slots.specs.First.{first_cells}
 use Rattle.receiver.specs.declared.RecvQueue.{RecvQueue}
 use Rattle.receiver.specs.Take.{in_store, in_joined, Handed, TakeResult}
@@ -61,9 +62,9 @@ outcome_at t x = record { answer = x.answer; turn = turn_taken x.answer t; joine
 unfoldable pub earliest_turn : List Cell → ℕ
 earliest_turn cs = option (earliest_cell cs) 0 (λ t. t)
 
--- A take over the first k rows of the words, which are the first of so many cells' records.
-unfoldable pub take_rows_of : RecvQueue → ℕ → ℕ → List ℕ → List ℕ → List ℕ → RowsTaken
-take_rows_of q k cells ws st buffer = outcome_at (earliest_turn (first_cells k ws)) (take_first q cells (first_cells k ws) st buffer)
+-- A take over the first k rows, which are the first of so many cells' records.
+unfoldable pub take_rows_of : RecvQueue → ℕ → ℕ → List Row → List ℕ → List ℕ → RowsTaken
+take_rows_of q k cells rows st buffer = outcome_at (earliest_turn (first_cells k rows)) (take_first q cells (first_cells k rows) st buffer)
 
 -- "A taken message frees its cells": what a take with this answer leaves of the records; a refusal leaves them as they were.
 abbrev pub records_left : Answer Handed → ℕ → List Cell → List Cell

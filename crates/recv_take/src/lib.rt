@@ -1,4 +1,4 @@
-// Take on rows of words: document 01, "Take, earliest ready first".
+// Take on rows: document 01, "Take, earliest ready first".
 
 #![tactic(auto)]
 
@@ -7,17 +7,15 @@ ghost use Rattle.base.specs.Limits.{max_frags};
 ghost use Rattle.base.specs.Put.{put, Run};
 ghost use Rattle.cells.specs.Cell.{ready_as, at};
 ghost use Rattle.cells.specs.Records.{index_of};
-ghost use Rattle.rows.specs.Rows.{cells_in};
-ghost use Rattle.rows.specs.Whole.{whole_row};
-ghost use Rattle.receiver.specs.Parts.{queue_of};
+ghost use Rattle.rows.specs.Rows.{cells_in, whole_row};
 ghost use Rattle.receiver.specs.Receive.{sound_call};
 ghost use Rattle.receiver.specs.Take.{take_of};
 ghost use Rattle.recv_take.specs.Outcome.{taken_rows, earliest_turn, outcome_at, take_rows_of};
 ghost use Rattle.recv_take.specs.Pieces.{piece_at, piece_bytes, length_to, joined_to, AllWithin, Takeable, take_turn};
 
 use base::Refusal;
-use receiver::Heads;
-use rows::{ROW, Row};
+use receiver::RecvQueue;
+use rows::Row;
 
 // A message handed back. Its body is a part of the store, or the front of the joining buffer.
 #[derive(Clone, Copy, Debug, PartialEq, Eq)]
@@ -45,100 +43,73 @@ pub struct TakenRows {
 }
 
 // Take over the first k rows, which are the first of so many cells' records. They are only read. Refusals: 9, 20, 12.
+#[tactic(auto, using(crate::proofs::First::ways), unfolding(cells::specs::Sound::lengths))]
 pub fn take_rows(
-    h: Heads,
-    dbits: &[u8],
-    rbits: &[u8],
-    nexts: &[u32],
-    unsent: &[u32],
-    words: &[u32],
+    queue: &RecvQueue,
+    rows: &[Row],
     k: usize,
     cells: usize,
     store: &[u8],
     joined: &mut [u8],
 ) -> Result<TakenRows, Refusal>
-    ensures { taken_rows result joined.new
-        ≡ take_rows_of (queue_of h dbits.now rbits.now nexts.now unsent.now) k cells
-        words.now store.now joined.old }
+    ensures { taken_rows result joined.new ≡ take_rows_of queue.now k cells rows.now store.now
+        joined.old }
 {
     if !sound_call::lengths_fit(cells, store.len()) {
         return Err(Refusal::NotSound);
     }
-    let m = row_slots::rows_in(k, words.len());
+    let m = k.min(rows.len());
     if cells < m {
         return Err(Refusal::NotSound);
     }
-    take_part(
-        h,
-        dbits,
-        rbits,
-        nexts,
-        unsent,
-        &words[..ROW * m],
-        &store[..base::CELL_BYTES * m],
-        joined,
-    )
+    take_part(queue, &rows[..m], &store[..base::CELL_BYTES * m], joined)
 }
 
 // Take over all rows and their cells.
+#[tactic(auto, using(crate::proofs::Calls::ways))]
 fn take_part(
-    h: Heads,
-    dbits: &[u8],
-    rbits: &[u8],
-    nexts: &[u32],
-    unsent: &[u32],
-    words: &[u32],
+    queue: &RecvQueue,
+    rows: &[Row],
     store: &[u8],
     joined: &mut [u8],
 ) -> Result<TakenRows, Refusal>
-    ensures { taken_rows result joined.new ≡ outcome_at (earliest_turn (cells_in words.now))
-        (take_of (queue_of h dbits.now rbits.now nexts.now unsent.now)
-        (cells_in words.now) store.now joined.old) }
+    ensures { taken_rows result joined.new ≡ outcome_at (earliest_turn (cells_in rows.now))
+        (take_of queue.now (cells_in rows.now) store.now joined.old) }
 {
-    if !is_sound(h, dbits, rbits, nexts, unsent, words, store) {
+    if !is_sound(queue, rows, store) {
         return Err(Refusal::NotSound);
     }
-    let i = row_scans::first_ready(words);
-    if words.len() / ROW <= i {
-        return Err(Refusal::NoneReady);
-    }
-    let first = rows::whole_row(words, i);
-    take_turn(words, i, first, store, joined)
+    let i = row_scans::first_ready(rows);
+    let first = rows.get(i).ok_or(Refusal::NoneReady)?;
+    take_turn(rows, i, *first, store, joined)
 }
 
-// "9 slice lengths .. or records unsound". The words have one row for each cell.
-fn is_sound(
-    h: Heads,
-    dbits: &[u8],
-    rbits: &[u8],
-    nexts: &[u32],
-    unsent: &[u32],
-    words: &[u32],
-    store: &[u8],
-) -> bool
-    ensures { result ≡ sound_call (queue_of h dbits.now rbits.now nexts.now unsent.now)
-        (cells_in words.now) store.now }
+// "9 slice lengths .. or records unsound". There is one row for each cell.
+#[tactic(auto, using(crate::proofs::Calls::tests))]
+fn is_sound(queue: &RecvQueue, rows: &[Row], store: &[u8]) -> bool
+    ensures { result ≡ sound_call queue.now (cells_in rows.now) store.now }
 {
-    if !sound_call::lengths_fit(words.len() / ROW, store.len()) {
+    if !sound_call::lengths_fit(rows.len(), store.len()) {
         return false;
     }
-    sound_queue::sound_queue(h, dbits, rbits, nexts, unsent).is_ok()
-        && sound_cells::sound_cells(words, nexts)
+    sound_queue::sound_queue(queue).is_ok() && sound_cells::sound_cells(rows, &queue.channels)
 }
 
-// The ready message whose first cell is i: one body stays in its cell, several are joined in the buffer.
+// The ready message whose first cell is i: one body stays in its cell, several are joined in the buffer. (`as u8`: sound records have a
+// kind and a channel below 256. `as usize`, here and below: u32 has no From to it.)
+#[tactic(auto, using(crate::proofs::Turns::ways, crate::proofs::Pieces::row_fits))]
 fn take_turn(
-    words: &[u32],
+    rows: &[Row],
     i: usize,
     first: Row,
     store: &[u8],
     joined: &mut [u8],
 ) -> Result<TakenRows, Refusal>
-    requires takeable { Takeable first.turn (cells_in words.now) store.now }
-    requires i_value { i ≡ index_of (at (ready_as first.turn) 0) (cells_in words.now) }
-    requires first_value { first ≡ whole_row words.now i }
+    requires takeable { Takeable first.turn (cells_in rows.now) store.now }
+    requires i_value { i ≡ index_of (at (ready_as first.turn) 0) (cells_in rows.now) }
+    requires first_value { first ≡ whole_row rows.now i }
     ensures { taken_rows result joined.new
-        ≡ outcome_at first.turn (take_turn first.turn (cells_in words.now) store.now joined.old) }
+        ≡ outcome_at first.turn (take_turn first.turn (cells_in rows.now) store.now joined.old) }
 {
     if first.count == 1 {
         return Ok(TakenRows {
@@ -152,11 +123,11 @@ fn take_turn(
             turn: first.turn,
         });
     }
-    let len = joined_length(words, first.turn, first.count);
+    let len = joined_length(rows, first.turn, first.count);
     if joined.len() < len {
         return Err(Refusal::NoRoom);
     }
-    join_pieces(words, first.turn, first.count, store, joined);
+    join_pieces(rows, first.turn, first.count, store, joined);
     Ok(TakenRows {
         taken: Taken::Joined {
             kind: first.kind as u8,
@@ -169,54 +140,56 @@ fn take_turn(
 }
 
 // How many bytes the message has.
-fn joined_length(words: &[u32], turn: u32, count: u32) -> usize
-    requires all_within { AllWithin turn (cells_in words.now) }
+#[tactic(auto, using(crate::proofs::Pieces::lengths))]
+fn joined_length(rows: &[Row], turn: u32, count: u32) -> usize
+    requires all_within { AllWithin turn (cells_in rows.now) }
     requires count_le_max_frags { count ≤ max_frags }
-    ensures { result ≡ length_to turn (cells_in words.now) count }
+    ensures { result ≡ length_to turn (cells_in rows.now) count }
 {
     let mut len: usize = 0;
     for i in 0..count {
-        len += piece_length(words, turn, i);
+        len += piece_length(rows, turn, i);
     }
     len
 }
 
 // How many of them its piece of this index has.
-fn piece_length(words: &[u32], turn: u32, index: u32) -> usize
-    ensures { result ≡ (piece_at turn (cells_in words.now) index).length }
+#[tactic(auto, using(crate::proofs::Pieces::piece_length))]
+fn piece_length(rows: &[Row], turn: u32, index: u32) -> usize
+    ensures { result ≡ (piece_at turn (cells_in rows.now) index).length }
 {
-    let i = row_scans::find_ready(words, turn, index);
-    let r = rows::whole_row(words, i);
-    r.length as usize
+    rows::whole_row(rows, row_scans::find_ready(rows, turn, index)).length as usize
 }
 
 // The pieces' bodies, by index, to the front of the buffer.
-fn join_pieces(words: &[u32], turn: u32, count: u32, store: &[u8], joined: &mut [u8])
-    requires { Takeable turn (cells_in words.now) store.now }
-    ensures { joined.new ≡ put joined.old 0 (joined_to turn (cells_in words.now) store.now
+#[tactic(auto, using(crate::proofs::Pieces::joins, base::proofs::Puts::run_long))]
+fn join_pieces(rows: &[Row], turn: u32, count: u32, store: &[u8], joined: &mut [u8])
+    requires { Takeable turn (cells_in rows.now) store.now }
+    ensures { joined.new ≡ put joined.old 0 (joined_to turn (cells_in rows.now) store.now
         count) }
 {
     let mut p: usize = 0;
     for i in 0..count {
-        p = put_piece(words, turn, i, store, joined, p);
+        p = put_piece(rows, turn, i, store, joined, p);
     }
 }
 
 // One of them, to place p. What is returned is the place after it.
+#[tactic(auto, using(crate::proofs::Pieces::row_ends, crate::proofs::Pieces::row_bytes))]
 fn put_piece(
-    words: &[u32],
+    rows: &[Row],
     turn: u32,
     index: u32,
     store: &[u8],
     joined: &mut [u8],
     p: usize,
 ) -> usize
-    requires { Takeable turn (cells_in words.now) store.now }
-    ensures { Run p (piece_bytes turn (cells_in words.now) store.now index) joined.old result
+    requires { Takeable turn (cells_in rows.now) store.now }
+    ensures { Run p (piece_bytes turn (cells_in rows.now) store.now index) joined.old result
         joined.new }
 {
-    let i = row_scans::find_ready(words, turn, index);
-    let r = rows::whole_row(words, i);
+    let i = row_scans::find_ready(rows, turn, index);
+    let r = rows::whole_row(rows, i);
     let start = i * base::CELL_BYTES;
     let end = start + r.length as usize;
     base::put_all(joined, p, &store[start..end])

@@ -115,17 +115,17 @@ profile-known Console = lit< tt
 profile-known Cpp = lit< tt
 
 -- the three answers of a number that is asked for a profile
-pub named-console : (n : ℕ) → n ≡ 0 → gives Console ≡ profile_named n
+pub named_console : (n : ℕ) → n ≡ 0 → gives Console ≡ profile_named n
 unfolding profile_named profile_of
-named-console n e = rw e (lt_yes 0 profiles _ _ _ (lit< tt) refl)
+named_console n e = rw e (lt_yes 0 profiles _ _ _ (lit< tt) refl)
 
-pub named-cpp : (n : ℕ) → n ≡ 1 → gives Cpp ≡ profile_named n
+pub named_cpp : (n : ℕ) → n ≡ 1 → gives Cpp ≡ profile_named n
 unfolding profile_named profile_of
-named-cpp n e = rw e (lt_yes 1 profiles _ _ _ (lit< tt) refl)
+named_cpp n e = rw e (lt_yes 1 profiles _ _ _ (lit< tt) refl)
 
-pub named-none : (n : ℕ) → (n ≡ 0 → ⊥) → (n ≡ 1 → ⊥) → refused 9 ≡ profile_named n
+pub named_none : (n : ℕ) → (n ≡ 0 → ⊥) → (n ≡ 1 → ⊥) → refused 9 ≡ profile_named n
 unfolding profile_named
-named-none n a b = lt_no n profiles _ _ _ (omega arith) refl
+named_none n a b = lt_no n profiles _ _ _ (omega arith) refl
 
 -- and what each of them tells of the number
 pub named-told : (n : ℕ) (p : Profile) → gives p ≡ profile_named n → (n < profiles) × (p ≡ profile_of n)
@@ -157,6 +157,6 @@ unfolding profile_of
 console-else n e = sym (ap (λ b. cond b Cpp Console) (ne_eqb n 1 e))
 
 -- a number is read as the profile that it names, or as the console's
-pub read-named : (n : ℕ) (r : Result Profile Refusal) → answer r ≡ profile_named n → result_unwrap_or r Console ≡ profile_of n
-read-named n (Ok p) e = (named-told n p e).1
-read-named n (Err m) e = let h = refused-told n (number_of m) e in console-else n (λ i. omega arith)
+pub read_named : (n : ℕ) (r : Result Profile Refusal) → answer r ≡ profile_named n → result_unwrap_or r Console ≡ profile_of n
+read_named n (Ok p) e = (named-told n p e).1
+read_named n (Err m) e = let h = refused-told n (number_of m) e in console-else n (λ i. omega arith)

@@ -18,7 +18,7 @@ pub enum Profile {
 }
 
 // What a frame of a kind carries: for each field the place in the header, counted from the frame's first byte, or 0 where the kind lacks
-// it; and how many bytes the header takes, without a piece's.
+// it; and how many bytes the header takes, without a piece's. (No `Option`: no field stands at place 0, and the definitions choose by it.)
 #[derive(Clone, Copy, Debug, PartialEq, Eq)]
 pub struct KindFields {
     pub reliable: usize,
@@ -113,6 +113,7 @@ pub fn fields(p: Profile, k: u8) -> KindFields
 }
 
 // Has a frame of kind `k` a reliable number? None has where `k` is no kind. The profiles do not differ in it.
+#[tactic(auto, unfolding(crate::specs::Kinds::fields_of))]
 pub fn has_reliable(k: u8) -> bool
     ensures { result ≡ has_reliable k }
 {
@@ -137,6 +138,7 @@ impl TryFrom<u32> for Profile {
 
     ghost try_from_gives = { λ n r. answer r ≡ profile_named n };
 
+    #[tactic(auto, using(crate::proofs::Laws::named_console, crate::proofs::Laws::named_cpp, crate::proofs::Laws::named_none))]
     fn try_from(n: u32) -> Result<Profile, Refusal> {
         match n {
             0 => Ok(Profile::Console),
@@ -148,6 +150,7 @@ impl TryFrom<u32> for Profile {
 
 // A receiver keeps its profile as a number, as the C interface lays it out. Every number but 1 stands for the console profile here; a
 // receiver that has 2 or more is unsound.
+#[tactic(auto, using(crate::proofs::Laws::read_named))]
 pub fn profile_of(n: u32) -> Profile
     ensures { result ≡ profile_of n }
 {

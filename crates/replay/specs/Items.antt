@@ -1,5 +1,6 @@
 -- "An item is a tag (1 byte), a length (16 bits big-endian) and a payload."
-use Rattle.std.specs.Prelude.{ℕ, zero, suc, ◌+◌, ◌-◌, List, [], ◌∷◌, length, slice_index, slice_range, Option, unwrap_or, option_map, nat_le}
+use Rattle.std.specs.Prelude.{ℕ, zero, suc, ◌+◌, ◌-◌, List, [], ◌∷◌, length, slice_index}
+use Rattle.std.specs.Prelude.{slice_range, Option, unwrap_or, option_map, nat_le}
 use Rattle.std.specs.Borrow.{Bor}
 use Rattle.std.specs.Bool.{then_some}
 use Rattle.base.specs.If.{if_le}

@@ -82,7 +82,7 @@ pub fn sum(s: &[u8]) -> u64
     s.iter().fold(1, |h, x| summed(h, *x))
 }
 
-// The checksum of a list that is not printed.
+// The checksum of a list that is not printed: `fold` again, with another step.
 pub fn checksum(list: &[u32]) -> u64
     ensures { result ≡ checksum_of list.now }
 {

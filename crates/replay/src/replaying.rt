@@ -20,7 +20,8 @@ pub fn each_item<F: FnMut(u8, &[u8])>(bytes: &[u8], mut step: F)
     }
 }
 
-// The same for the items of the input, of which as much is read as `buf` has room for; how many bytes that is.
+// The same for the items of the input, of which as much is read as `buf` has room for; how many bytes that is. Each program's `main` lends
+// it `buf`: of an array of its own this could not say which bytes were read.
 pub fn replay<R: Read, F: FnMut(u8, &[u8])>(
     input: &mut R,
     buf: &mut [u8],

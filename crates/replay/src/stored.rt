@@ -3,7 +3,8 @@
 ghost use Rattle.std.specs.Prelude.{◌≡◌, ◌<◌, ◌≤◌, length, unwrap_or, IfSome};
 ghost use Rattle.replay.specs.Items.{part_of, item_in, item_of, no_item, items_of, items_left};
 
-// An item is a tag (1 byte), a length (16 bits big-endian) and a payload, from `start` to `end`; the next item stands at `end`.
+// An item is a tag (1 byte), a length (16 bits big-endian) and a payload, from `start` to `end`; the next item stands at `end`. The tag is
+// the byte as it stands: each program has an enum of its own items, and reads it by `TryFrom`.
 #[derive(Clone, Copy)]
 pub struct Item {
     pub tag: u8,

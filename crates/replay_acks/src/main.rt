@@ -11,7 +11,7 @@
 use ack::{AckCursor, Header, Record, Step};
 use std::io;
 
-// At most so many bytes of the input are read.
+// At most so many bytes of the input are read. (Arrays and no `Vec`: the programs here have no heap.)
 const INPUT: usize = 65536;
 
 // The list has room for one number more than a list may have.
@@ -43,6 +43,7 @@ impl TryFrom<u8> for Item {
     }
 }
 
+// (`as u64`, here and below: usize has no From to it.)
 fn show_step(rt: &impl Print, step: Step) {
     let at = step.records.at as u64;
     let left = u64::from(step.records.left);

@@ -12,7 +12,7 @@ use exports_frames::FrameFound;
 use frame::{FragmentMeta, Frame};
 use std::io;
 
-// At most so many bytes of the input are read.
+// At most so many bytes of the input are read. (Arrays and no `Vec`: the programs here have no heap.)
 const INPUT: usize = 65536;
 
 const DATA_SEED: u16 = 11029;
@@ -71,6 +71,7 @@ fn front<'a>(space: &'a mut [u8], p: &[u8], at: usize) -> &'a mut [u8] {
     &mut space[..n]
 }
 
+// (`as u64`, here and below: usize has no From to it.)
 fn show_frame(rt: &impl Print, found: FrameFound, s: &[u8]) {
     let placed = found.placed;
     let f = placed.frame;

@@ -8,10 +8,10 @@
 
 use std::io;
 
-// At most so many bytes of the input are read.
+// At most so many bytes of the input are read. (Arrays and no `Vec`: the programs here have no heap.)
 const INPUT: usize = 65536;
 
-// low (4), length of the bits (2), length of the list (2), shape (1), place (2), seed (4)
+// The one kind of item, and so no enum: low (4), length of the bits (2), length of the list (2), shape (1), place (2), seed (4)
 const WINDOW: u8 = 1;
 
 // The largest bits and lists that an item may ask for.
@@ -105,7 +105,7 @@ fn make(bits: &mut [u8], shape: Shape, place: u16, seed: u32) {
     }
 }
 
-// Both forms on one window, each into a list of its own.
+// Both forms on one window, each into a list of its own. (`as u64`: usize has no From to it.)
 fn compare(rt: &impl Print, low: u32, bits: &[u8], by_words: &mut [u32], plain: &mut [u32]) {
     let count = window::missing_in(low, bits, by_words);
     let other = missing_plain::missing_in(low, bits, plain);

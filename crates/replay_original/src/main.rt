@@ -10,21 +10,37 @@ use split::Fragment;
 use std::io;
 use window::ReliableWindow;
 
-// At most so many bytes of the input are read.
+// At most so many bytes of the input are read. (Arrays and no `Vec`: the programs here have no heap.)
 const INPUT: usize = 65536;
 
-// A new window, and four bytes for each answer: a number (24 bits little-endian), then 1 where its insert was accepted, 0 where it was not,
-// and 2 where the number is the window's low.
-const WINDOW: u8 = b'W';
+// What an item holds.
+#[derive(Clone, Copy)]
+enum Item {
+    // A new window, and four bytes for each answer: a number (24 bits little-endian), then 1 where its insert was accepted, 0 where it was
+    // not, and 2 where the number is the window's low.
+    Window,
+    // How many numbers (16 bits), the numbers (24 bits little-endian), and the ACK's bytes.
+    List,
+    // How many bytes were split (32 bits) at which mtu (16), the pieces (16; 0 where it needs no split), the first one's length (16), the
+    // last one's (16).
+    Split,
+}
 
+impl TryFrom<u8> for Item {
+    type Error = u8;
+
+    fn try_from(tag: u8) -> Result<Item, u8> {
+        match tag {
+            b'W' => Ok(Item::Window),
+            b'A' => Ok(Item::List),
+            b'S' => Ok(Item::Split),
+            _ => Err(tag),
+        }
+    }
+}
+
+// The byte of an answer that is the window's low. (No enum: every other byte is compared with 1 or 0 as it is, and one above 2 is wrong.)
 const LOW: u8 = 2;
-
-// How many numbers (16 bits), the numbers (24 bits little-endian), and the ACK's bytes.
-const LIST: u8 = b'A';
-
-// How many bytes were split (32 bits) at which mtu (16), the pieces (16; 0 where it needs no split), the first one's length (16), the last
-// one's (16).
-const SPLIT: u8 = b'S';
 
 fn window_item(p: &[u8], t: &mut Tally) {
     let mut window = ReliableWindow::new();
@@ -85,7 +101,7 @@ fn split_right(data: &[u8], p: &[u8]) -> bool {
 // The longest data that an item may ask for.
 const DATA: usize = 65536;
 
-// Where the pieces lie doesn't depend on the bytes.
+// Where the pieces lie doesn't depend on the bytes. (`as usize`: u32 has no From to it.)
 fn split_item(p: &[u8]) -> bool {
     let data = [0u8; DATA];
     let n = replay::within(&data, base::be32_at(p, 0) as usize);
@@ -97,12 +113,16 @@ fn main(rt: HostRuntime) -> io::Result<()> {
     let mut windows = Tally::default();
     let mut lists = Tally::default();
     let mut splits = Tally::default();
-    replay::replay(&mut rt.stdin(), &mut input, |tag, p| match tag {
-        WINDOW => window_item(p, &mut windows),
-        LIST => lists.count(list_item(p)),
-        SPLIT => splits.count(split_item(p)),
-        _ => (),
-    })?;
+    replay::replay(
+        &mut rt.stdin(),
+        &mut input,
+        |tag, p| match Item::try_from(tag) {
+            Ok(Item::Window) => window_item(p, &mut windows),
+            Ok(Item::List) => lists.count(list_item(p)),
+            Ok(Item::Split) => splits.count(split_item(p)),
+            Err(_) => (),
+        },
+    )?;
     windows.show(&rt, b"windows: ");
     lists.show(&rt, b"lists: ");
     splits.show(&rt, b"splits: ");

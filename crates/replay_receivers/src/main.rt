@@ -11,6 +11,7 @@ use recv_queue::Profile;
 use replay::Tally;
 use std::io;
 
+// At most so many bytes of the input are read. (Arrays and no `Vec`: the programs here have no heap.)
 const INPUT: usize = 300000;
 
 const STORE: usize = base::CELL_BYTES * recv_array::HELD;
@@ -84,6 +85,7 @@ impl Ours {
         let answer = self.receiver.take(store, &mut self.joined);
         let sum = replay::sum(recv_queue::body(store, &self.joined, answer));
         let told = QueueTaken::from(answer);
+        // `as usize`: u32 has no From to it.
         let len = base::be32_at(p, 0) as usize;
         let stored_sum = u64::from(base::be16_at(p, 4));
         self.tally

@@ -10,7 +10,7 @@
 use std::io;
 use window::ReliableWindow;
 
-// At most so many bytes of the input are read.
+// At most so many bytes of the input are read. (Arrays and no `Vec`: the programs here have no heap.)
 const INPUT: usize = 65536;
 
 // What an item asks for, with what its payload holds and in how many bytes.
@@ -66,7 +66,7 @@ fn insert_run(rt: &impl Print, w: &mut ReliableWindow, first: u32, count: u16) {
     show_low(rt, b"insert", number, w.low);
 }
 
-// The whole list is printed, so that a number stored past the missing ones shows.
+// The whole list is printed, so that a number stored past the missing ones shows. (`as u64`: usize has no From to it.)
 fn missing(rt: &impl Print, w: &ReliableWindow) {
     let mut list = [base::NUMBERS_24; 2048];
     let count = w.missing(&mut list);

@@ -1,14 +1,14 @@
 -- Where the first cells' turns differ and fill all from the least to the greatest, a turn's rank is its distance from the least.
 -- Assumes nothing.
 use Prim.Native.Nat.{ℕ, zero, suc, ◌+◌, ◌-◌, ◌≤◌}
-use mathlib.Core.Path.{◌≡◌, refl, sym, ap, ◌∙◌}
+use mathlib.Core.Path.{◌≡◌, refl, sym, ap, ◌∙◌, subst}
 use mathlib.Core.Bool.{Bool, true, false, cond, ◌&&◌}
-use mathlib.Core.Logic.{⊎_elim}
 use mathlib.Core.List.Memᴰ
 use mathlib.Core.List.{List, [], ◌∷◌, map, Memᴰ}
 use native.Mathlib.Omega.{arith}
 use lib.Dec.{ltb, leb, eqb}
 use borrow.Author.Tests.{ltb-true, leb-true, lt-ltb, le-ltb, eqb-true}
+use Rattle.std.specs.Prelude.{Option, Some, None, MatchOption, IfSome}
 use Rattle.base.specs.Limits.{max_cells}
 use Rattle.base.specs.Lists.{count_of}
 use Rattle.base.proofs.Choices.{cases, and_left, and_right, or-implied}
@@ -18,10 +18,10 @@ use Rattle.base.proofs.Lists.{any-all, every-mem}
 use Rattle.cells.specs.Cell.{Cell}
 use Rattle.cells.specs.Records.{first_cell, before_cell}
 use Rattle.rows.specs.declared.Row.{Row}
-use Rattle.rows.specs.Rows.{row_count, rows_of, cell_of, cells_in, mark_row, change_row, change_rows}
-use Rattle.rows.specs.Whole.{rest}
+use Rattle.rows.specs.Rows.{cell_of, cells_in, mark_row, change_row, change_rows}
 use Rattle.row_tests.specs.Uses.{uses}
 use Rattle.row_ranks.specs.declared.Turns.{Turns}
+use lib.ListN.{length}
 use Rattle.row_ranks.specs.Renumber.{renumbered, gapless, excess, lower_row, first_of_turn, between, Surveyed}
 use Rattle.row_ranks.proofs.Renumbering.{renumbered-is}
 
@@ -92,24 +92,18 @@ module _ (p : Cell → Bool) (g h : Row → Row) where
       one true y k = rw (e r (Memᴰ.head refl) y, k)
       one false y k = rw k
 
-mem-map : {A B : Type 0} (f : A → B) (x : A) (l : List A) → Memᴰ x l → Memᴰ (f x) (map f l)
-mem-map f x [] m = absurd (Memᴰ.not-nil m)
-mem-map {A} {B} f x (y ∷ l) m = ⊎_elim {A = x ≡ y} {B = Memᴰ x l} (λ e. Memᴰ.head (ap f e))
-    (λ k. Memᴰ.tail (mem-map f x l k)) (Memᴰ.cases_cons m)
-
 -- Gapless turns lowered are renumbered.
-module _ (ws : List ℕ) (t : Turns) (g : gapless t ≡ true) (s : Surveyed (cells_in ws) t) where
-  row-rank : (r : Row) → Memᴰ r (rows_of ws) → uses 3 (cell_of r) ≡ true → r.turn - excess t ≡ count_of (before_cell r.turn)
-      (cells_in ws)
+module _ (rows : List Row) (t : Turns) (g : gapless t ≡ true) (s : Surveyed (cells_in rows) t) where
+  row-rank : (r : Row) → Memᴰ r rows → uses 3 (cell_of r) ≡ true → r.turn - excess t ≡ count_of (before_cell r.turn) (cells_in rows)
   unfolding cells_in cell_of
-  row-rank r m u = sym (rank_is (cells_in ws) t s g (cell_of r) (mem-map cell_of r (rows_of ws) m) u)
+  row-rank r m u = sym (rank_is (cells_in rows) t s g (cell_of r) (Memᴰ.map cell_of m) u)
 
-  lowered_is : row_count ws ≤ max_cells → change_rows (uses 3) (lower_row (excess t)) (rows_of ws) ≡ renumbered ws
+  lowered_is : length rows ≤ max_cells → change_rows (uses 3) (lower_row (excess t)) rows ≡ renumbered rows
   unfolding lower_row
   lowered_is l =
-      change-same (uses 3) (λ r. mark_row 3 (r.turn - excess t) r) (λ r. mark_row 3 (count_of (before_cell r.turn) (cells_in ws)) r)
-      (rows_of ws) (λ r m u. ap (λ (n : ℕ). mark_row 3 n r) (row-rank r m u))
-      ∙ sym (renumbered-is ws l)
+      change-same (uses 3) (λ r. mark_row 3 (r.turn - excess t) r) (λ r. mark_row 3 (count_of (before_cell r.turn) (cells_in rows)) r)
+      rows (λ r m u. ap (λ (n : ℕ). mark_row 3 n r) (row-rank r m u))
+      ∙ sym (renumbered-is rows l)
 
 -- Lowered by 0, rows stay.
 own_turn : (r : Row) → uses 3 (cell_of r) ≡ true → r ≡ lower_row 0 r
@@ -144,15 +138,12 @@ lowered_none rs = sym (change-same (uses 3) (lower_row 0) (λ r. r) rs (λ r m u
 pub lowered-zero : (rs : List Row) {by : ℕ} → by ≡ 0 → rs ≡ change_rows (uses 3) (lower_row by) rs
 lowered-zero rs e = rw e (lowered_none rs)
 
-pub lower-is : (by : ℕ) (r : Row) {k : ℕ} {q : Row} → k ≡ r.turn - by → q ≡ mark_row 3 k r → q ≡ lower_row by r
-unfolding lower_row
-lower-is by r e q = rw (← e) q
-
-pub gapless-renumbered : (ws : List ℕ) {t : Turns} {b : Bool} {k : ℕ} {rs : List Row} {o : List ℕ} → row_count ws ≤ max_cells
-    → (gapless t ≡ true → Surveyed (cells_in ws) t) → b ≡ gapless t → b ≡ true → k ≡ excess t
-    → (rs ≡ change_rows (uses 3) (lower_row k) (rows_of ws)) × (o ≡ rest ws) → (rs ≡ renumbered ws) × (o ≡ rest ws)
-gapless-renumbered ws {t} l s e y f p = let g = sym e ∙ y in (
-  p.0 ∙ ap (λ (n : ℕ). change_rows (uses 3) (lower_row n) (rows_of ws)) f
-      ∙ lowered_is ws t g (s g) l,
-  p.1,
-)
+-- What a survey told, and then by how much gapless turns are above their ranks.
+pub gapless-renumbered : (rows : List Row) (o : Option Turns) (q : Option ℕ) {by : ℕ} {new : List Row} → length rows ≤ max_cells
+    → IfSome o (Surveyed (cells_in rows))
+    → MatchOption o (q ≡ None) (λ t. MatchOption q (gapless t ≡ false) (λ by. (gapless t ≡ true) × (by ≡ excess t)))
+    → q ≡ Some by → new ≡ change_rows (uses 3) (lower_row by) rows → new ≡ renumbered rows
+gapless-renumbered rows None q {by} {new} l s e f p = let no : ◌≡◌ {A = Option ℕ} None (Some by) = sym e ∙ f in cc
+gapless-renumbered rows (Some t) q {by} l s e f p =
+    let told = subst (λ (x : Option ℕ). MatchOption x (gapless t ≡ false) (λ by. (gapless t ≡ true) × (by ≡ excess t))) f e in
+    p ∙ ap (λ (n : ℕ). change_rows (uses 3) (lower_row n) rows) told.1 ∙ lowered_is rows t told.0 s l

@@ -3,12 +3,12 @@
 use Prim.Native.Nat.{ℕ, suc, ◌+◌, ◌<◌, ◌≤◌}
 use mathlib.Core.Path.{◌≡◌, refl, sym, ap, ◌∙◌}
 use mathlib.Core.Bool.{Bool, true, false, cond, ◌&&◌}
-use mathlib.Core.List.{List, [], ◌∷◌, ◌++◌, map}
+use mathlib.Core.List.{List, [], ◌∷◌, ◌++◌, map, map-append}
 use native.Mathlib.Numerals.{add-one}
 use native.Mathlib.Omega.{arith}
 use lib.Dec.{ltb, eqb}
 use lib.ListN.{length, get_or, take, drop, set, length-append, length-set}
-use lib.Seq.{take-suc, take-length, take_at, drop-cons, set_at, append_snoc}
+use lib.Seq.{take-suc, take-length, take_all, take_at, drop-cons, set_at, append_snoc}
 use borrow.Author.Tests.{lt-ltb, le-ltb}
 use Rattle.base.specs.Limits.{max_cells}
 use Rattle.base.specs.Lists.{count_of, only}
@@ -17,12 +17,10 @@ use Rattle.base.proofs.Lists.{only-pass, only-fail}
 use Rattle.cells.specs.Cell.{Cell}
 use Rattle.cells.specs.Records.{first_cell, before_cell}
 use Rattle.rows.specs.declared.Row.{Row}
-use Rattle.rows.specs.Rows.{row_count, rows_of, cell_of, cells_in, mark_row, change_rows}
-use Rattle.rows.specs.Whole.{whole_row}
+use Rattle.rows.specs.Rows.{cell_of, cells_in, mark_row, change_rows}
 use Rattle.row_tests.specs.Uses.{uses}
-use Rattle.rows.proofs.ListMaps.{count-append, map-append}
-use Rattle.rows.proofs.Rows.{whole_is}
-use Rattle.rows.proofs.Below.{cells_below, below_none, below_more, below_all}
+use Rattle.rows.proofs.ListMaps.{count-append}
+use Rattle.rows.proofs.Rows.{cells-more}
 use Rattle.row_ranks.specs.Renumber.{renumbered, first_turns, is_below, rank_row}
 
 -- how many of the first i turns are below t
@@ -49,12 +47,6 @@ module _ (t : ℕ) (l : List ℕ) where
   unfolding rank_to
   rank-end {i} a b e = let q : i ≡ length l = omega arith in e ∙ rw (q, take-length l)
 
--- a row with the rank k of its turn
-pub rank-row : (turns : List ℕ) (r : Row) {k : ℕ} {q : Row} → k ≡ count_of (is_below r.turn) turns → q ≡ mark_row 3 k r → q
-    ≡ rank_row turns r
-unfolding rank_row
-rank-row turns r e q = rw (← e) q
-
 -- ---- the turns of first records, copied
 
 first-yes : (cs : List Cell) (c : Cell) → first_cell c ≡ true → first_turns (cs ++ (c ∷ [])) ≡ first_turns cs ++ (c.turn ∷ [])
@@ -65,51 +57,50 @@ first-no : (cs : List Cell) (c : Cell) → first_cell c ≡ false → first_turn
 unfolding first_turns
 first-no cs c y = rw (only-fail first_cell cs c y)
 
--- The turns of the rows below i stand at the front of d.
-pub record Copied (ws d : List ℕ) (i m : ℕ) (now : List ℕ) : Type 0 where
-  pub count : m ≡ length (first_turns (cells_below ws i))
+-- The turns of the first i rows stand at the front of d.
+pub record Copied (rows : List Row) (d : List ℕ) (i m : ℕ) (now : List ℕ) : Type 0 where
+  pub count : m ≡ length (first_turns (cells_in (take i rows)))
   pub few : m ≤ i
   pub long : length now ≡ length d
-  pub front : now ≡ first_turns (cells_below ws i) ++ drop m d
+  pub front : now ≡ first_turns (cells_in (take i rows)) ++ drop m d
 
-module _ (ws d : List ℕ) where
-  pub copy-starts : Copied ws d 0 0 d
-  unfolding first_turns only
-  copy-starts = record { count = rw (below_none ws); few = omega arith; long = refl; front = rw (below_none ws) }
+module _ (rows : List Row) (d : List ℕ) where
+  pub copy-starts : Copied rows d 0 0 d
+  unfolding cells_in first_turns only
+  copy-starts = record { count = refl; few = omega arith; long = refl; front = refl }
 
-  module _ {i m : ℕ} {now : List ℕ} (h : Copied ws d i m now) {r : Row} (inside : i < row_count ws) (q : r ≡ whole_row ws i) {b : Bool}
-      (t : b ≡ first_cell (cell_of r)) where
-    more : first_turns (cells_below ws (i + 1)) ≡ first_turns (cells_below ws i ++ (cell_of r ∷ []))
-    more = rw (below_more ws i, q, whole_is ws i inside)
-
-    pub copy-no : b ≡ false → Copied ws d (i + 1) m now
+  -- x stands for row i where there is none.
+  module _ {i m : ℕ} {now : List ℕ} (h : Copied rows d i m now) (x : Row) (inside : i < length rows) {b : Bool}
+      (t : b ≡ first_cell (cell_of (get_or rows i x))) where
+    pub copy-no : b ≡ false → Copied rows d (i + 1) m now
     copy-no y =
-        let e : first_turns (cells_below ws (i + 1)) ≡ first_turns (cells_below ws i) = more ∙ first-no (cells_below ws i) (cell_of r) (sym t ∙ y)
-        in
-        record { count = rw e h.count; few = omega (arith, h.few); long = h.long; front = rw e h.front }
+        let e : first_turns (cells_in (take (i + 1) rows)) ≡ first_turns (cells_in (take i rows)) =
+        ap first_turns (cells-more rows i x inside) ∙ first-no (cells_in (take i rows)) (cell_of (get_or rows i x)) (sym t ∙ y) in
+        record { count = h.count ∙ ap length (sym e); few = omega (arith, h.few); long = h.long; front = rw e h.front }
 
-    turn-of : (cell_of r).turn ≡ r.turn
+    turn-of : (cell_of (get_or rows i x)).turn ≡ (get_or rows i x).turn
     unfolding cell_of
     turn-of = refl
 
-    pub copy-yes : b ≡ true → row_count ws ≤ length d → Copied ws d (i + 1) (m + 1) (set now m r.turn)
+    pub copy-yes : b ≡ true → length rows ≤ length d → Copied rows d (i + 1) (m + 1) (set now m (get_or rows i x).turn)
     copy-yes y room =
         let l : m < length d = omega (arith, h.few) in
-        let e : first_turns (cells_below ws (i + 1)) ≡ first_turns (cells_below ws i) ++ (r.turn ∷ []) =
-        more ∙ first-yes (cells_below ws i) (cell_of r) (sym t ∙ y) ∙ rw turn-of in
+        let r = get_or rows i x in
+        let e : first_turns (cells_in (take (i + 1) rows)) ≡ first_turns (cells_in (take i rows)) ++ (r.turn ∷ []) =
+        ap first_turns (cells-more rows i x inside) ∙ first-yes (cells_in (take i rows)) (cell_of r) (sym t ∙ y)
+        ∙ ap (λ (n : ℕ). first_turns (cells_in (take i rows)) ++ (n ∷ [])) turn-of in
         record {
-          count = rw (e, length-append (first_turns (cells_below ws i)) (r.turn ∷ [])) (omega (arith, h.count));
+          count = rw (e, length-append (first_turns (cells_in (take i rows))) (r.turn ∷ [])) (omega (arith, h.count));
           few = omega (arith, h.few);
           long = length-set now m r.turn ∙ h.long;
-          front = rw (e, h.front, drop-cons d m 0 l, add-one m) (set_at (first_turns (cells_below ws i)) (get_or d m 0) (drop (suc m) d)
-              r.turn m (sym h.count) ∙ sym (append_snoc (first_turns (cells_below ws i)) r.turn (drop (suc m) d)));
+          front = rw (e, h.front, drop-cons d m 0 l, add-one m)
+              (set_at (first_turns (cells_in (take i rows))) (get_or d m 0) (drop (suc m) d)
+              r.turn m (sym h.count) ∙ sym (append_snoc (first_turns (cells_in (take i rows))) r.turn (drop (suc m) d)));
         }
 
-  pub copy-ends : {i m : ℕ} {now : List ℕ} → Copied ws d i m now → i ≤ row_count ws → row_count ws ≤ i
-      → (m ≡ length (first_turns (cells_in ws))) × ((m ≤ row_count ws) × (now ≡ first_turns (cells_in ws) ++ drop m d))
-  copy-ends {i} h a b =
-      let q : row_count ws ≡ i = omega arith in
-      (rw (← below_all ws, q) h.count, (omega (arith, h.few), rw (← below_all ws, q) h.front))
+  pub copy-ends : {i m : ℕ} {now : List ℕ} → Copied rows d i m now → length rows ≤ i → i ≤ length rows
+      → (m ≡ length (first_turns (cells_in rows))) × ((m ≤ length rows) × (now ≡ first_turns (cells_in rows) ++ drop m d))
+  copy-ends {i} h a b = let e = take_all i rows a in (rw e at h.count, (omega (arith, h.few), rw e at h.front))
 
 -- ---- both together
 
@@ -125,20 +116,20 @@ rank-firsts t (c ∷ cs) = ranked (eqb c.used 3 && eqb c.index 0) (rank-firsts t
     ranked true e = ap (λ (n : ℕ). cond (ltb c.turn t) (suc n) n) e
     ranked false e = e
 
-pub renumber-is : (ws turns old : List ℕ) {m : ℕ} {rs : List Row} → row_count ws ≤ max_cells → m ≡ length (first_turns (cells_in ws)) → turns
-    ≡ first_turns (cells_in ws) ++ drop m old
-    → rs ≡ change_rows (uses 3) (rank_row (take m turns)) (rows_of ws) → rs ≡ renumbered ws
+pub renumber-is : (rows : List Row) (turns old : List ℕ) {m : ℕ} {new : List Row} → length rows ≤ max_cells
+    → m ≡ length (first_turns (cells_in rows)) → turns ≡ first_turns (cells_in rows) ++ drop m old
+    → new ≡ change_rows (uses 3) (rank_row (take m turns)) rows → new ≡ renumbered rows
 unfolding renumbered rank_row
-renumber-is ws turns old {m} h n e r =
-    let front : take m turns ≡ first_turns (cells_in ws) = rw e (take_at (first_turns (cells_in ws)) (drop m old) m (sym n)) in
-    le_yes _ _ _ _ _ h (r ∙ rw front (λ k. change_rows (uses 3) (λ x. mark_row 3 (rank-firsts x.turn (cells_in ws) k) x) (rows_of ws)))
+renumber-is rows turns old {m} h n e r =
+    let front : take m turns ≡ first_turns (cells_in rows) = rw e (take_at (first_turns (cells_in rows)) (drop m old) m (sym n)) in
+    le_yes _ _ _ _ _ h (r ∙ rw front (λ k. change_rows (uses 3) (λ x. mark_row 3 (rank-firsts x.turn (cells_in rows) k) x) rows))
 
-pub renumber-none : (ws : List ℕ) → max_cells < row_count ws → rows_of ws ≡ renumbered ws
+pub renumber-none : (rows : List Row) → max_cells < length rows → rows ≡ renumbered rows
 unfolding renumbered
-renumber-none ws h = le-no _ _ _ _ _ h refl
+renumber-none rows h = le-no _ _ _ _ _ h refl
 
 -- What `renumber` makes of as many rows as there may be cells.
-pub renumbered-is : (ws : List ℕ) → row_count ws ≤ max_cells → renumbered ws
-    ≡ change_rows (uses 3) (λ r. mark_row 3 (count_of (before_cell r.turn) (cells_in ws)) r) (rows_of ws)
+pub renumbered-is : (rows : List Row) → length rows ≤ max_cells → renumbered rows
+    ≡ change_rows (uses 3) (λ r. mark_row 3 (count_of (before_cell r.turn) (cells_in rows)) r) rows
 unfolding renumbered
-renumbered-is ws h = sym (le_yes _ _ _ _ _ h refl)
+renumbered-is rows h = sym (le_yes _ _ _ _ _ h refl)

@@ -1,48 +1,42 @@
 -- Turns renumbered: the ready messages' turns become 0, 1, 2, .. in their order.
-use Rattle.std.specs.Prelude.{ℕ, ◌+◌, ◌-◌, ◌%◌, ◌≤◌, ◌≡◌, Bool, true, cond, not, ◌&&◌, ◌||◌, List, map, ltb, leb, eqb, length, get_or, set}
+use Rattle.std.specs.Prelude.{ℕ, ◌+◌, ◌-◌, ◌%◌, ◌≤◌, ◌≡◌, min, max, Bool, true, false, cond, not, ◌&&◌, ◌||◌, List, map}
+use Rattle.std.specs.Prelude.{ltb, leb, eqb, length, get_or, set}
 use Rattle.base.specs.If.{if_le}
 use Rattle.base.specs.Limits.{max_cells}
 use Rattle.base.specs.Lists.{every, count_of, only}
 use Rattle.cells.specs.Cell.{Cell, ready_use}
 use Rattle.cells.specs.Records.{first_cell, before_cell}
 use Rattle.rows.specs.declared.Row.{Row}
-use Rattle.rows.specs.Rows.{row_count, rows_of, cells_in, mark_row, change_rows}
+use Rattle.rows.specs.Rows.{cells_in, mark_row, change_rows}
 use Rattle.row_tests.specs.Uses.{uses}
 use Rattle.row_ranks.specs.declared.Turns.{Turns}
 
 -- A ready cell's turn becomes the number of ready messages before its own. More rows than document 01 has cells are left as they are.
-unfoldable pub renumbered : List ℕ → List Row
-renumbered ws =
-    if_le (row_count ws) max_cells
-    (change_rows (uses ready_use) (λ r. mark_row ready_use (count_of (before_cell r.turn) (cells_in ws)) r) (rows_of ws))
-    (rows_of ws)
+unfoldable pub renumbered : List Row → List Row
+renumbered rows =
+    if_le (length rows) max_cells
+    (change_rows (uses ready_use) (λ r. mark_row ready_use (count_of (before_cell r.turn) (cells_in rows)) r) rows)
+    rows
 
 -- ---- how it is computed
-
--- the less and the greater of two numbers
-unfoldable pub lesser : ℕ → ℕ → ℕ
-lesser a b = cond (ltb a b) a b
-
-unfoldable pub greater : ℕ → ℕ → ℕ
-greater a b = cond (ltb a b) b a
 
 -- with one more ready cell: the first cells' number, and of all ready cells the least and the greatest turn
 unfoldable pub with_turn : Turns → Cell → Turns
 with_turn t c = record {
   firsts = t.firsts + cond (eqb c.index 0) 1 0;
-  least = lesser t.least c.turn;
-  top = greater t.top c.turn;
+  least = min t.least c.turn;
+  top = max t.top c.turn;
 }
 
 -- Marks for first cells, by their turns' remainders. A ready cell that is first has its mark set, and is new where it was not.
-unfoldable pub mark_at : List ℕ → Cell → ℕ
+unfoldable pub mark_at : List Bool → Cell → ℕ
 mark_at marks c = c.turn % length marks
 
-unfoldable pub is_new : List ℕ → Cell → Bool
-is_new marks c = not (eqb c.index 0) || eqb (get_or marks (mark_at marks c) 0) 0
+unfoldable pub is_new : List Bool → Cell → Bool
+is_new marks c = not (eqb c.index 0) || not (get_or marks (mark_at marks c) false)
 
-unfoldable pub marked_with : List ℕ → Cell → List ℕ
-marked_with marks c = cond (eqb c.index 0) (set marks (mark_at marks c) 1) marks
+unfoldable pub marked_with : List Bool → Cell → List Bool
+marked_with marks c = cond (eqb c.index 0) (set marks (mark_at marks c) true) marks
 
 -- Do first cells of different turns fill all from the least to the greatest? (The greatest is the less where no cell is ready.)
 unfoldable pub gapless : Turns → Bool

@@ -2,22 +2,24 @@
 // their order. Mostly they follow one another, since a take frees the least one: then each is lowered by the least, and nothing is written
 // where that is 0. Else a rank is counted over the turns as they were, so these are copied first, one for each ready message. Copy and
 // marks are local arrays for as many rows as document 01 has cells. More rows are left as they are: a count of them all need not fit a
-// turn.
+// turn. (Arrays and no `Vec`: the receiver has no heap.)
 
 #![tactic(auto)]
 
-ghost use Rattle.std.specs.Prelude.{◌≡◌, true, cond, ◌++◌, ◌-◌, ◌<◌, ◌≤◌, length, drop, set};
+ghost use Rattle.std.specs.Prelude.{◌≡◌, true, false, ◌++◌, ◌<◌, ◌≤◌, length, drop, IfSome, MatchOption};
 ghost use Rattle.base.specs.Limits.{max_cells};
 ghost use Rattle.base.specs.Lists.{count_of};
-ghost use Rattle.rows.specs.Rows.{row_count, rows_of, cell_of, cells_in, change_row, change_rows};
-ghost use Rattle.rows.specs.Whole.{whole_row, rest};
+ghost use Rattle.rows.specs.Rows.{cell_of, cells_in, change_rows};
 ghost use Rattle.row_tests.specs.Uses.{uses};
 ghost use Rattle.row_ranks.specs.Renumber as Renumber;
 ghost use Rattle.row_ranks.specs.Renumber.{renumbered, with_turn, is_new, marked_with, gapless, Surveyed, lower_row, first_turns, is_below};
 ghost use Rattle.row_ranks.specs.Renumber.{rank_row};
 ghost use Rattle.cells.specs.Cell.{ready_use};
 
-use rows::{ROW, Row};
+use row_sweeps::sweep;
+use row_tests::{is_first, is_used_as};
+use rows::{Row, mark_row};
+use std::mem;
 
 // Up to so many rows few marks are enough.
 const FEW_ROWS: usize = 64;
@@ -31,264 +33,173 @@ struct Turns {
     top: u32,
 }
 
-fn lesser(a: u32, b: u32) -> u32
-    ensures { result ≡ Renumber.lesser a b }
-{
-    if a < b {
-        return a;
-    }
-    b
-}
-
-fn greater(a: u32, b: u32) -> u32
-    ensures { result ≡ Renumber.greater a b }
-{
-    if a < b {
-        return b;
-    }
-    a
-}
-
-fn one_if(b: bool) -> u32
-    ensures { (result ≡ cond b 1 0) × (result ≤ 1) }
-{
-    if b { 1 } else { 0 }
-}
-
 // With one more ready cell.
-fn with_turn(t: Turns, r: Row) -> Turns
+fn with_turn(t: Turns, r: &Row) -> Turns
     requires { t.firsts ≤ max_cells }
-    ensures { result ≡ with_turn t (cell_of r) }
+    ensures { result ≡ with_turn t (cell_of r.now) }
 {
     Turns {
-        firsts: t.firsts + one_if(r.index == 0),
-        least: lesser(t.least, r.turn),
-        top: greater(t.top, r.turn),
+        firsts: t.firsts + u32::from(r.index == 0),
+        least: t.least.min(r.turn),
+        top: t.top.max(r.turn),
     }
 }
 
 // Is this a first cell of a turn whose mark is not set, or no first cell? The mark is set. Turns share a mark where their remainders are
-// equal.
-fn is_new(marks: &mut [u8], r: Row) -> bool
+// equal. (`as usize`: u32 has no From to it.)
+fn is_new(marks: &mut [bool], r: &Row) -> bool
     requires { 0 < length marks.old }
-    ensures is { result ≡ is_new marks.old (cell_of r) }
-    ensures marks { marks.new ≡ marked_with marks.old (cell_of r) }
+    ensures is { result ≡ is_new marks.old (cell_of r.now) }
+    ensures marks { marks.new ≡ marked_with marks.old (cell_of r.now) }
 {
     if r.index == 0 {
         let at = r.turn as usize % marks.len();
-        let b = marks[at];
-        marks[at] = 1;
-        return b == 0;
+        return !mem::replace(&mut marks[at], true);
     }
     true
 }
 
-// What is told only where the first cells' turns are known to differ: else turns are given that are not gapless.
-fn survey(words: &[u32], marks: &mut [u8]) -> Turns
-    requires { (0 < length marks.old) × (row_count words.now ≤ max_cells) }
-    ensures { gapless result ≡ true → Surveyed (cells_in words.now) result }
+// What is told only where the first cells' turns are known to differ. (That the rows are few, here and below, `renumber` tests once: no
+// type of a slice says it.)
+fn survey(rows: &[Row], marks: &mut [bool]) -> Option<Turns>
+    requires { (0 < length marks.old) × (length rows.now ≤ max_cells) }
+    ensures { IfSome result (Surveyed (cells_in rows.now)) }
 {
-    let n = words.len() / ROW;
     let mut t = Turns {
         firsts: 0,
-        least: 4294967295,
+        least: u32::MAX,
         top: 0,
     };
-    let mut i = 0;
-    while i < n {
-        let r = rows::whole_row(words, i);
-        if row_tests::is_used_as(r, cells::READY) {
+    for r in rows {
+        if is_used_as(r, cells::READY) {
             if is_new(marks, r) {
                 t = with_turn(t, r);
-                i += 1;
             } else {
-                return Turns {
-                    firsts: 0,
-                    least: 0,
-                    top: 0,
-                };
+                return None;
             }
-        } else {
-            i += 1;
         }
     }
-    t
+    Some(t)
 }
 
-// Are the first cells' turns, if they differ, all from the least to the greatest? Where none is ready too.
-fn is_gapless(t: Turns) -> bool
-    ensures { result ≡ gapless t }
+// By how much each turn is above its rank, where the first cells' turns, if they differ, are all from the least to the greatest. Where none
+// is ready, too.
+fn excess(t: Turns) -> Option<u32>
+    ensures { MatchOption result (gapless t ≡ false) (λ by. (gapless t ≡ true) × (by ≡ Renumber.excess t)) }
 {
     if t.top < t.least {
-        return true;
+        return Some(0);
     }
     if t.firsts == 0 {
-        return false;
+        return None;
     }
-    t.top - t.least == t.firsts - 1
+    (t.top - t.least == t.firsts - 1).then_some(t.least)
 }
 
-// By how much a gapless turn is above its rank.
-fn excess(t: Turns) -> u32
-    ensures { result ≡ Renumber.excess t }
+#[tactic(auto, unfolding(crate::specs::Renumber::lower_row))]
+fn lower_all(rows: &mut [Row], by: u32)
+    ensures { rows.new ≡ change_rows (uses ready_use) (lower_row by) rows.old }
 {
-    if t.top < t.least {
-        return 0;
-    }
-    t.least
-}
-
-fn lowered(turn: u32, by: u32) -> u32
-    ensures { result ≡ turn - by }
-{
-    if turn < by {
-        return 0;
-    }
-    turn - by
-}
-
-fn lower_row(words: &mut [u32], i: usize, by: u32)
-    ensures is { rows_of words.new ≡ set (rows_of words.old) i
-        (change_row (uses ready_use) (lower_row by) (whole_row words.old i)) }
-    ensures rest { rest words.new ≡ rest words.old }
-{
-    let r = rows::whole_row(words, i);
-    if row_tests::is_used_as(r, cells::READY) {
-        let turn = lowered(r.turn, by);
-        rows::put_row(words, i, rows::mark_row(r, cells::READY, turn));
-    }
-}
-
-fn lower_all(words: &mut [u32], by: u32)
-    ensures is { rows_of words.new ≡ change_rows (uses ready_use) (lower_row by) (rows_of words.old) }
-    ensures rest { rest words.new ≡ rest words.old }
-{
-    if by == 0 {
-        return;
-    }
-    let n = words.len() / ROW;
-    let mut i = 0;
-    while i < n {
-        lower_row(words, i, by);
-        i += 1;
+    if by != 0 {
+        sweep(
+            rows,
+            |r| is_used_as(r, cells::READY),
+            |r| mark_row(r, cells::READY, r.turn.saturating_sub(by)),
+        );
     }
 }
 
 // The turns of the first cells of ready messages go to the front of turns; how many there are.
-fn copy_firsts(words: &[u32], turns: &mut [u32]) -> usize
-    requires { row_count words.now ≤ length turns.old }
-    ensures count { result ≡ length (first_turns (cells_in words.now)) }
-    ensures few { result ≤ row_count words.now }
-    ensures front { turns.new ≡ first_turns (cells_in words.now) ++ drop result turns.old }
+fn copy_firsts(rows: &[Row], turns: &mut [u32]) -> usize
+    requires { length rows.now ≤ length turns.old }
+    ensures count { result ≡ length (first_turns (cells_in rows.now)) }
+    ensures few { result ≤ length rows.now }
+    ensures front { turns.new ≡ first_turns (cells_in rows.now) ++ drop result turns.old }
 {
-    let n = words.len() / ROW;
-    let mut i = 0;
     let mut m: usize = 0;
-    while i < n {
-        let r = rows::whole_row(words, i);
-        if row_tests::is_first(r) {
+    for r in rows {
+        if is_first(r) {
             turns[m] = r.turn;
             m += 1;
-            i += 1;
-        } else {
-            i += 1;
         }
     }
     m
 }
 
 // How many of the turns are below this one.
-fn rank(turns: &[u32], turn: u32) -> usize
-    ensures is { result ≡ count_of (is_below turn) turns.now }
-    ensures small { result ≤ length turns.now }
+fn rank(turns: &[u32], turn: u32) -> u32
+    requires { length turns.now ≤ max_cells }
+    ensures { result ≡ count_of (is_below turn) turns.now }
 {
-    let mut i = 0;
-    let mut k: usize = 0;
-    while i < turns.len() {
-        if turns[i] < turn {
+    let mut k: u32 = 0;
+    for t in turns {
+        if *t < turn {
             k += 1;
         }
-        i += 1;
     }
     k
 }
 
-fn rank_row(words: &mut [u32], turns: &[u32], i: usize)
+#[tactic(auto, unfolding(crate::specs::Renumber::rank_row))]
+fn rank_all(rows: &mut [Row], turns: &[u32])
     requires { length turns.now ≤ max_cells }
-    ensures is { rows_of words.new ≡ set (rows_of words.old) i
-        (change_row (uses ready_use) (rank_row turns.now) (whole_row words.old i)) }
-    ensures rest { rest words.new ≡ rest words.old }
+    ensures { rows.new ≡ change_rows (uses ready_use) (rank_row turns.now) rows.old }
 {
-    let r = rows::whole_row(words, i);
-    if row_tests::is_used_as(r, cells::READY) {
-        let k = rank(turns, r.turn);
-        rows::put_row(words, i, rows::mark_row(r, cells::READY, k as u32));
+    sweep(
+        rows,
+        |r| is_used_as(r, cells::READY),
+        |r| mark_row(r, cells::READY, rank(turns, r.turn)),
+    );
+}
+
+fn renumber_by(rows: &mut [Row], turns: &mut [u32])
+    requires { (length rows.old ≤ length turns.old) × (length rows.old ≤ max_cells) }
+    ensures { rows.new ≡ renumbered rows.old }
+{
+    let m = copy_firsts(rows, turns);
+    rank_all(rows, &turns[..m]);
+}
+
+// Gapless turns are lowered, where N marks tell that they are. Were they?
+fn lower_gapless<const N: usize>(rows: &mut [Row]) -> bool
+    requires marks { (0 < N) × (N ≤ max_cells) }
+    requires few { length rows.old ≤ max_cells }
+    ensures lowered { result ≡ true → rows.new ≡ renumbered rows.old }
+    ensures left { result ≡ false → rows.new ≡ rows.old }
+{
+    let mut marks = [false; N];
+    match survey(rows, &mut marks).and_then(excess) {
+        Some(by) => {
+            lower_all(rows, by);
+            true
+        }
+        None => false,
     }
 }
 
-fn rank_all(words: &mut [u32], turns: &[u32])
-    requires { length turns.now ≤ max_cells }
-    ensures is { rows_of words.new
-        ≡ change_rows (uses ready_use) (rank_row turns.now) (rows_of words.old) }
-    ensures rest { rest words.new ≡ rest words.old }
+fn renumber_many(rows: &mut [Row])
+    requires { length rows.old ≤ max_cells }
+    ensures { rows.new ≡ renumbered rows.old }
 {
-    let n = words.len() / ROW;
-    let mut i = 0;
-    while i < n {
-        rank_row(words, turns, i);
-        i += 1;
-    }
-}
-
-fn renumber_by(words: &mut [u32], turns: &mut [u32])
-    requires { (row_count words.old ≤ length turns.old) × (row_count words.old ≤ max_cells) }
-    ensures is { rows_of words.new ≡ renumbered words.old }
-    ensures rest { rest words.new ≡ rest words.old }
-{
-    let m = copy_firsts(words, turns);
-    rank_all(words, &turns[..m]);
-}
-
-fn renumber_many(words: &mut [u32])
-    requires { row_count words.old ≤ max_cells }
-    ensures is { rows_of words.new ≡ renumbered words.old }
-    ensures rest { rest words.new ≡ rest words.old }
-{
-    let mut marks = [0u8; base::MAX_CELLS];
-    let t = survey(words, &mut marks);
-    if is_gapless(t) {
-        lower_all(words, excess(t));
+    if lower_gapless::<{ base::MAX_CELLS }>(rows) {
         return;
     }
     let mut turns = [0u32; base::MAX_CELLS];
-    renumber_by(words, &mut turns);
-}
-
-fn renumber_few(words: &mut [u32])
-    requires { row_count words.old ≤ max_cells }
-    ensures is { rows_of words.new ≡ renumbered words.old }
-    ensures rest { rest words.new ≡ rest words.old }
-{
-    let mut marks = [0u8; FEW_ROWS];
-    let t = survey(words, &mut marks);
-    if is_gapless(t) {
-        lower_all(words, excess(t));
-        return;
-    }
-    renumber_many(words);
+    renumber_by(rows, &mut turns);
 }
 
 // A ready cell's turn becomes the number of ready messages before its own.
-pub fn renumber(words: &mut [u32])
-    ensures is { rows_of words.new ≡ renumbered words.old }
-    ensures rest { rest words.new ≡ rest words.old }
+pub fn renumber(rows: &mut [Row])
+    ensures { rows.new ≡ renumbered rows.old }
 {
-    let n = words.len() / ROW;
-    if n <= FEW_ROWS {
-        renumber_few(words);
+    if rows.len() <= FEW_ROWS {
+        if lower_gapless::<FEW_ROWS>(rows) {
+            return;
+        }
+        renumber_many(rows);
         return;
     }
-    if n <= base::MAX_CELLS {
-        renumber_many(words);
+    if rows.len() <= base::MAX_CELLS {
+        renumber_many(rows);
     }
 }

@@ -2,27 +2,32 @@
 -- Assumes nothing.
 use Prim.Native.Nat.{ℕ, suc, ◌+◌, ◌<◌, ◌≤◌}
 use mathlib.Core.Path.{◌≡◌, refl, sym, ap, ◌∙◌}
-use mathlib.Core.Logic.{◌⊎◌, inl, inr}
-use mathlib.Core.Bool.{Bool, true, false, ◌&&◌, ◌||◌, true≢false, false≢true}
+use mathlib.Core.Bool.{Bool, true, false, ◌&&◌, cond, ◌||◌, true≢false, false≢true}
 use mathlib.Core.List.{List, [], ◌∷◌, ◌++◌, append-nil, Memᴰ}
 use native.Mathlib.Omega.{arith}
 use lib.Dec.{ltb, eqb}
-use lib.ListN.{length}
-use borrow.Author.Tests.{ltb-true, ltb-false, lt-ltb, le-ltb, eqb-true, eqb-false, eq-eqb, ne_eqb}
+use lib.ListN.{length, take, get_or}
+use lib.Seq.{take_all}
+use borrow.Author.Tests.{ltb-true, ltb-false, lt-ltb, le-ltb, eqb-true, eqb-false, eq-eqb}
+use Rattle.std.specs.Prelude.{Option, Some, None, MatchOption}
 use Rattle.base.specs.Lists.{any}
 use Rattle.base.proofs.Choices.{cases, and_left, and_right, and_both, neither}
 use Rattle.base.proofs.Lists.{any-true, any_false, any-all, any-mem}
 use Rattle.cells.specs.Cell.{Cell, ready_as, bears, at}
-use Rattle.cells.specs.Records.{before_cell, first_cell, index_of}
+use Rattle.cells.specs.Records.{unused_at, before_cell, first_cell, index_of}
 use Rattle.rows.specs.declared.Row.{Row}
-use Rattle.rows.specs.Rows.{row_at, row_count, cell_of, cells_in}
-use Rattle.rows.specs.Whole.{whole_row}
-use Rattle.rows.proofs.Rows.{whole_is}
+use Rattle.rows.specs.Rows.{cell_of, cells_in}
+use Rattle.rows.proofs.Rows.{cells-length, cells-more, below-length}
+use Rattle.row_tests.specs.Uses.{uses}
 use Rattle.rows.proofs.ListMaps.{any_append}
-use Rattle.rows.proofs.Below.{cells_below, below_all, below_none, below_more, below_length}
 use Rattle.row_scans.specs.Ready.{is_earliest, first_ready}
 
 -- ---- the first record that passes
+
+pub unused-index : (cs : List Cell) → unused_at cs ≡ index_of (uses 0) cs
+unfolding unused_at index_of
+unused-index [] = refl
+unused-index (c ∷ cs) = ap (λ (n : ℕ). cond (eqb c.used 0) 0 (suc n)) (unused-index cs)
 
 module _ (p : Cell → Bool) where
   pub index-there : (cs : List Cell) → any p cs ≡ true → index_of p cs < length cs
@@ -121,28 +126,37 @@ pub record Least (cs : List Cell) (i t : ℕ) : Type 0 where
   pub there : any (at (ready_as t) 0) cs ≡ true
   pub is : i ≡ index_of (at (ready_as t) 0) cs
 
--- The scan's state: i is n where there is none yet.
-abbrev pub Scanned : List Cell → ℕ → ℕ → ℕ → Type 0
-Scanned cs n i t = ((i ≡ n) × (any first_cell cs ≡ false)) ⊎ Least cs i t
+-- The scan's state: what the best so far is, if there is one.
+abbrev pub Scanned : List Cell → Option (ℕ × ℕ) → Type 0
+Scanned cs None = any first_cell cs ≡ false
+Scanned cs (Some b) = Least cs b.0 b.1
+
+-- Is a turn earlier than that of the best so far?
+abbrev pub is_sooner : ℕ → Option (ℕ × ℕ) → Bool
+is_sooner turn None = true
+is_sooner turn (Some b) = ltb turn b.1
+
+-- The same as a call tells it.
+pub sooner : (turn : ℕ) (o : Option (ℕ × ℕ)) {b : Bool} → MatchOption o (b ≡ true) (λ x. b ≡ ltb turn x.1) → b ≡ is_sooner turn o
+sooner turn None e = e
+sooner turn (Some x) e = e
 
 -- One record more: it is now the least, or the one found before it is. f is what the test gave of it.
-module _ (cs : List Cell) (c : Cell) (k n i t : ℕ) (long : length cs ≡ k) (l : k < n) {f : Bool} (e : f ≡ first_cell c) where
+module _ (cs : List Cell) (c : Cell) {f : Bool} (e : f ≡ first_cell c) where
   more : (p : Cell → Bool) {a b : Bool} → any p cs ≡ a → p c ≡ b → any p (cs ++ (c ∷ [])) ≡ (a || (b || false))
   unfolding any
   more p g h = any_append p cs (c ∷ []) ∙ rw (g, h)
 
-  other : Least cs i t → eqb i n ≡ false
-  other v = ne_eqb i n (λ q. let w = v.is in let d = index-there (at (ready_as t) 0) cs v.there in omega arith)
+  all-later : (o : Option (ℕ × ℕ)) → Scanned cs o → is_sooner c.turn o ≡ true → any (before_cell (suc c.turn)) cs ≡ false
+  all-later None s h = none-less first_cell _ cs (before-first (suc c.turn)) s
+  all-later (Some b) s h = let lt = ltb-true c.turn b.1 h in none-less _ _ cs (before-later (suc c.turn) b.1 (omega arith)) s.none
 
-  module _ (s : Scanned cs n i t) (h : (f && (eqb i n || ltb c.turn t)) ≡ true) where
-    all-later : Scanned cs n i t → any (before_cell (suc c.turn)) cs ≡ false
-    all-later (inl z) = none-less first_cell _ cs (before-first (suc c.turn)) z.1
-    all-later (inr v) =
-        let lt = ltb-true c.turn t (rw (other v) at (and_right f _ h)) in
-        none-less _ _ cs (before-later (suc c.turn) t (omega arith)) v.none
+  module _ (o : Option (ℕ × ℕ)) (s : Scanned cs o) (h : (f && is_sooner c.turn o) ≡ true) where
+    later : any (before_cell (suc c.turn)) cs ≡ false
+    later = all-later o s (and_right f _ h)
 
     none-same : any (at (ready_as c.turn) 0) cs ≡ false
-    none-same = none-less _ _ cs (at_before c.turn (suc c.turn) (omega arith)) (all-later s)
+    none-same = none-less _ _ cs (at_before c.turn (suc c.turn) (omega arith)) later
 
     own : at (ready_as c.turn) 0 c ≡ true
     own = at-is c.turn c ∙ and_both _ _ (sym e ∙ and_left f _ h) (eq-eqb c.turn c.turn refl)
@@ -150,54 +164,48 @@ module _ (cs : List Cell) (c : Cell) (k n i t : ℕ) (long : length cs ≡ k) (l
     not_own : before_cell c.turn c ≡ false
     not_own = before-is c.turn c ∙ cases (first_cell c) (λ y. rw (y, le-ltb c.turn c.turn (omega arith))) (λ y. rw y)
 
-    takes : Least (cs ++ (c ∷ [])) k c.turn
+    takes : Least (cs ++ (c ∷ [])) (length cs) c.turn
     unfolding index_of
     takes = record {
-      none = more (before_cell c.turn) (none-less _ _ cs (before-later c.turn (suc c.turn) (omega arith)) (all-later s)) not_own;
+      none = more (before_cell c.turn) (none-less _ _ cs (before-later c.turn (suc c.turn) (omega arith)) later) not_own;
       there = more (at (ready_as c.turn) 0) none-same own;
       is = sym (index-past (at (ready_as c.turn) 0) cs (c ∷ []) none-same ∙ rw own (omega arith));
     }
 
-  passes : Scanned cs n i t → (f && (eqb i n || ltb c.turn t)) ≡ false → Scanned (cs ++ (c ∷ [])) n i t
-  passes (inl z) h = inl (
-    z.0,
-    more first_cell z.1 (sym e ∙ cases f (λ y. absurd (true≢false (rw (y, eq-eqb i n z.0) at h)))
-        (λ y. y)),
-  )
-  passes (inr v) h = inr (record {
-    none = more (before_cell t) {b = false} v.none (before-is t c ∙ rw (← e) (rw (other v) at h));
-    there = any_append (at (ready_as t) 0) cs (c ∷ []) ∙ rw v.there;
-    is = v.is ∙ sym (index-within (at (ready_as t) 0) cs (c ∷ []) v.there);
-  })
+  passes : (o : Option (ℕ × ℕ)) → Scanned cs o → (f && is_sooner c.turn o) ≡ false → Scanned (cs ++ (c ∷ [])) o
+  passes None s h = more first_cell s (sym e ∙ cases f (λ y. absurd (true≢false (rw y at h))) (λ y. y))
+  passes (Some b) s h = record {
+    none = more (before_cell b.1) {b = false} s.none (before-is b.1 c ∙ rw (← e) h);
+    there = any_append (at (ready_as b.1) 0) cs (c ∷ []) ∙ rw s.there;
+    is = s.is ∙ sym (index-within (at (ready_as b.1) 0) cs (c ∷ []) s.there);
+  }
 
--- The same, over the rows: r is row i, and f is what the test gave of it.
-pub scan-starts : (ws : List ℕ) (n t : ℕ) → Scanned (cells_below ws 0) n n t
-unfolding any
-scan-starts ws n t = inl (refl, rw (below_none ws))
+-- The same over the rows: row i is one more. The test of the best so far is told by a call.
+pub scan-starts : Scanned (cells_in []) None
+unfolding cells_in any
+scan-starts = refl
 
-module _ (ws : List ℕ) (i : ℕ) {j t : ℕ} {r : Row} {f : Bool} (l : i < row_count ws) (q : r ≡ whole_row ws i) (e : f ≡ first_cell (cell_of r))
-    (s : Scanned (cells_below ws i) (row_count ws) j t) where
-  row_is : cell_of (row_at ws i) ≡ cell_of r
-  row_is = ap cell_of (sym (q ∙ whole_is ws i l))
+module _ (rows : List Row) (i : ℕ) (d : Row) (l : i < length rows) (o : Option (ℕ × ℕ)) (b : Bool) {f : Bool}
+    (s : Scanned (cells_in (take i rows)) o) (e : f ≡ first_cell (cell_of (get_or rows i d)))
+    (t : MatchOption o (b ≡ true) (λ x. b ≡ ltb (get_or rows i d).turn x.1)) where
+  tested : {v : Bool} → (f && b) ≡ v → (f && is_sooner (get_or rows i d).turn o) ≡ v
+  tested h = ap (λ (x : Bool). f && x) (sym (sooner (get_or rows i d).turn o t)) ∙ h
 
-  pub scan-takes : (f && (eqb j (row_count ws) || ltb r.turn t)) ≡ true → {j' t' : ℕ} → j' ≡ i → t' ≡ r.turn
-      → Scanned (cells_below ws (i + 1)) (row_count ws) j' t'
+  pub scan-takes : {q : Option (ℕ × ℕ)} → (f && b) ≡ true → q ≡ Some (i, (get_or rows i d).turn) → Scanned (cells_in (take (i + 1) rows)) q
   unfolding cell_of
-  scan-takes h ej et = inr (rw (ej, et, below_more ws i, row_is) (takes (cells_below ws i) (cell_of r) i (row_count ws) j t (below_length ws i)
-      l e s h))
+  scan-takes h z =
+      let k = takes (cells_in (take i rows)) (cell_of (get_or rows i d)) e o s (tested h) in
+      rw (z, cells-more rows i d l) (rw (below-length rows i (omega arith)) at k)
 
-  pub scan-passes : (f && (eqb j (row_count ws) || ltb r.turn t)) ≡ false → {j' t' : ℕ} → j' ≡ j → t' ≡ t
-      → Scanned (cells_below ws (i + 1)) (row_count ws) j' t'
+  pub scan-passes : {q : Option (ℕ × ℕ)} → (f && b) ≡ false → q ≡ o → Scanned (cells_in (take (i + 1) rows)) q
   unfolding cell_of
-  scan-passes h ej et = rw (ej, et, below_more ws i, row_is) (passes (cells_below ws i) (cell_of r) i (row_count ws) j t (below_length ws i) l
-      e s h)
+  scan-passes h z = rw (z, cells-more rows i d l) (passes (cells_in (take i rows)) (cell_of (get_or rows i d)) e o s (tested h))
 
-pub scan-ends : (ws : List ℕ) {i j t : ℕ} → i ≤ row_count ws → row_count ws ≤ i → Scanned (cells_below ws i) (row_count ws) j t → j
-    ≡ first_ready (cells_in ws)
-scan-ends ws {i} {j} {t} le ge s =
-    let q : i ≡ row_count ws = omega arith in
-    found s ∙ ap (λ (k : ℕ). first_ready (cells_below ws k)) q ∙ ap first_ready (below_all ws)
+pub scan-ends : (rows : List Row) (i : ℕ) (o : Option (ℕ × ℕ)) {n : ℕ} → length rows ≤ i → Scanned (cells_in (take i rows)) o
+    → MatchOption o (n ≡ length rows) (λ x. n ≡ x.0) → n ≡ first_ready (cells_in rows)
+scan-ends rows i o l s e = ends o (rw (take_all i rows l) at s) e
   where
-    found : Scanned (cells_below ws i) (row_count ws) j t → j ≡ first_ready (cells_below ws i)
-    found (inl z) = let n = ready-none (cells_below ws i) z.1 in let k = below_length ws i in let e = z.0 in omega arith
-    found (inr v) = v.is ∙ sym (ready-is (cells_below ws i) t v.none v.there)
+    ends : (o : Option (ℕ × ℕ)) {n : ℕ} → Scanned (cells_in rows) o → MatchOption o (n ≡ length rows) (λ x. n ≡ x.0)
+        → n ≡ first_ready (cells_in rows)
+    ends None s e = e ∙ sym (ready-none (cells_in rows) s ∙ cells-length rows)
+    ends (Some x) s e = e ∙ s.is ∙ sym (ready-is (cells_in rows) x.1 s.none s.there)

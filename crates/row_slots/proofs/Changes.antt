@@ -11,7 +11,8 @@ use borrow.Author.Tests.{eqb-true, ne_eqb}
 use Rattle.base.proofs.Choices.{cases}
 use Rattle.base.specs.Lists.{count_of}
 use Rattle.bare.specs.Frame.{Frame}
-use Rattle.cells.specs.Cell.{Cell, Slot, Key, bears, of, is_free, is_ready, mark, empty_slot, change, map_if, turn_to, put_slot, slot_of, mark_cell}
+use Rattle.cells.specs.Cell.{Cell, Slot, Key, bears, of, is_free, is_ready, mark, empty_slot, change, map_if, turn_to}
+use Rattle.cells.specs.Cell.{put_slot, slot_of, mark_cell}
 use Rattle.cells.specs.Cell.{empty_cell}
 use Rattle.cells.specs.Records.{unused_at, before_cell}
 use Rattle.cells.specs.Store.{cell_size}
@@ -70,7 +71,8 @@ slots-put r f u t p rs st d n e q b =
 -- A row changed, where its record passes, as the slot that it means.
 change-in : (p : Cell → Bool) (g : Row → Row) (q : Slot → Bool) (h : Slot → Slot) (r : Row) (bytes d : List ℕ) → q (slot_in r bytes d)
     ≡ p (cell_of r)
-    → (p (cell_of r) ≡ true → slot_in (g r) bytes d ≡ h (slot_in r bytes d)) → slot_in (change_row p g r) bytes d ≡ change q h (slot_in r bytes d)
+    → (p (cell_of r) ≡ true → slot_in (g r) bytes d ≡ h (slot_in r bytes d))
+    → slot_in (change_row p g r) bytes d ≡ change q h (slot_in r bytes d)
 unfolding change_row change
 change-in p g q h r bytes d e f = cases (p (cell_of r)) (λ t. rw (e, t) (f t)) (λ t. rw (e, t))
 
@@ -111,7 +113,8 @@ unfolding of is_free
 bears-used k c e = key-used k (record { cell = c; body = [] }) e
 
 -- The rows of a message get another use, not 0, and another turn.
-pub slots-turned : (k : Key) (u t : ℕ) (rs : List Row) (st d : List ℕ) → (u ≡ 0 → ⊥) → slots_in (change_rows (bears k) (mark_row u t) rs) st d
+pub slots-turned : (k : Key) (u t : ℕ) (rs : List Row) (st d : List ℕ) → (u ≡ 0 → ⊥)
+    → slots_in (change_rows (bears k) (mark_row u t) rs) st d
     ≡ turn_to k u t (slots_in rs st d)
 unfolding turn_to of
 slots-turned k u t rs st d n = slots-changed (bears k) (mark_row u t) (of k) (mark u t) d (λ s. refl)
@@ -136,7 +139,8 @@ slots-renumbered rs st d =
     ranked : (t : ℕ) → count_of (before_cell t) (map cell_of rs) ≡ rank (slots_in rs st d) t
     ranked t = ap (count_of (before_cell t)) (sym (cells_in rs st d)) ∙ sym (rank-cells (slots_in rs st d) t)
 
-    one : (r : Row) (bytes : List ℕ) → eqb (cell_of r).used 3 ≡ true → slot_in (mark_row 3 (count_of (before_cell r.turn) (map cell_of rs)) r)
+    one : (r : Row) (bytes : List ℕ) → eqb (cell_of r).used 3 ≡ true
+        → slot_in (mark_row 3 (count_of (before_cell r.turn) (map cell_of rs)) r)
         bytes d ≡ mark 3 (rank (slots_in rs st d) (slot_in r bytes d).cell.turn) (slot_in r bytes d)
     one r bytes e =
         let q = eqb-true (cell_of r).used 3 e in

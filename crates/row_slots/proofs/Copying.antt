@@ -50,7 +50,8 @@ body-copied : (r : Row) (bytes d : List ℕ) → is_placed r ≡ true → row_bo
 unfolding row_body row_bytes
 body-copied r bytes d t = let e = placed-is r t in rw (e.0, e.1)
 
-cell-copied : (r : Row) (bytes d : List ℕ) → is_placed r ≡ true → flushed_cell r bytes d ≡ placed_body r d ++ drop (length (placed_body r d))
+cell-copied : (r : Row) (bytes d : List ℕ) → is_placed r ≡ true
+    → flushed_cell r bytes d ≡ placed_body r d ++ drop (length (placed_body r d))
     bytes
 unfolding flushed_cell
 cell-copied r bytes d t = rw (t, body-copied r bytes d t)
@@ -64,7 +65,8 @@ short-body r d z t = let p = z.short (placed-is r t).0 in simp length-take (omeg
 
 cell-length : (r : Row) (bytes d : List ℕ) → Fits d r → length bytes ≡ cell_size → length (flushed_cell r bytes d) ≡ cell_size
 cell-length r bytes d z e = cases (is_placed r)
-    (λ t. let p = short-body r d z t in rw (cell-copied r bytes d t) (length-append (placed_body r d) (drop (length (placed_body r d)) bytes)
+    (λ t. let p = short-body r d z t in
+    rw (cell-copied r bytes d t) (length-append (placed_body r d) (drop (length (placed_body r d)) bytes)
     ∙ (let q = length-drop (length (placed_body r d)) bytes in omega arith)))
     (λ t. rw (cell-kept r bytes d t) e)
 
@@ -101,7 +103,8 @@ module _ (d : List ℕ) (x : Row) where
       let m = suc-mul i cell_size in
       let e : suc i * cell_size ≡ cell_size + i * cell_size = omega arith in
       rw (flush-lays i rs (drop cell_size st) (λ y k. v y (Memᴰ.tail k)) w.1 (omega arith) t, e)
-      (overlay-after (flushed_cell r (take cell_size st) d) (flushed (take i rs) (drop cell_size st) d) (placed_body (get_or rs i x) d) cell_size
+      (overlay-after (flushed_cell r (take cell_size st) d) (flushed (take i rs) (drop cell_size st) d)
+      (placed_body (get_or rs i x) d) cell_size
       (i * cell_size) n)
 
   -- Row i, where it is unused or has no place: no byte changes.

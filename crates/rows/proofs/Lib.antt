@@ -1,6 +1,3 @@
 pub mod ListMaps
-pub mod Listed
 pub mod Rows
-pub mod Below
-pub mod Stores
-pub mod Changes
+pub mod Tests

@@ -1,9 +1,9 @@
--- Maps and tests over one list after another.
+-- Tests over one list after another.
 -- Assumes nothing.
 use Prim.Native.Nat.{suc, ◌+◌}
-use mathlib.Core.Path.{◌≡◌, refl, ap}
+use mathlib.Core.Path.{◌≡◌, refl}
 use mathlib.Core.Bool.{Bool, true, false, cond, ◌&&◌, ◌||◌}
-use mathlib.Core.List.{List, [], ◌∷◌, ◌++◌, map}
+use mathlib.Core.List.{List, [], ◌∷◌, ◌++◌}
 use native.Mathlib.Omega.{arith}
 use Rattle.base.specs.Lists.{any, every, count_of}
 
@@ -13,7 +13,8 @@ module _ {A : Type 0} (p : A → Bool) where
   count-append [] ys = omega arith
   count-append (x ∷ xs) ys = counted (p x) (count-append xs ys)
     where
-      counted : (t : Bool) → count_of p (xs ++ ys) ≡ count_of p xs + count_of p ys → cond t (suc (count_of p (xs ++ ys))) (count_of p (xs ++ ys))
+      counted : (t : Bool) → count_of p (xs ++ ys) ≡ count_of p xs + count_of p ys
+          → cond t (suc (count_of p (xs ++ ys))) (count_of p (xs ++ ys))
           ≡ cond t (suc (count_of p xs)) (count_of p xs) + count_of p ys
       counted true e = omega arith
       counted false e = e
@@ -35,7 +36,3 @@ module _ {A : Type 0} (p : A → Bool) where
       passed : (t : Bool) → every p (xs ++ ys) ≡ (every p xs && every p ys) → (t && every p (xs ++ ys)) ≡ ((t && every p xs) && every p ys)
       passed true e = e
       passed false e = refl
-
-pub map-append : {A B : Type 0} (g : A → B) (xs ys : List A) → map g (xs ++ ys) ≡ map g xs ++ map g ys
-map-append g [] ys = refl
-map-append {A} {B} g (x ∷ xs) ys = ap (λ (l : List B). g x ∷ l) (map-append g xs ys)

@@ -1,34 +1,34 @@
--- The rows of words, and their records, one by one: what callers cite.
+-- The rows' records, as far as a loop has come: one more row, and all.
 -- Assumes nothing.
-use Prim.Native.Nat.{ℕ, ◌<◌, ◌≤◌}
-use mathlib.Core.Path.{◌≡◌, ◌∙◌}
-use mathlib.Core.List.{List}
-use native.Mathlib.Omega.{arith}
-use lib.ListN.{length, get_or, length-map, get_or-eq_default}
+use Prim.Native.Nat.{ℕ, suc, ◌+◌, ◌<◌, ◌≤◌}
+use mathlib.Core.Path.{◌≡◌, sym, ap, ◌∙◌}
+use mathlib.Core.List.{List, [], ◌∷◌, ◌++◌, map, map-append}
+use lib.ListN.{length, take, drop, get_or, length-map, take-append-drop}
+use lib.Seq.{drop-cons, length-take-le}
+use Rattle.std.proofs.lemmas.List.{map_more, get_or_default}
 use Rattle.rows.specs.declared.Row.{Row}
-use Rattle.rows.specs.Rows.{row_at, row_count, rows_of, cell_of, cells_in, blank_row}
-use Rattle.rows.specs.Whole.{whole_row}
-use Rattle.rows.proofs.Listed.{listed-length, listed-get}
+use Rattle.rows.specs.Rows.{cell_of, cells_in, blank_row, whole_row}
 
-module _ (ws : List ℕ) where
-  -- There are as many rows, and records, as fit the words.
-  pub rows-length : length (rows_of ws) ≡ row_count ws
-  unfolding rows_of
-  rows-length = listed-length (row_at ws) (row_count ws)
-
-  pub cells-length : length (cells_in ws) ≡ row_count ws
+module _ (rows : List Row) where
+  -- There are as many records as rows.
+  pub cells-length : length (cells_in rows) ≡ length rows
   unfolding cells_in
-  cells-length = length-map (rows_of ws) cell_of ∙ rows-length
+  cells-length = length-map rows cell_of
 
-  -- Row i is element i of the rows.
-  pub row_of : (i : ℕ) (d : Row) → i < row_count ws → get_or (rows_of ws) i d ≡ row_at ws i
-  unfolding rows_of
-  row_of i d h = listed-get (row_at ws) (row_count ws) i d h
+  module _ (i : ℕ) (d : Row) (l : i < length rows) where
+    -- Row i after those before it, and before those after it.
+    pub cells-more : cells_in (take (i + 1) rows) ≡ cells_in (take i rows) ++ (cell_of (get_or rows i d) ∷ [])
+    unfolding cells_in
+    cells-more = map_more cell_of rows i d l
 
-  pub whole_is : (i : ℕ) → i < row_count ws → whole_row ws i ≡ row_at ws i
-  unfolding whole_row
-  whole_is i h = row_of i blank_row h
+    pub cells-split : cells_in rows ≡ cells_in (take i rows) ++ (cell_of (get_or rows i d) ∷ cells_in (drop (suc i) rows))
+    unfolding cells_in
+    cells-split = ap (map cell_of) (sym (take-append-drop i rows) ∙ ap (λ (x : List Row). take i rows ++ x) (drop-cons rows i d l))
+        ∙ map-append cell_of (take i rows) (get_or rows i d ∷ drop (suc i) rows)
 
-  pub whole-none : (i : ℕ) → row_count ws ≤ i → whole_row ws i ≡ blank_row
-  unfolding whole_row
-  whole-none i h = get_or-eq_default (rows_of ws) blank_row (omega (arith, rows-length))
+-- A row that is there, whatever stands for one that is not.
+pub row_here : (rows : List Row) (i : ℕ) (d : Row) → i < length rows → get_or rows i d ≡ whole_row rows i
+row_here rows i d l = get_or_default rows i d blank_row l
+
+pub below-length : (rows : List Row) (i : ℕ) → i ≤ length rows → length (cells_in (take i rows)) ≡ i
+below-length rows i l = cells-length (take i rows) ∙ length-take-le i rows l

@@ -1,42 +1,7 @@
--- Rows of eleven numbers in a list of words, and the cells' records that they stand for.
-use Rattle.std.specs.Prelude.{ℕ, zero, suc, ◌+◌, ◌*◌, ◌/◌, Bool, cond, List, [], ◌∷◌, ◌++◌, map, length, get_or}
+-- Rows, and the cells' records that they stand for.
+use Rattle.std.specs.Prelude.{ℕ, Bool, cond, List, map, get_or}
 use Rattle.cells.specs.Cell.{Cell}
 use Rattle.rows.specs.declared.Row.{Row}
-
--- how many words a row has
-abbrev pub row_words : ℕ
-row_words = 11
-
--- word k of row i; 0 past the end
-abbrev pub field : List ℕ → ℕ → ℕ → ℕ
-field ws i k = get_or ws (row_words * i + k) 0
-
-abbrev pub row_at : List ℕ → ℕ → Row
-row_at ws i = record {
-  used = field ws i 0;
-  kind = field ws i 1;
-  channel = field ws i 2;
-  id = field ws i 3;
-  index = field ws i 4;
-  count = field ws i 5;
-  length = field ws i 6;
-  sequence = field ws i 7;
-  order = field ws i 8;
-  turn = field ws i 9;
-  place = field ws i 10;
-}
-
--- f 0, f 1, .. , n of them
-unfoldable pub listed : {A : Type 0} → (ℕ → A) → ℕ → List A
-listed f zero = []
-listed f (suc n) = listed f n ++ (f n ∷ [])
-
--- the rows of the words: as many as fit
-abbrev pub row_count : List ℕ → ℕ
-row_count ws = length ws / row_words
-
-unfoldable pub rows_of : List ℕ → List Row
-rows_of ws = listed (row_at ws) (row_count ws)
 
 -- the record that a row stands for
 unfoldable pub cell_of : Row → Cell
@@ -53,8 +18,24 @@ cell_of r = record {
   turn = r.turn;
 }
 
-unfoldable pub cells_in : List ℕ → List Cell
-cells_in ws = map cell_of (rows_of ws)
+-- a record's row: its body stands in the store
+unfoldable pub stored_row : Cell → Row
+stored_row c = record {
+  used = c.used;
+  kind = c.kind;
+  channel = c.channel;
+  id = c.id;
+  index = c.index;
+  count = c.count;
+  length = c.length;
+  sequence = c.sequence;
+  order = c.order;
+  turn = c.turn;
+  place = 0;
+}
+
+unfoldable pub cells_in : List Row → List Cell
+cells_in rows = map cell_of rows
 
 -- a row with another use and turn, and the row of an unused cell
 unfoldable pub mark_row : ℕ → ℕ → Row → Row
@@ -87,9 +68,13 @@ blank_row = record {
   place = 0;
 }
 
+-- element i of the rows; a blank row where there is none
+abbrev pub whole_row : List Row → ℕ → Row
+whole_row rows i = get_or rows i blank_row
+
 -- the rows whose records pass are changed
 unfoldable pub change_row : (Cell → Bool) → (Row → Row) → Row → Row
 change_row p g r = cond (p (cell_of r)) (g r) r
 
 unfoldable pub change_rows : (Cell → Bool) → (Row → Row) → List Row → List Row
-change_rows p g rs = map (change_row p g) rs
+change_rows p g rows = map (change_row p g) rows

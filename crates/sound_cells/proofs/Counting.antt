@@ -143,7 +143,8 @@ module _ (cs : List Cell) where
     counted-sound = same_truth (every (counted_cell cs next) cs) (sound_cells cs next)
         (λ e. let r : (c : Cell) → Memᴰ c cs → ruled c (rest_counted c) ≡ true = λ c m. sym (counted-ruled c)
         ∙ every-mem (counted_cell cs next) cs e c m in
-        every-all (sound_cell cs next) cs (λ c m. sound-ruled c ∙ sym (rest-same (λ d i u. apart d (rest_counted d) u (r d i)) c m) ∙ r c m))
+        every-all (sound_cell cs next) cs (λ c m. sound-ruled c
+        ∙ sym (rest-same (λ d i u. apart d (rest_counted d) u (r d i)) c m) ∙ r c m))
         (λ e. let r : (c : Cell) → Memᴰ c cs → ruled c (rest_sound c) ≡ true = λ c m. sym (sound-ruled c)
         ∙ every-mem (sound_cell cs next) cs e c m in
         every-all (counted_cell cs next) cs (λ c m. counted-ruled c ∙ rest-same (λ d i u. apart d (rest_sound d) u (r d i)) c m ∙ r c m))

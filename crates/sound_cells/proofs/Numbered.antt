@@ -9,15 +9,17 @@ use native.Mathlib.Nat.{not-suc-le-zero, eq-or-lt_of_le, le_of_suc-le-suc}
 use native.Mathlib.Numerals.{add-one}
 use native.Mathlib.Omega.{arith}
 use lib.Dec.{leb, eqb}
+use lib.ListN.{length, take}
+use lib.Seq.{take-length}
 use borrow.Author.Tests.{leb-true, leb-false, eqb-true, eqb-false}
 use Rattle.base.specs.Lists.{every, count_of, below}
 use Rattle.base.proofs.Choices.{cases, neither}
 use Rattle.base.proofs.Lists.{below_at}
 use Rattle.cells.specs.Cell.{Cell}
-use Rattle.rows.specs.Rows.{row_count, cells_in}
+use Rattle.rows.specs.declared.Row.{Row}
+use Rattle.rows.specs.Rows.{blank_row, cells_in}
+use Rattle.rows.proofs.Rows.{cells-more}
 use Rattle.rows.proofs.ListMaps.{count-append, every_append}
-use Rattle.rows.proofs.Rows.{whole_is}
-use Rattle.rows.proofs.Below.{cells_below, below_all, below_none, below_more}
 use Rattle.sound_cells.specs.Sorted.{cell_at}
 
 -- A step up at each place from low to k is a way up between any two.
@@ -102,36 +104,40 @@ unfolding count_below
 count_same p q zero e = refl
 count_same p q (suc n) e = rw (e n (omega arith), count_same p q n (λ i l. e i (omega arith)))
 
-module _ (ws : List ℕ) where
-  next-cell : (i : ℕ) → i < row_count ws → cells_below ws (suc i) ≡ cells_below ws i ++ (cell_at ws i ∷ [])
+module _ (rows : List Row) where
+  next-cell : (i : ℕ) → i < length rows → cells_in (take (suc i) rows) ≡ cells_in (take i rows) ++ (cell_at rows i ∷ [])
   unfolding cell_at
-  next-cell i l = rw (whole_is ws i l) (rw (add-one i) at (below_more ws i))
+  next-cell i l = rw (add-one i) at (cells-more rows i blank_row l)
 
-  count-cells : (p : Cell → Bool) (i : ℕ) → i ≤ row_count ws → count_of p (cells_below ws i) ≡ count_below (λ j. p (cell_at ws j)) i
-  unfolding count_below count_of
-  count-cells p zero h = rw (below_none ws)
+  all-cells : {A : Type 0} (f : List Cell → A) → f (cells_in (take (length rows) rows)) ≡ f (cells_in rows)
+  all-cells f = ap (λ (x : List Row). f (cells_in x)) (take-length rows)
+
+  count-cells : (p : Cell → Bool) (i : ℕ) → i ≤ length rows → count_of p (cells_in (take i rows)) ≡ count_below (λ j. p (cell_at rows j)) i
+  unfolding count_below count_of cells_in
+  count-cells p zero h = refl
   count-cells p (suc i) h = rw (
     next-cell i (omega arith),
-    count-append p (cells_below ws i) (cell_at ws i ∷ []),
+    count-append p (cells_in (take i rows)) (cell_at rows i ∷ []),
     count-cells p i (omega arith),
-  ) (cases (p (cell_at ws i))
+  ) (cases (p (cell_at rows i))
       (λ t. rw t (omega arith))
       (λ t. rw t (omega arith)))
 
   -- The records that pass, counted by their rows' numbers.
-  pub count-rows : (p : Cell → Bool) → count_of p (cells_in ws) ≡ count_below (λ j. p (cell_at ws j)) (row_count ws)
-  count-rows p = ap (count_of p) (sym (below_all ws)) ∙ count-cells p (row_count ws) (omega arith)
+  pub count-rows : (p : Cell → Bool) → count_of p (cells_in rows) ≡ count_below (λ j. p (cell_at rows j)) (length rows)
+  count-rows p = sym (all-cells (count_of p)) ∙ count-cells p (length rows) (omega arith)
 
-  every-cell : (p : Cell → Bool) (i : ℕ) → i ≤ row_count ws → ((j : ℕ) → j < i → p (cell_at ws j) ≡ true) → every p (cells_below ws i) ≡ true
-  unfolding every
-  every-cell p zero h e = rw (below_none ws)
+  every-cell : (p : Cell → Bool) (i : ℕ) → i ≤ length rows → ((j : ℕ) → j < i → p (cell_at rows j) ≡ true)
+      → every p (cells_in (take i rows)) ≡ true
+  unfolding every cells_in
+  every-cell p zero h e = refl
   every-cell p (suc i) h e = rw (
     next-cell i (omega arith),
-    every_append p (cells_below ws i) (cell_at ws i ∷ []),
+    every_append p (cells_in (take i rows)) (cell_at rows i ∷ []),
     every-cell p i (omega arith) (λ j l. e j (omega arith)),
     e i (omega arith),
   )
 
   -- What each row's record passes, all records pass.
-  pub every-row : (p : Cell → Bool) → ((j : ℕ) → j < row_count ws → p (cell_at ws j) ≡ true) → every p (cells_in ws) ≡ true
-  every-row p e = ap (every p) (sym (below_all ws)) ∙ every-cell p (row_count ws) (omega arith) e
+  pub every-row : (p : Cell → Bool) → ((j : ℕ) → j < length rows → p (cell_at rows j) ≡ true) → every p (cells_in rows) ≡ true
+  every-row p e = sym (all-cells (every p)) ∙ every-cell p (length rows) (omega arith) e

@@ -1,21 +1,23 @@
 -- What the rows' order tells: the cells are sound (`ordered-sound`).
 -- Assumes nothing.
-use Prim.Native.Nat.{ℕ, ◌+◌, ◌-◌, ◌<◌, ◌≤◌}
+use Prim.Native.Nat.{ℕ, max, ◌+◌, ◌-◌, ◌<◌, ◌≤◌}
 use mathlib.Core.Path.{◌≡◌, refl, sym, ◌∙◌, subst}
 use mathlib.Core.Bool.{Bool, true, false, cond, not, ◌&&◌}
 use mathlib.Core.List.{List}
 use native.Mathlib.Omega.{arith}
+use lib.ListN.{length}
 use lib.Dec.{ltb, leb, eqb}
 use borrow.Author.Tests.{ltb-true, ltb-false, eqb-true, eqb-false}
 use Rattle.base.specs.Limits.{numbers16, numbers24, max_ord_chans, max_frags, cell_bytes}
 use Rattle.base.proofs.Choices.{cases, and_left, and_right, and_both}
 use Rattle.cells.specs.Cell.{Cell, Key, open_as, held_as, ready_as, bears}
 use Rattle.cells.specs.Sound.{key_of, limits, agree, sound_cells}
-use Rattle.rows.specs.Rows.{row_count, cells_in}
+use Rattle.rows.specs.declared.Row.{Row}
+use Rattle.rows.specs.Rows.{cells_in}
 use Rattle.sound_cells.specs.Counted.{mate, ahead_of_next}
 use Rattle.sound_cells.specs.Sorted.{cell_at, key_part}
 use Rattle.sound_cells.specs.declared.order.Seen.{Seen}
-use Rattle.sound_cells.specs.Ordered.{is_fresh, noted, greater, message_goes_on, MessageRun}
+use Rattle.sound_cells.specs.Ordered.{is_fresh, noted, message_goes_on, MessageRun}
 use Rattle.sound_cells.proofs.Numbered.{climb, count-span}
 use Rattle.sound_cells.proofs.RowsSound.{mate-key, mate-used, twin-mate, twin-index, same-key-mate, agree-own, agree-through}
 use Rattle.sound_cells.proofs.RowsSound.{Passing, rows-sound}
@@ -77,36 +79,37 @@ module _ (next : ℕ → ℕ) (a d : Cell) (e : mate a d ≡ true) (u : eqb a.us
   like-due : (m : ℕ) → Due a m → Due d m
   like-due m f = rw (same-used, alike.count) f
 
-module _ (ws : List ℕ) (next : ℕ → ℕ) where
+module _ (rows : List Row) (next : ℕ → ℕ) where
   abbrev Used : ℕ → Type 0
-  Used j = eqb (cell_at ws j).used 0 ≡ false
+  Used j = eqb (cell_at rows j).used 0 ≡ false
 
   -- row k, of the message of m rows that begins with row i
   record Piece (i m k : ℕ) : Type 0 where
     used : Used k
-    limit : limits (cell_at ws k) ≡ true
-    over : ahead_of_next next (cell_at ws k) ≡ true
-    key : key_of (cell_at ws k) ≡ key_of (cell_at ws i)
-    like : agree (cell_at ws k) (cell_at ws i) ≡ true
-    due : Due (cell_at ws k) m
+    limit : limits (cell_at rows k) ≡ true
+    over : ahead_of_next next (cell_at rows k) ≡ true
+    key : key_of (cell_at rows k) ≡ key_of (cell_at rows i)
+    like : agree (cell_at rows k) (cell_at rows i) ≡ true
+    due : Due (cell_at rows k) m
 
-  module _ (i e : ℕ) (run : MessageRun ws i e) (u : Used i) (alone : (limits (cell_at ws i) && ahead_of_next next (cell_at ws i)) ≡ true)
-      (due : Due (cell_at ws i) (e - i)) where
+  module _ (i e : ℕ) (run : MessageRun rows i e) (u : Used i)
+      (alone : (limits (cell_at rows i) && ahead_of_next next (cell_at rows i)) ≡ true)
+      (due : Due (cell_at rows i) (e - i)) where
     first : Piece i (e - i) i
     first = record {
       used = u;
-      limit = and_left (limits (cell_at ws i)) _ alone;
-      over = and_right (limits (cell_at ws i)) _ alone;
+      limit = and_left (limits (cell_at rows i)) _ alone;
+      over = and_right (limits (cell_at rows i)) _ alone;
       key = refl;
-      like = agree-own (cell_at ws i);
+      like = agree-own (cell_at rows i);
       due = due;
     }
 
-    later : (t : ℕ) → i ≤ t → t + 1 < e → Piece i (e - i) (t + 1) × ((cell_at ws t).index < (cell_at ws (t + 1)).index)
+    later : (t : ℕ) → i ≤ t → t + 1 < e → Piece i (e - i) (t + 1) × ((cell_at rows t).index < (cell_at rows (t + 1)).index)
     unfolding message_goes_on
     later t l h =
-        let a = cell_at ws i in
-        let d = cell_at ws (t + 1) in
+        let a = cell_at rows i in
+        let d = cell_at rows (t + 1) in
         let g = run.step t l h in
         let m = and_left (mate a d) _ g in
         let g₁ = and_right (mate a d) _ g in
@@ -114,13 +117,13 @@ module _ (ws : List ℕ) (next : ℕ → ℕ) where
         let g₂ = and_right (agree d a) _ g₁ in (
           record {
             used = mate-used a d m;
-            limit = like-limits next a d m u first.limit like (and_right (ltb (cell_at ws t).index d.index) _ g₂);
+            limit = like-limits next a d m u first.limit like (and_right (ltb (cell_at rows t).index d.index) _ g₂);
             over = like-ahead next a d m u first.limit like first.over;
             key = mate-key a d m;
             like = like;
             due = like-due next a d m u first.limit like (e - i) due;
           },
-          ltb-true _ _ (and_left (ltb (cell_at ws t).index d.index) _ g₂),
+          ltb-true _ _ (and_left (ltb (cell_at rows t).index d.index) _ g₂),
         )
 
     piece : (k : ℕ) → i ≤ k → k < e → Piece i (e - i) k
@@ -130,8 +133,8 @@ module _ (ws : List ℕ) (next : ℕ → ℕ) where
         let q : k - 1 + 1 ≡ k = omega arith in
         subst (Piece i (e - i)) q (later (k - 1) (omega arith) (omega arith)).0)
 
-    rise : (p q : ℕ) → i ≤ p → p < q → q < e → (cell_at ws p).index < (cell_at ws q).index
-    rise p q l h g = climb (λ t. (cell_at ws t).index) i (e - 1) (λ t a c. (later t a (omega arith)).1) p q l h (omega arith)
+    rise : (p q : ℕ) → i ≤ p → p < q → q < e → (cell_at rows p).index < (cell_at rows q).index
+    rise p q l h g = climb (λ t. (cell_at rows t).index) i (e - 1) (λ t a c. (later t a (omega arith)).1) p q l h (omega arith)
 
   -- Row j's message is the rows from .. to, and no other row below i is of its key.
   record Led (i j : ℕ) : Type 0 where
@@ -140,24 +143,24 @@ module _ (ws : List ℕ) (next : ℕ → ℕ) where
     low : from ≤ j
     high : j < to
     piece : (k : ℕ) → from ≤ k → k < to → Piece from (to - from) k
-    rise : (p q : ℕ) → from ≤ p → p < q → q < to → (cell_at ws p).index < (cell_at ws q).index
+    rise : (p q : ℕ) → from ≤ p → p < q → q < to → (cell_at rows p).index < (cell_at rows q).index
     within : to ≤ i
-    only : (k : ℕ) → k < i → Used k → key_of (cell_at ws k) ≡ key_of (cell_at ws j) → (from ≤ k) × (k < to)
+    only : (k : ℕ) → k < i → Used k → key_of (cell_at rows k) ≡ key_of (cell_at rows j) → (from ≤ k) × (k < to)
 
   -- The rows below i have passed.
   pub record Passed (seen : Seen) (greatest i : ℕ) : Type 0 where
-    told : (j : ℕ) → j < i → Used j → Told seen greatest (key_part (cell_at ws j))
+    told : (j : ℕ) → j < i → Used j → Told seen greatest (key_part (cell_at rows j))
     led : (j : ℕ) → j < i → Used j → Led i j
 
   pub pass-starts : (seen : Seen) → Passed seen 0 0
   pass-starts seen = record { told = λ j l. absurd (omega arith); led = λ j l. absurd (omega arith) }
 
-  same_number : (i j : ℕ) → key_of (cell_at ws i) ≡ key_of (cell_at ws j) → key_part (cell_at ws i) ≡ key_part (cell_at ws j)
+  same_number : (i j : ℕ) → key_of (cell_at rows i) ≡ key_of (cell_at rows j) → key_part (cell_at rows i) ≡ key_part (cell_at rows j)
   unfolding key_part
   same_number i j e = rw e
 
   module _ (seen : Seen) (greatest i : ℕ) (h : Passed seen greatest i) where
-    pub pass-unused : (cell_at ws i).used ≡ 0 → Passed seen greatest (i + 1)
+    pub pass-unused : (cell_at rows i).used ≡ 0 → Passed seen greatest (i + 1)
     pass-unused z = record {
       told = λ j l u. h.told j (before j l u) u;
       led = λ j l u. let b = h.led j (before j l u) u in
@@ -175,24 +178,26 @@ module _ (ws : List ℕ) (next : ℕ → ℕ) where
       where
         before : (j : ℕ) → j < i + 1 → Used j → j < i
         before j l u = cases (eqb j i)
-            (λ y. absurd (eqb-false (cell_at ws j).used 0 u (rw (eqb-true j i y) z)))
+            (λ y. absurd (eqb-false (cell_at rows j).used 0 u (rw (eqb-true j i y) z)))
             (λ y. let ne : j ≡ i → ⊥ = eqb-false j i y in omega arith)
 
-    module _ (e : ℕ) (run : MessageRun ws i e) (u : Used i) (alone : (limits (cell_at ws i) && ahead_of_next next (cell_at ws i)) ≡ true)
-        (due : Due (cell_at ws i) (e - i)) (fresh : is_fresh seen greatest (key_part (cell_at ws i)) ≡ true) where
+    module _ (e : ℕ) (run : MessageRun rows i e) (u : Used i)
+        (alone : (limits (cell_at rows i) && ahead_of_next next (cell_at rows i)) ≡ true)
+        (due : Due (cell_at rows i) (e - i)) (fresh : is_fresh seen greatest (key_part (cell_at rows i)) ≡ true) where
       -- no row before it is of its key
-      new : (j : ℕ) → j < i → Used j → key_of (cell_at ws j) ≡ key_of (cell_at ws i) → ⊥
-      new j l v q = fresh-new seen greatest (key_part (cell_at ws i)) fresh (subst (Told seen greatest) (same_number j i q) (h.told j l v))
+      new : (j : ℕ) → j < i → Used j → key_of (cell_at rows j) ≡ key_of (cell_at rows i) → ⊥
+      new j l v q = fresh-new seen greatest (key_part (cell_at rows i)) fresh
+          (subst (Told seen greatest) (same_number j i q) (h.told j l v))
 
       mine : (j : ℕ) → i ≤ j → j < e → Piece i (e - i) j
       mine = piece i e run u alone due
 
-      told-after : (j : ℕ) → j < e → Used j → Told (noted seen (key_part (cell_at ws i))) (greater greatest (key_part (cell_at ws i)))
-          (key_part (cell_at ws j))
+      told-after : (j : ℕ) → j < e → Used j → Told (noted seen (key_part (cell_at rows i))) (max greatest (key_part (cell_at rows i)))
+          (key_part (cell_at rows j))
       told-after j l v = cases (ltb j i)
-          (λ y. noted-keeps seen greatest (key_part (cell_at ws i)) (key_part (cell_at ws j)) (h.told j (ltb-true j i y) v))
-          (λ y. subst (Told (noted seen (key_part (cell_at ws i))) (greater greatest (key_part (cell_at ws i))))
-          (sym (same_number j i (mine j (ltb-false j i y) l).key)) (noted-own seen greatest (key_part (cell_at ws i))))
+          (λ y. noted-keeps seen greatest (key_part (cell_at rows i)) (key_part (cell_at rows j)) (h.told j (ltb-true j i y) v))
+          (λ y. subst (Told (noted seen (key_part (cell_at rows i))) (max greatest (key_part (cell_at rows i))))
+          (sym (same_number j i (mine j (ltb-false j i y) l).key)) (noted-own seen greatest (key_part (cell_at rows i))))
 
       led-after : (j : ℕ) → j < e → Used j → Led e j
       led-after j l v = cases (ltb j i)
@@ -222,34 +227,34 @@ module _ (ws : List ℕ) (next : ℕ → ℕ) where
                 (λ z. (ltb-false k i z, g));
           })
 
-      pub pass-run : Passed (noted seen (key_part (cell_at ws i))) (greater greatest (key_part (cell_at ws i))) e
+      pub pass-run : Passed (noted seen (key_part (cell_at rows i))) (max greatest (key_part (cell_at rows i))) e
       pass-run = record { told = told-after; led = led-after }
 
-  passing : (i : ℕ) → Led (row_count ws) i → Passing ws next i
+  passing : (i : ℕ) → Led (length rows) i → Passing rows next i
   passing i b =
       let own = b.piece i b.low b.high in
-      let rows : (j : ℕ) → j < row_count ws → mate (cell_at ws i) (cell_at ws j) ≡ true → (b.from ≤ j) × (j < b.to)
-      = λ j h e. b.only j h (mate-used (cell_at ws i) (cell_at ws j) e) (mate-key (cell_at ws i) (cell_at ws j) e) in
+      let mates : (j : ℕ) → j < length rows → mate (cell_at rows i) (cell_at rows j) ≡ true → (b.from ≤ j) × (j < b.to)
+      = λ j h e. b.only j h (mate-used (cell_at rows i) (cell_at rows j) e) (mate-key (cell_at rows i) (cell_at rows j) e) in
       record {
         limit = own.limit;
         over = own.over;
         alone = λ j h e.
-            let r = rows j h (twin-mate (cell_at ws i) (cell_at ws j) e) in
-            let q = twin-index (cell_at ws i) (cell_at ws j) e in
+            let r = mates j h (twin-mate (cell_at rows i) (cell_at rows j) e) in
+            let q = twin-index (cell_at rows i) (cell_at rows j) e in
             cases (ltb j i)
             (λ y. absurd (omega (arith, b.rise j i r.0 (ltb-true j i y) b.high, q)))
             (λ y. cases (ltb i j)
             (λ z. absurd (omega (arith, b.rise i j b.low (ltb-true i j z) r.1, q)))
             (λ z. omega (arith, ltb-false j i y, ltb-false i j z)));
-        like = λ j h e. let r = rows j h e in agree-through (cell_at ws i) (cell_at ws j) (cell_at ws b.from) own.like
+        like = λ j h e. let r = mates j h e in agree-through (cell_at rows i) (cell_at rows j) (cell_at rows b.from) own.like
             (b.piece j r.0 r.1).like;
         mates = b.to - b.from;
-        counted = count-span (λ j. mate (cell_at ws i) (cell_at ws j)) b.from b.to (row_count ws) (omega (arith, b.low, b.high))
+        counted = count-span (λ j. mate (cell_at rows i) (cell_at rows j)) b.from b.to (length rows) (omega (arith, b.low, b.high))
             b.within
-            (λ j l g. let p = b.piece j l g in same-key-mate (cell_at ws i) (cell_at ws j) p.used p.limit (p.key ∙ sym own.key))
-            rows;
+            (λ j l g. let p = b.piece j l g in same-key-mate (cell_at rows i) (cell_at rows j) p.used p.limit (p.key ∙ sym own.key))
+            mates;
         due = own.due;
       }
 
-  pub ordered-sound : (seen : Seen) (greatest : ℕ) → Passed seen greatest (row_count ws) → sound_cells (cells_in ws) next ≡ true
-  ordered-sound seen greatest h = rows-sound ws next (λ i l u. passing i (h.led i l u))
+  pub ordered-sound : (seen : Seen) (greatest : ℕ) → Passed seen greatest (length rows) → sound_cells (cells_in rows) next ≡ true
+  ordered-sound seen greatest h = rows-sound rows next (λ i l u. passing i (h.led i l u))

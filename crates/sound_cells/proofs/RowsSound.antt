@@ -5,13 +5,15 @@ use mathlib.Core.Path.{◌≡◌, refl, sym, ◌∙◌}
 use mathlib.Core.Bool.{true, false, cond, not}
 use mathlib.Core.List.{List}
 use native.Mathlib.Omega.{arith}
+use lib.ListN.{length}
 use lib.Dec.{leb, eqb}
 use borrow.Author.Tests.{leb-true, eqb-true, eqb-false, eq-eqb}
 use Rattle.base.specs.Lists.{count_of}
 use Rattle.base.proofs.Choices.{cases, and_left, and_right, and_both}
 use Rattle.cells.specs.Cell.{Cell, bears, at}
 use Rattle.cells.specs.Sound.{key_of, limits, agree, sound_cells}
-use Rattle.rows.specs.Rows.{row_count, cells_in}
+use Rattle.rows.specs.declared.Row.{Row}
+use Rattle.rows.specs.Rows.{cells_in}
 use Rattle.sound_cells.specs.Counted.{mate, twin, unlike, all_mates, ahead_of_next, counted_cell}
 use Rattle.sound_cells.specs.Sorted.{cell_at}
 use Rattle.sound_cells.proofs.Counting.{bears-used, bears-key, counted-sound}
@@ -85,33 +87,34 @@ agree-through c d e p q =
 
 -- Of a used row i: it is within the limits; no other row has its message and index; the rows of its message agree with it, and are as many
 -- as they must be.
-module _ (ws : List ℕ) (next : ℕ → ℕ) where
+module _ (rows : List Row) (next : ℕ → ℕ) where
   pub record Passing (i : ℕ) : Type 0 where
-    pub limit : limits (cell_at ws i) ≡ true
-    pub over : ahead_of_next next (cell_at ws i) ≡ true
-    pub alone : (j : ℕ) → j < row_count ws → twin (cell_at ws i) (cell_at ws j) ≡ true → j ≡ i
-    pub like : (j : ℕ) → j < row_count ws → mate (cell_at ws i) (cell_at ws j) ≡ true → agree (cell_at ws i) (cell_at ws j) ≡ true
+    pub limit : limits (cell_at rows i) ≡ true
+    pub over : ahead_of_next next (cell_at rows i) ≡ true
+    pub alone : (j : ℕ) → j < length rows → twin (cell_at rows i) (cell_at rows j) ≡ true → j ≡ i
+    pub like : (j : ℕ) → j < length rows → mate (cell_at rows i) (cell_at rows j) ≡ true → agree (cell_at rows i) (cell_at rows j) ≡ true
     pub mates : ℕ
-    pub counted : count_below (λ j. mate (cell_at ws i) (cell_at ws j)) (row_count ws) ≡ mates
-    pub due : cond (eqb (cell_at ws i).used 1) (not (eqb mates (cell_at ws i).count)) (eqb mates (cell_at ws i).count) ≡ true
+    pub counted : count_below (λ j. mate (cell_at rows i) (cell_at rows j)) (length rows) ≡ mates
+    pub due : cond (eqb (cell_at rows i).used 1) (not (eqb mates (cell_at rows i).count)) (eqb mates (cell_at rows i).count) ≡ true
 
-  module _ (i : ℕ) (l : i < row_count ws) (u : eqb (cell_at ws i).used 0 ≡ false) (p : Passing i) where
-    one-twin : count_of (twin (cell_at ws i)) (cells_in ws) ≡ 1
-    one-twin = count-rows ws (twin (cell_at ws i)) ∙ count-one-number (λ j. twin (cell_at ws i) (cell_at ws j)) i (row_count ws) l
-        (own-twin (cell_at ws i) u p.limit) p.alone
+  module _ (i : ℕ) (l : i < length rows) (u : eqb (cell_at rows i).used 0 ≡ false) (p : Passing i) where
+    one-twin : count_of (twin (cell_at rows i)) (cells_in rows) ≡ 1
+    one-twin = count-rows rows (twin (cell_at rows i)) ∙ count-one-number (λ j. twin (cell_at rows i) (cell_at rows j)) i (length rows) l
+        (own-twin (cell_at rows i) u p.limit) p.alone
 
-    like-bears : (j : ℕ) → j < row_count ws → bears (key_of (cell_at ws i)) (cell_at ws j) ≡ true → agree (cell_at ws i) (cell_at ws j) ≡ true
+    like-bears : (j : ℕ) → j < length rows → bears (key_of (cell_at rows i)) (cell_at rows j) ≡ true
+        → agree (cell_at rows i) (cell_at rows j) ≡ true
     unfolding mate
     like-bears = p.like
 
-    none-unlike : count_of (unlike (cell_at ws i)) (cells_in ws) ≡ 0
+    none-unlike : count_of (unlike (cell_at rows i)) (cells_in rows) ≡ 0
     unfolding unlike
-    none-unlike = count-rows ws (unlike (cell_at ws i)) ∙ count-no-number (λ j. unlike (cell_at ws i) (cell_at ws j)) (row_count ws)
-        (λ j h. cases (bears (key_of (cell_at ws i)) (cell_at ws j))
+    none-unlike = count-rows rows (unlike (cell_at rows i)) ∙ count-no-number (λ j. unlike (cell_at rows i) (cell_at rows j)) (length rows)
+        (λ j h. cases (bears (key_of (cell_at rows i)) (cell_at rows j))
         (λ e. rw (e, like-bears j h e))
         (λ e. rw e))
 
-    row-counted : counted_cell (cells_in ws) next (cell_at ws i) ≡ true
+    row-counted : counted_cell (cells_in rows) next (cell_at rows i) ≡ true
     unfolding counted_cell all_mates
     row-counted = rw (
       u,
@@ -119,17 +122,17 @@ module _ (ws : List ℕ) (next : ℕ → ℕ) where
       one-twin,
       none-unlike,
       p.over,
-      count-rows ws (mate (cell_at ws i)) ∙ p.counted,
+      count-rows rows (mate (cell_at rows i)) ∙ p.counted,
       eq-eqb 1 1 refl,
       eq-eqb 0 0 refl,
     ) (and_both _ _ p.due refl)
 
-  unused-counted : (i : ℕ) → eqb (cell_at ws i).used 0 ≡ true → counted_cell (cells_in ws) next (cell_at ws i) ≡ true
+  unused-counted : (i : ℕ) → eqb (cell_at rows i).used 0 ≡ true → counted_cell (cells_in rows) next (cell_at rows i) ≡ true
   unfolding counted_cell
   unused-counted i y = rw y
 
-  pub rows-sound : ((i : ℕ) → i < row_count ws → eqb (cell_at ws i).used 0 ≡ false → Passing i) → sound_cells (cells_in ws) next ≡ true
-  rows-sound all = sym (counted-sound (cells_in ws) next) ∙ every-row ws (counted_cell (cells_in ws) next)
-      (λ i l. cases (eqb (cell_at ws i).used 0)
+  pub rows-sound : ((i : ℕ) → i < length rows → eqb (cell_at rows i).used 0 ≡ false → Passing i) → sound_cells (cells_in rows) next ≡ true
+  rows-sound all = sym (counted-sound (cells_in rows) next) ∙ every-row rows (counted_cell (cells_in rows) next)
+      (λ i l. cases (eqb (cell_at rows i).used 0)
       (λ y. unused-counted i y)
       (λ y. row-counted i l y (all i l y)))

@@ -1,61 +1,72 @@
--- One turn of a scan: a count by a bit, and a test that every record passes. r is row i.
+-- The tests of all rows: the counts of one cell's message, and a test that every row passes.
 -- Assumes nothing.
 use Prim.Native.Nat.{ℕ, ◌+◌, ◌<◌, ◌≤◌}
-use mathlib.Core.Path.{◌≡◌, refl, sym, ◌∙◌, ap}
-use mathlib.Core.Bool.{Bool, true, false, cond}
+use mathlib.Core.Path.{◌≡◌, refl, ◌∙◌, ap}
+use mathlib.Core.Bool.{Bool, true, false, cond, ◌&&◌}
 use mathlib.Core.List.{List, [], ◌∷◌}
+use mir.Val.{bool_byte}
+use native.Mathlib.Omega.{arith}
+use lib.ListN.{length, take, get_or}
+use lib.Seq.{take_all}
+use Rattle.std.specs.List.{list_all}
 use Rattle.base.specs.Lists.{every, count_of}
 use Rattle.cells.specs.Cell.{Cell}
 use Rattle.cells.specs.Sound.{sound_cells}
 use Rattle.rows.specs.declared.Row.{Row}
-use Rattle.rows.specs.Rows.{row_at, row_count, cell_of, cells_in}
-use Rattle.rows.specs.Whole.{whole_row}
-use Rattle.rows.proofs.Rows.{whole_is}
-use Rattle.rows.proofs.ListMaps.{count-append, every_append}
-use Rattle.rows.proofs.Below.{cells_below, below_all, below_none, below_more, below_split}
+use Rattle.rows.specs.Rows.{cell_of, cells_in}
+use Rattle.rows.proofs.Tests.{count_none, count-step}
+use Rattle.sound_cells.specs.declared.Tally.{Tally}
 use Rattle.sound_cells.specs.Counted.{mate, twin, unlike, mates_of, counted_cell}
-use Rattle.row_scans.proofs.Scans.{at-end}
 use Rattle.sound_cells.proofs.Counting.{counted-sound}
 
-module _ (p : Cell → Bool) (ws : List ℕ) where
-  pub every-none : true ≡ every p (cells_below ws 0)
-  unfolding every
-  every-none = rw (below_none ws)
+-- The three counts of the first i rows.
+pub record Tallied (a : Cell) (rows : List Row) (i : ℕ) (t : Tally) : Type 0 where
+  pub few : (t.mates ≤ i) × (t.twins ≤ i) × (t.unlike ≤ i)
+  pub mates : t.mates ≡ count_of (mate a) (cells_in (take i rows))
+  pub twins : t.twins ≡ count_of (twin a) (cells_in (take i rows))
+  pub unlike : t.unlike ≡ count_of (unlike a) (cells_in (take i rows))
 
-  module _ (i : ℕ) {r : Row} {b : Bool} (l : i < row_count ws) (q : r ≡ whole_row ws i) (t : b ≡ p (cell_of r)) where
-    tested : {v : Bool} → b ≡ v → p (cell_of (row_at ws i)) ≡ v
-    tested y = ap (λ (x : Row). p (cell_of x)) (sym (q ∙ whole_is ws i l)) ∙ sym t ∙ y
+byte-is : (b : Bool) → bool_byte b ≡ cond b 1 0
+byte-is true = refl
+byte-is false = refl
 
-    pub count-bit : {k v : ℕ} → k ≡ count_of p (cells_below ws i) → v ≡ cond b 1 0 → k + v ≡ count_of p (cells_below ws (i + 1))
-    unfolding count_of
-    count-bit e y = rw (below_more ws i, count-append p (cells_below ws i) (cell_of (row_at ws i) ∷ []), tested refl, e, y)
+byte-le : (b : Bool) → bool_byte b ≤ 1
+byte-le true = omega arith
+byte-le false = omega arith
 
-    pub every-pass : true ≡ every p (cells_below ws i) → b ≡ true → true ≡ every p (cells_below ws (i + 1))
-    unfolding every
-    every-pass e y = rw (below_more ws i, every_append p (cells_below ws i) (cell_of (row_at ws i) ∷ []), ← e, tested y)
-
-    pub every-fail : true ≡ every p (cells_below ws i) → b ≡ false → false ≡ every p (cells_in ws)
-    unfolding every
-    every-fail e y =
-        let s = below_split ws i (row_count ws) l in
-        rw (← below_all ws, s.1, every_append p (cells_below ws i) (cell_of (row_at ws i) ∷ s.0), ← e, tested y)
-
--- The three counts of all rows.
-pub tally-end : (ws : List ℕ) (a : Cell) {i m t u : ℕ} → i ≤ row_count ws → row_count ws ≤ i → m ≡ count_of (mate a) (cells_below ws i) → t
-    ≡ count_of (twin a) (cells_below ws i) → u ≡ count_of (unlike a) (cells_below ws i)
-    → record { mates = m; twins = t; unlike = u } ≡ mates_of (cells_in ws) a
-unfolding mates_of
-tally-end ws a h g e f d = λ k. record {
-  mates = at-end (count_of (mate a)) ws h g e k;
-  twins = at-end (count_of (twin a)) ws h g f k;
-  unlike = at-end (count_of (unlike a)) ws h g d k;
+pub tally-starts : (a : Cell) (rows : List Row) → Tallied a rows 0 (record { mates = 0; twins = 0; unlike = 0 })
+tally-starts a rows = record {
+  few = (omega arith, omega arith, omega arith);
+  mates = count_none (mate a);
+  twins = count_none (twin a);
+  unlike = count_none (unlike a);
 }
 
--- All rows passed, or one failed.
-module _ (ws : List ℕ) (next : ℕ → ℕ) where
-  pub sound-end : {i : ℕ} → i ≤ row_count ws → row_count ws ≤ i → true ≡ every (counted_cell (cells_in ws) next) (cells_below ws i) → true
-      ≡ sound_cells (cells_in ws) next
-  sound-end h g e = at-end (every (counted_cell (cells_in ws) next)) ws h g e ∙ counted-sound (cells_in ws) next
+-- One row more: x, y and z tell whether it is a mate, a twin and unlike.
+pub tally-more : (a : Cell) (rows : List Row) (i : ℕ) (d : Row) {t : Tally} (h : Tallied a rows i t) (l : i < length rows)
+    {x y z : Bool} {m n k : ℕ}
+    → x ≡ mate a (cell_of (get_or rows i d)) → y ≡ twin a (cell_of (get_or rows i d)) → z ≡ unlike a (cell_of (get_or rows i d))
+    → m ≡ bool_byte x → n ≡ bool_byte y → k ≡ bool_byte z
+    → Tallied a rows (i + 1) (record { mates = t.mates + m; twins = t.twins + n; unlike = t.unlike + k })
+tally-more a rows i d h l {x} {y} {z} e f g m n k = record {
+  few = (omega (arith, h.few.0, m, byte-le x), omega (arith, h.few.1, n, byte-le y), omega (arith, h.few.2, k, byte-le z));
+  mates = count-step (mate a) rows i d l e (m ∙ byte-is x) h.mates;
+  twins = count-step (twin a) rows i d l f (n ∙ byte-is y) h.twins;
+  unlike = count-step (unlike a) rows i d l g (k ∙ byte-is z) h.unlike;
+}
 
-  pub sound-fail : false ≡ every (counted_cell (cells_in ws) next) (cells_in ws) → false ≡ sound_cells (cells_in ws) next
-  sound-fail e = e ∙ counted-sound (cells_in ws) next
+pub tally-end : (a : Cell) (rows : List Row) (i : ℕ) {t : Tally} → Tallied a rows i t → length rows ≤ i → t ≡ mates_of (cells_in rows) a
+unfolding mates_of
+tally-end a rows i h l = let e = take_all i rows l in
+    λ k. record { mates = (rw e at h.mates) k; twins = (rw e at h.twins) k; unlike = (rw e at h.unlike) k }
+
+module _ (p : Cell → Bool) where
+  every-is : (rows : List Row) → list_all (λ r. p (cell_of r)) rows ≡ every p (cells_in rows)
+  unfolding every cells_in
+  every-is [] = refl
+  every-is (r ∷ rows) = ap (λ (b : Bool). p (cell_of r) && b) (every-is rows)
+
+-- Do all rows pass the test by counts?
+pub all-sound : (rows : List Row) (next : ℕ → ℕ) {b : Bool} → b ≡ list_all (λ r. counted_cell (cells_in rows) next (cell_of r)) rows → b
+    ≡ sound_cells (cells_in rows) next
+all-sound rows next e = e ∙ every-is (counted_cell (cells_in rows) next) rows ∙ counted-sound (cells_in rows) next

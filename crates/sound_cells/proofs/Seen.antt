@@ -1,25 +1,25 @@
 -- What is known of the keys that occurred: a fresh one is none of them.
 -- Assumes nothing.
-use Prim.Native.Nat.{ℕ, ◌+◌, ◌%◌, ◌^◌, ◌<◌, ◌≤◌}
+use Prim.Native.Nat.{ℕ, max, ◌+◌, ◌%◌, ◌^◌, ◌<◌, ◌≤◌}
 use mathlib.Core.Path.{◌≡◌, refl, sym, ◌∙◌}
 use mathlib.Core.Bool.{Bool, true, false, cond, not}
 use native.Mathlib.Omega.{arith}
 use lib.Dec.{ltb, eqb}
-use borrow.Author.Tests.{ltb-true, ltb-false, lt-ltb, le-ltb, eqb-true, eqb-false, eq-eqb}
+use borrow.Author.Tests.{ltb-true, eqb-true, eqb-false, eq-eqb}
 use Rattle.base.proofs.Choices.{cases, neither}
 use Rattle.window.specs.Places.{bit}
 use Rattle.window.proofs.Bits.{bit-small, bit-set, bit-set-other, bit-fits}
 use Rattle.sound_cells.specs.declared.order.Seen.{Seen}
-use Rattle.sound_cells.specs.Ordered.{has_bit, with_bit, word_of, mark_of, bits_of, with_bits, is_fresh, noted, greater}
+use Rattle.sound_cells.specs.Ordered.{has_bit, with_bit, word_of, mark_of, bits_of, with_bits, is_fresh, noted}
 
 module _ (b : ℕ) where
   clear : (n : ℕ) → has_bit b n ≡ false → bit b (n % 64) ≡ 0
   unfolding has_bit
   clear n e = let f : bit b (n % 64) ≡ 1 → ⊥ = eqb-false _ _ e in omega (arith, bit-small b (n % 64))
 
-  pub bit-room : (n : ℕ) {p : ℕ} {r : Bool} → b < 18446744073709551616 → r ≡ has_bit b n → r ≡ false → p ≡ 2 ^ (n % 64)
+  pub bit_room : (n : ℕ) {p : ℕ} {r : Bool} → b < 18446744073709551616 → r ≡ has_bit b n → r ≡ false → p ≡ 2 ^ (n % 64)
       → b + p < 18446744073709551616
-  bit-room n l e y q = rw q (bit-fits 64 b (n % 64) l (omega arith) (clear n (sym e ∙ y)))
+  bit_room n l e y q = rw q (bit-fits 64 b (n % 64) l (omega arith) (clear n (sym e ∙ y)))
 
   pub with-set : (n : ℕ) {r : Bool} → r ≡ has_bit b n → r ≡ true → b ≡ with_bit b n
   unfolding with_bit
@@ -48,27 +48,6 @@ module _ (b : ℕ) where
   with-keeps n m e = cases (has_bit b n)
       (λ y. rw (← with-set n refl y) e)
       (λ y. rw (← with-clear n refl y refl) (still-set n m e y))
-
-module _ (a b : ℕ) where
-  pub greater-yes : a < b → b ≡ greater a b
-  unfolding greater
-  greater-yes l = rw (lt-ltb a b l)
-
-  pub greater-no : b ≤ a → a ≡ greater a b
-  unfolding greater
-  greater-no l = rw (le-ltb a b l)
-
-  greater-left : a ≤ greater a b
-  unfolding greater
-  greater-left = cases (ltb a b)
-      (λ y. rw y (omega (arith, ltb-true a b y)))
-      (λ y. rw y (omega arith))
-
-  greater-right : b ≤ greater a b
-  unfolding greater
-  greater-right = cases (ltb a b)
-      (λ y. rw y (omega arith))
-      (λ y. rw y (omega (arith, ltb-false a b y)))
 
 -- What holds of a word's bits, and still of those put there, holds of every word's: a and b tell the word put, c and d the one asked.
 keep-each : (P : ℕ → Type 0) (seen : Seen) (bits : ℕ) (a b c d : Bool)
@@ -108,17 +87,17 @@ module _ (seen : Seen) (greatest key : ℕ) where
       (λ y. omega (arith, ltb-true greatest key y, h.low))
       (λ y. let f : not (has_bit (bits_of seen (word_of key)) (mark_of key)) ≡ true = rw y at e in neither false (rw h.marked at f) refl)
 
-  pub noted-own : Told (noted seen key) (greater greatest key) key
+  pub noted-own : Told (noted seen key) (max greatest key) key
   unfolding noted
   noted-own = record {
-    low = greater-right greatest key;
+    low = omega arith;
     marked = rw (bits-own seen (word_of key)) (with-own (bits_of seen (word_of key)) (mark_of key));
   }
 
-  pub noted-keeps : (other : ℕ) → Told seen greatest other → Told (noted seen key) (greater greatest key) other
+  pub noted-keeps : (other : ℕ) → Told seen greatest other → Told (noted seen key) (max greatest key) other
   unfolding noted
   noted-keeps other h = record {
-    low = omega (arith, h.low, greater-left greatest key);
+    low = omega (arith, h.low);
     marked = bits-keep seen (word_of key) (with_bit (bits_of seen (word_of key)) (mark_of key)) (λ b. has_bit b (mark_of other) ≡ true)
         (with-keeps (bits_of seen (word_of key)) (mark_of key) (mark_of other)) (word_of other) h.marked;
   }

@@ -1,39 +1,21 @@
 -- What the code's tests of two rows say of their records.
 -- Assumes nothing.
-use Prim.Native.Nat.{ℕ, ◌≤◌, ◌<◌}
+use Prim.Native.Nat.{ℕ}
 use mathlib.Core.Path.{◌≡◌, refl, sym, ◌∙◌}
 use mathlib.Core.Bool.{Bool, true, false, cond, not, ◌&&◌}
 use mathlib.Core.List.{List}
-use lib.Dec.{ltb, leb, eqb}
-use lib.ListN.{length}
-use borrow.Author.Tests.{ltb-true, eq-eqb, ne_eqb}
-use Rattle.base.specs.Limits.{max_ord_chans}
+use lib.Dec.{ltb, eqb}
+use borrow.Author.Tests.{eq-eqb, ne_eqb}
 use Rattle.base.specs.Lists.{count_of}
 use Rattle.base.proofs.Choices.{and_left, and_right}
-use Rattle.base.proofs.Past.{past}
 use Rattle.cells.specs.Cell.{Cell, bears, at}
 use Rattle.cells.specs.Sound.{key_of, limits, agree}
-use Rattle.receiver.specs.Parts.{next_place, next_at}
-use Rattle.receiver.proofs.ByParts.{next-at}
 use Rattle.rows.specs.declared.Row.{Row}
 use Rattle.rows.specs.Rows.{cell_of}
 use Rattle.sound_cells.specs.declared.Tally.{Tally}
 use Rattle.sound_cells.specs.Counted.{mate, twin, unlike, mates_of, all_mates, ahead_of_next, counted_cell}
 
 module _ (a d : Row) where
-  pub mate-open : a.used ≡ 1 → (eqb d.used 1 && eqb d.id a.id) ≡ mate (cell_of a) (cell_of d)
-  unfolding mate key_of bears cell_of
-  mate-open u = rw (eq-eqb a.used 1 u)
-
-  pub mate-held : (a.used ≡ 1 → ⊥) → a.used ≡ 2 → (eqb d.used 2 && (eqb d.channel a.channel && eqb d.order a.order))
-      ≡ mate (cell_of a) (cell_of d)
-  unfolding mate key_of bears cell_of
-  mate-held n u = rw (ne_eqb a.used 1 n, eq-eqb a.used 2 u)
-
-  pub mate-ready : (a.used ≡ 1 → ⊥) → (a.used ≡ 2 → ⊥) → (eqb d.used 3 && eqb d.turn a.turn) ≡ mate (cell_of a) (cell_of d)
-  unfolding mate key_of bears cell_of
-  mate-ready n m = rw (ne_eqb a.used 1 n, ne_eqb a.used 2 m)
-
   pub twin-is : {m : Bool} → m ≡ mate (cell_of a) (cell_of d) → (m && eqb d.index a.index) ≡ twin (cell_of a) (cell_of d)
   unfolding twin mate at cell_of
   twin-is e = rw e
@@ -42,29 +24,6 @@ module _ (a d : Row) where
       ≡ unlike (cell_of a) (cell_of d)
   unfolding unlike mate
   unlike-is e f = rw (e, f)
-
--- A channel's next that lies past the end of the numbers.
-pub next_past : (ns : List ℕ) (c : ℕ) → c < max_ord_chans → length ns ≤ next_place c → 0 ≡ next_at ns c
-next_past ns c lt le = past ns (next_place c) le ∙ sym (next-at ns c lt)
-
--- What is asked of a cell alone, in the code's three ways.
-module _ (next : ℕ → ℕ) (r : Row) {b : Bool} (e : b ≡ limits (cell_of r)) where
-  pub channel-within : b ≡ true → r.channel < max_ord_chans
-  unfolding limits cell_of
-  channel-within y = ltb-true r.channel max_ord_chans (and_left (ltb r.channel max_ord_chans) _ (and_right (leb r.kind 7) _
-      (and_right (leb r.used 3) _ (sym e ∙ y))))
-
-  pub held-ahead : {n : ℕ} → b ≡ true → r.used ≡ 2 → n ≡ next r.channel → ltb n r.order
-      ≡ (limits (cell_of r) && ahead_of_next next (cell_of r))
-  unfolding ahead_of_next cell_of
-  held-ahead y u f = rw (← e, y, eq-eqb r.used 2 u, f)
-
-  pub within-limits : b ≡ true → (r.used ≡ 2 → ⊥) → true ≡ (limits (cell_of r) && ahead_of_next next (cell_of r))
-  unfolding ahead_of_next cell_of
-  within-limits y u = rw (← e, y, ne_eqb r.used 2 u)
-
-  pub beyond-limits : b ≡ false → false ≡ (limits (cell_of r) && ahead_of_next next (cell_of r))
-  beyond-limits y = rw (← e, y)
 
 -- The test by counts, in the code's three ways.
 module _ (cs : List Cell) (next : ℕ → ℕ) (r : Row) where
@@ -86,7 +45,8 @@ module _ (cs : List Cell) (next : ℕ → ℕ) (r : Row) where
       last-false true true true false e z = refl
       last-false true true true true e z = z
 
-  pub used-tested : {b due : Bool} {t : Tally} → (r.used ≡ 0 → ⊥) → b ≡ (limits (cell_of r) && ahead_of_next next (cell_of r)) → b ≡ true → t
+  pub used-tested : {b due : Bool} {t : Tally} → (r.used ≡ 0 → ⊥) → b ≡ (limits (cell_of r) && ahead_of_next next (cell_of r))
+      → b ≡ true → t
       ≡ mates_of cs (cell_of r)
       → due ≡ cond (eqb r.used 1) (not (eqb t.mates r.count)) (eqb t.mates r.count)
       → (eqb t.twins 1 && (eqb t.unlike 0 && due)) ≡ counted_cell cs next (cell_of r)
@@ -101,3 +61,5 @@ module _ (cs : List Cell) (next : ℕ → ℕ) (r : Row) where
       true-last true false c = refl
       true-last true true false = refl
       true-last true true true = refl
+
+pub ruleset by_counts = (unused-passes, used-tested, beyond-fails)

@@ -1,11 +1,11 @@
 -- Soundness told from the rows' own order, in one pass: the rows of a message stand one after the other, and its key has not occurred
 -- before. Where all rows pass, the cells are sound (proofs/Ordered.antt); where one does not, nothing is told.
-use Rattle.std.specs.Prelude.{ℕ, ◌+◌, ◌*◌, ◌/◌, ◌%◌, ◌^◌, ◌<◌, ◌≤◌, ◌≡◌, Bool, true, cond, not, ◌&&◌, ◌||◌, List, ltb, leb, eqb}
+use Rattle.std.specs.Prelude.{ℕ, ◌+◌, ◌*◌, ◌/◌, ◌%◌, ◌^◌, ◌<◌, ◌≤◌, ◌≡◌, Bool, true, cond, not, ◌&&◌, ◌||◌, List, ltb, leb, eqb, length}
 use Rattle.base.specs.Limits.{numbers16, cell_bytes}
 use Rattle.window.specs.Places.{bit}
 use Rattle.cells.specs.Cell.{Cell}
 use Rattle.cells.specs.Sound.{agree}
-use Rattle.rows.specs.Rows.{row_count}
+use Rattle.rows.specs.declared.Row.{Row}
 use Rattle.sound_cells.specs.Counted.{mate}
 use Rattle.sound_cells.specs.Sorted.{cell_at}
 use Rattle.sound_cells.specs.declared.order.Seen.{Seen}
@@ -42,16 +42,13 @@ is_fresh seen greatest key = ltb greatest key || not (has_bit (bits_of seen (wor
 unfoldable pub noted : Seen → ℕ → Seen
 noted seen key = with_bits seen (word_of key) (with_bit (bits_of seen (word_of key)) (mark_of key))
 
-unfoldable pub greater : ℕ → ℕ → ℕ
-greater a b = cond (ltb a b) b a
-
 -- is d one more cell of a's message, after a cell of this index? (Of the limits, those of which it is not known by agreement.)
 unfoldable pub message_goes_on : Cell → ℕ → Cell → Bool
 message_goes_on a index d = mate a d && (agree d a && (ltb index d.index
     && (ltb d.index d.count && (leb d.length cell_bytes && ltb d.id numbers16))))
 
 -- rows i to e, without e: each after the first goes on the first one's message
-pub record MessageRun (ws : List ℕ) (i e : ℕ) : Type 0 where
+pub record MessageRun (rows : List Row) (i e : ℕ) : Type 0 where
   pub after : i < e
-  pub within : e ≤ row_count ws
-  pub step : (t : ℕ) → i ≤ t → t + 1 < e → message_goes_on (cell_at ws i) (cell_at ws t).index (cell_at ws (t + 1)) ≡ true
+  pub within : e ≤ length rows
+  pub step : (t : ℕ) → i ≤ t → t + 1 < e → message_goes_on (cell_at rows i) (cell_at rows t).index (cell_at rows (t + 1)) ≡ true

@@ -5,13 +5,18 @@ use Rattle.base.specs.Limits.{max_cells, max_frags}
 use Rattle.base.specs.Lists.{below}
 use Rattle.cells.specs.Cell.{Cell, Key, open_as, held_as, ready_as, open_use, unused_use}
 use Rattle.cells.specs.Sound.{key_of, limits, agree}
-use Rattle.rows.specs.Rows.{cell_of}
-use Rattle.rows.specs.Whole.{whole_row}
+use Rattle.rows.specs.declared.Row.{Row}
+use Rattle.rows.specs.Rows.{cell_of, whole_row}
 use Rattle.sound_cells.specs.Counted.{mate, ahead_of_next}
+use Rattle.sound_cells.specs.declared.order.entries.Place.{Place}
 
 -- the record of row i; a blank one where there is none
-unfoldable pub cell_at : List ℕ → ℕ → Cell
-cell_at ws i = cell_of (whole_row ws i)
+unfoldable pub cell_at : List Row → ℕ → Cell
+cell_at rows i = cell_of (whole_row rows i)
+
+-- the places noted for row i; zeros where there are none
+abbrev pub place_of : List Place → ℕ → Place
+place_of places i = get_or places i (record { rank = 0; lead = 0 })
 
 -- a message's key as a number; of a cell within the limits it has 34 bits
 unfoldable pub key_number : Key → ℕ
@@ -49,32 +54,33 @@ unfoldable pub is_own : List ℕ → ℕ → ℕ → ℕ → Cell → Bool
 is_own es k p i c = leb p k && (eqb (upper_at es p) (upper_part c) && eqb (row_number_at es p) i)
 
 -- do the entries of c's message begin after place q, with one of a cell that agrees with c?
-unfoldable pub is_led : List ℕ → List ℕ → ℕ → ℕ → Cell → Bool
-is_led ws es k q c =
+unfoldable pub is_led : List Row → List ℕ → ℕ → ℕ → Cell → Bool
+is_led rows es k q c =
     ltb q k
     && (not (eqb (key_at es q) (key_at es (q + 1)))
     && (eqb (key_at es (q + 1)) (key_part c)
-    && (mate c (cell_at ws (row_number_at es (q + 1))) && agree c (cell_at ws (row_number_at es (q + 1))))))
+    && (mate c (cell_at rows (row_number_at es (q + 1))) && agree c (cell_at rows (row_number_at es (q + 1))))))
 
 -- both, with the places noted for row i, and all that is asked of the cell alone
-unfoldable pub is_placed_entry : List ℕ → (ℕ → ℕ) → List ℕ → List ℕ → List ℕ → ℕ → ℕ → Bool
-is_placed_entry ws next es ranks leads k i =
-    eqb (cell_at ws i).used unused_use
-    || ((limits (cell_at ws i) && ahead_of_next next (cell_at ws i))
-    && (is_own es k (get_or ranks i 0) i (cell_at ws i) && is_led ws es k (get_or leads i 0) (cell_at ws i)))
+unfoldable pub is_placed_entry : List Row → (ℕ → ℕ) → List ℕ → List Place → ℕ → ℕ → Bool
+is_placed_entry rows next es places k i =
+    eqb (cell_at rows i).used unused_use
+    || ((limits (cell_at rows i) && ahead_of_next next (cell_at rows i))
+    && (is_own es k ((place_of places i).rank) i (cell_at rows i) && is_led rows es k ((place_of places i).lead) (cell_at rows i)))
 
 -- one more at place q, for a used cell
 unfoldable pub counted : List ℕ → Cell → ℕ → List ℕ
 counted counts c q = cond (eqb c.used unused_use) counts (set counts q (get_or counts q 0 + 1))
 
 -- the used cells of the first i rows, counted at the places noted for them
-unfoldable pub tallied : List ℕ → List ℕ → List ℕ → ℕ → List ℕ
-tallied ws leads counts zero = counts
-tallied ws leads counts (suc i) = counted (tallied ws leads counts i) (cell_at ws i) (get_or leads i 0)
+unfoldable pub tallied : List Row → List Place → List ℕ → ℕ → List ℕ
+tallied rows places counts zero = counts
+tallied rows places counts (suc i) = counted (tallied rows places counts i) (cell_at rows i) ((place_of places i).lead)
 
--- is row i's message whole or not, as it must be, by its count?
-unfoldable pub is_due : List ℕ → List ℕ → List ℕ → ℕ → Bool
-is_due ws leads counts i =
-    eqb (cell_at ws i).used unused_use
-    || cond (eqb (cell_at ws i).used open_use) (not (eqb (get_or counts (get_or leads i 0) 0) (cell_at ws i).count))
-    (eqb (get_or counts (get_or leads i 0) 0) (cell_at ws i).count)
+-- is a cell's message whole or not, as it must be, by its count, where it has so many cells?
+unfoldable pub due_cell : Cell → ℕ → Bool
+due_cell c mates = eqb c.used unused_use || cond (eqb c.used open_use) (not (eqb mates c.count)) (eqb mates c.count)
+
+-- is row i's?
+unfoldable pub is_due : List Row → List Place → List ℕ → ℕ → Bool
+is_due rows places counts i = due_cell (cell_at rows i) (get_or counts ((place_of places i).lead) 0)

@@ -1,21 +1,22 @@
 // The records are sound where the rows of each message stand one after the other, by index, and no message's key occurred before: told in
 // one pass, without lists. So they mostly stand in the receivers that our own calls leave; where pieces of two messages came mixed, they do
 // not.
-ghost use Rattle.std.specs.Prelude.{◌≡◌, true, ◌%◌, ◌^◌, ◌<◌};
+ghost use Rattle.std.specs.Prelude.{◌≡◌, true, ◌%◌, ◌^◌, ◌<◌, length};
 ghost use Rattle.cells.specs.Sound.{sound_cells};
-ghost use Rattle.rows.specs.Rows.{row_count, cell_of, cells_in};
-ghost use Rattle.receiver.specs.Parts.{next_at};
-ghost use Rattle.sound_cells.specs.Ordered as Ordered;
+ghost use Rattle.rows.specs.Rows.{cell_of, cells_in};
+ghost use Rattle.receiver.specs.Queue.{next_in};
 ghost use Rattle.sound_cells.specs.Ordered.{has_bit, with_bit, word_of, mark_of, bits_of, with_bits, is_fresh, noted};
 ghost use Rattle.sound_cells.specs.Ordered.{message_goes_on, MessageRun};
 
-use super::{agrees, is_due, is_mate, is_within, key_part};
-use rows::{ROW, Row};
+use super::{CELL_BYTES, agrees, is_due, is_mate, is_within, key_part};
+use receiver::Channel;
+use rows::Row;
 
 mod entries;
 
 pub use entries::sound_cells;
 
+#[tactic(auto, unfolding(crate::specs::Ordered::has_bit, window::specs::Places::bit))]
 fn has_bit(bits: u64, n: u64) -> bool
     ensures { result ≡ has_bit bits n }
 {
@@ -28,6 +29,7 @@ fn power(n: u64) -> u64
     1u64 << (n % 64)
 }
 
+#[tactic(auto, using(crate::proofs::Seen::bit_room), unfolding(crate::specs::Ordered::with_bit))]
 fn with_bit(bits: u64, n: u64) -> u64
     ensures { result ≡ with_bit bits n }
 {
@@ -37,22 +39,15 @@ fn with_bit(bits: u64, n: u64) -> u64
     bits + power(n)
 }
 
-fn greater(a: u64, b: u64) -> u64
-    ensures { result ≡ Ordered.greater a b }
-{
-    if a < b {
-        return b;
-    }
-    a
-}
-
-// A key's word among those that are seen, and its bit.
+// A key's word among those that are seen, and its bit. (`as usize`: it is below 4.)
+#[tactic(auto, unfolding(crate::specs::Ordered::word_of))]
 fn word_of(key: u64) -> usize
     ensures { result ≡ word_of key }
 {
     (key / 4294967296 % 4) as usize
 }
 
+#[tactic(auto, unfolding(crate::specs::Ordered::mark_of))]
 fn mark(key: u64) -> u64
     ensures { result ≡ mark_of key }
 {
@@ -67,6 +62,7 @@ struct Seen {
     ready: u64,
 }
 
+#[tactic(auto, unfolding(crate::specs::Ordered::bits_of))]
 fn bits_of(seen: Seen, w: usize) -> u64
     ensures { result ≡ bits_of seen w }
 {
@@ -79,6 +75,7 @@ fn bits_of(seen: Seen, w: usize) -> u64
     seen.ready
 }
 
+#[tactic(auto, unfolding(crate::specs::Ordered::with_bits))]
 fn with_bits(seen: Seen, w: usize, bits: u64) -> Seen
     ensures { result ≡ with_bits seen w bits }
 {
@@ -97,6 +94,7 @@ fn with_bits(seen: Seen, w: usize, bits: u64) -> Seen
     }
 }
 
+#[tactic(auto, unfolding(crate::specs::Ordered::is_fresh))]
 fn is_fresh(seen: Seen, greatest: u64, key: u64) -> bool
     ensures { result ≡ is_fresh seen greatest key }
 {
@@ -105,6 +103,7 @@ fn is_fresh(seen: Seen, greatest: u64, key: u64) -> bool
     (greatest < key) | !has
 }
 
+#[tactic(auto, unfolding(crate::specs::Ordered::noted))]
 fn note_key(seen: Seen, key: u64) -> Seen
     ensures { result ≡ noted seen key }
 {
@@ -114,55 +113,45 @@ fn note_key(seen: Seen, key: u64) -> Seen
 }
 
 // Is r one more row of a's message, after one of this index?
-fn goes_on(a: Row, index: u32, r: Row) -> bool
-    ensures { result ≡ message_goes_on (cell_of a) index (cell_of r) }
+#[tactic(auto, unfolding(crate::specs::Ordered::message_goes_on, rows::specs::Rows::cell_of))]
+fn goes_on(a: &Row, index: u32, r: &Row) -> bool
+    ensures { result ≡ message_goes_on (cell_of a.now) index (cell_of r.now) }
 {
     let mate = is_mate(a, r);
     let like = agrees(r, a);
     mate & (like
         & ((index < r.index)
-            & ((r.index < r.count)
-                & ((r.length <= base::CELL_BYTES as u32) & (r.id < base::NUMBERS_16)))))
+            & ((r.index < r.count) & ((r.length <= CELL_BYTES) & (r.id < base::NUMBERS_16)))))
 }
 
-// Where the rows of the message that begins with row i end.
-fn run_end(words: &[u32], i: usize) -> usize
-    requires { i < row_count words.now }
-    ensures { MessageRun words.now i result }
+// Where the rows of the message that begins with row i end; most messages have one row.
+#[tactic(auto, using(crate::proofs::OrderCases::one_row))]
+fn run_end(rows: &[Row], i: usize) -> usize
+    requires { i < length rows.now }
+    ensures { MessageRun rows.now i result }
 {
-    let n = words.len() / ROW;
-    let a = rows::whole_row(words, i);
+    let a = &rows[i];
+    if a.count == 1 {
+        return i + 1;
+    }
     let mut index = a.index;
-    let mut k = i + 1;
-    while k < n {
-        let r = rows::whole_row(words, k);
+    for k in i + 1..rows.len() {
+        let r = &rows[k];
         if goes_on(a, index, r) {
             index = r.index;
-            k += 1;
         } else {
             return k;
         }
     }
-    k
-}
-
-// The same; most messages have one row.
-fn message_end(words: &[u32], i: usize, count: u32) -> usize
-    requires { i < row_count words.now }
-    ensures { MessageRun words.now i result }
-{
-    if count == 1 {
-        return i + 1;
-    }
-    run_end(words, i)
+    rows.len()
 }
 
 // Are the rows in order? Whether all keys were fresh is asked at the end: which of the two tests makes one fresh cannot be foreseen, and a
-// branch on it would often be guessed wrong.
-fn by_order(words: &[u32], nexts: &[u32]) -> bool
-    ensures { result ≡ true → sound_cells (cells_in words.now) (next_at nexts.now) ≡ true }
+// branch on it would often be guessed wrong. (d) The index goes on by a whole message, which no `for` over the rows does. (`as
+// usize`: u32 has no From to it.)
+fn by_order(rows: &[Row], channels: &[Channel]) -> bool
+    ensures { result ≡ true → sound_cells (cells_in rows.now) (next_in channels.now) ≡ true }
 {
-    let n = words.len() / ROW;
     let mut seen = Seen {
         opened: 0,
         held: 0,
@@ -171,23 +160,23 @@ fn by_order(words: &[u32], nexts: &[u32]) -> bool
     let mut greatest: u64 = 0;
     let mut fresh = true;
     let mut i = 0;
-    while i < n {
-        let r = rows::whole_row(words, i);
+    while i < rows.len() {
+        let r = &rows[i];
         if r.used == cells::UNUSED {
             i += 1;
         } else {
-            if is_within(nexts, r) {} else {
+            if !is_within(channels, r) {
                 return false;
             }
-            let e = message_end(words, i, r.count);
-            if is_due(r.used == cells::OPEN, e - i == r.count as usize) {} else {
+            let e = run_end(rows, i);
+            if !is_due(r.used == cells::OPEN, e - i == r.count as usize) {
                 return false;
             }
             let key = key_part(r);
             let new = is_fresh(seen, greatest, key);
             fresh = fresh & new;
             seen = note_key(seen, key);
-            greatest = greater(greatest, key);
+            greatest = greatest.max(key);
             i = e;
         }
     }

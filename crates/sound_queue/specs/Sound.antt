@@ -1,18 +1,18 @@
 -- What the test of the receiver's own values tells, and the parts of `sound_queue` that a function of the code tests by itself.
-use Rattle.std.specs.Prelude.{ℕ, zero, suc, Bool, true, false, ◌&&◌, List, Result, Ok, Err, ltb, leb, get_or}
+use Rattle.std.specs.Prelude.{ℕ, Bool, true, false, ◌&&◌, List, Result, Ok, Err, ltb, leb}
 use Rattle.std.specs.Int.Bits.{bit_or}
+use Rattle.std.specs.List.{fold}
 use Rattle.base.specs.Limits.{numbers24, max_unsent}
-use Rattle.base.specs.Lists.{every, below}
+use Rattle.base.specs.Lists.{every}
 use Rattle.base.specs.declared.refusal.Refusal.{Refusal}
 use Rattle.base.specs.declared.refusal.Refusal.TheVariants.{NotSound}
 use Rattle.window.specs.declared.ReliableWindow.{ReliableWindow}
-use Rattle.window.specs.Window.{window_of, accepted}
+use Rattle.window.specs.Window.{accepted}
 use Rattle.ack.specs.Write.{ascending}
 use Rattle.cells.specs.Sound.{sound_nexts, sound_memories}
-use Rattle.receiver.specs.declared.Heads.{Heads}
+use Rattle.receiver.specs.declared.Channel.{Channel}
 use Rattle.receiver.specs.declared.RecvQueue.{RecvQueue}
-use Rattle.receiver.specs.Parts.{next_at, newest_at, profile_at}
-use Rattle.receiver.specs.Queue.{sound_window, sound_profile, differ, unsent_of, sound_queue}
+use Rattle.receiver.specs.Queue.{next_of, newest_of, sound_window, sound_profile, differ, unsent_of, sound_queue}
 
 -- 9 where the rules do not hold, else whether the numbers ascend
 abbrev pub told : Bool → Bool → Result Bool Refusal
@@ -23,20 +23,25 @@ told false rising = Err NotSound
 unfoldable pub queue_sound_of : RecvQueue → Result Bool Refusal
 queue_sound_of q = told (sound_queue q) (ascending (unsent_of q))
 
--- all rules but those on the unsent numbers themselves, of the receiver's numbers and of both windows' bits
-unfoldable pub sound_values : Heads → List ℕ → List ℕ → List ℕ → Bool
-sound_values h dbits rbits nexts = sound_window (window_of h.datagrams dbits) && (sound_window (window_of h.reliables rbits)
-    && ((sound_nexts (next_at nexts) && (sound_memories (newest_at nexts) && sound_profile (profile_at nexts)))
-    && leb h.pending max_unsent))
+-- all rules but those on the unsent numbers themselves
+unfoldable pub sound_values : RecvQueue → Bool
+sound_values q = sound_window q.datagrams && (sound_window q.reliables && (sound_nexts (next_of q) && (sound_memories (newest_of q)
+    && (sound_profile q.profile && leb q.pending max_unsent))))
 
--- each channel's next and each memory is at most 2^24, of the first k of these numbers
-unfoldable pub nexts_within : List ℕ → ℕ → Bool
-nexts_within nexts k = below k (λ i. leb (get_or nexts i 0) numbers24)
+-- a channel's next and memory are at most 2^24
+unfoldable pub channel_within : Channel → Bool
+channel_within c = leb c.next numbers24 && leb c.newest numbers24
 
--- the first k of these numbers, joined by their bits
-unfoldable pub joined : List ℕ → ℕ → ℕ
-joined nexts zero = 0
-joined nexts (suc k) = bit_or (joined nexts k) (get_or nexts k 0)
+-- those of all channels
+unfoldable pub nexts_within : List Channel → Bool
+nexts_within cs = every channel_within cs
+
+-- the channels' nexts and memories, joined by their bits
+abbrev pub join_channel : ℕ → Channel → ℕ
+join_channel bits c = bit_or (bit_or bits c.next) c.newest
+
+unfoldable pub joined : List Channel → ℕ
+joined cs = fold join_channel 0 cs
 
 -- a number that may be unsent: "below low or accepted", and below 2^24
 unfoldable pub sound_number : ReliableWindow → ℕ → Bool

@@ -36,13 +36,13 @@ module _ (n mtu k : ℕ) (least : min_mtu ≤ mtu) (most : mtu ≤ max_mtu) (c :
   given few h l e = rw (piece-given n mtu (splits few) k (let z = count-is in omega arith), e, count-is, d)
 
 module _ (s : List ℕ) (mtu k : ℕ) (a : Answer Fragment) (answered : a ≡ split_piece_of (length s) mtu k) where
-  pub end-within : (f : Fragment) → a ≡ gives f → f.start + f.len ≤ length s
+  pub end_within : (f : Fragment) → a ≡ gives f → f.start + f.len ≤ length s
   unfolding Within
-  end-within f e = rw (← answered, e) at (piece-within (length s) mtu k)
+  end_within f e = rw (← answered, e) at (piece-within (length s) mtu k)
 
-  pub part-given : (f : Fragment) → a ≡ gives f → take (f.start + f.len - f.start) (drop f.start s) ≡ part_of s mtu k
+  pub part_given : (f : Fragment) → a ≡ gives f → take (f.start + f.len - f.start) (drop f.start s) ≡ part_of s mtu k
   unfolding part_of bytes_of
-  part-given f e = rw (← answered, e, add-sub_cancel_left)
+  part_given f e = rw (← answered, e, add-sub_cancel_left)
 
   pub part_none : (r : ℕ) → a ≡ refused r → [] ≡ part_of s mtu k
   unfolding part_of bytes_of

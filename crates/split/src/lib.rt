@@ -32,24 +32,25 @@ pub fn split_piece(buffer: &[u8], mtu: u16, k: u32) -> Result<Fragment, Refusal>
     if n <= chunk {
         return Err(Refusal::FitsOneChunk);
     }
-    let count = n.div_ceil(chunk);
-    if (base::MAX_FRAGS as usize) < count {
-        return Err(Refusal::TooManyPieces);
-    }
-    let index = k as usize;
-    if count <= index {
+    let count = match u32::try_from(n.div_ceil(chunk)) {
+        Ok(count) if count <= base::MAX_FRAGS => count,
+        _ => return Err(Refusal::TooManyPieces),
+    };
+    if count <= k {
         return Err(Refusal::BeyondLast);
     }
-    let start = index * chunk;
+    // `as usize`: u32 has no From to it.
+    let start = k as usize * chunk;
     Ok(Fragment {
         start,
         len: chunk.min(n - start),
-        count: count as u32,
+        count,
         index: k,
     })
 }
 
 // The bytes of piece k, uncopied; none where `split_piece` refuses.
+#[tactic(auto, using(crate::proofs::Cases::end_within, crate::proofs::Cases::part_given, crate::proofs::Cases::part_none))]
 pub fn split_part(buffer: &[u8], mtu: u16, k: u32) -> &[u8]
     ensures { result.now ≡ part_of buffer.now mtu k }
 {

@@ -11,6 +11,7 @@ use recv_queue::{Profile, Received, Taken};
 use std::io;
 use std::io::Read;
 
+// Arrays and no `Vec`: the programs here have no heap.
 const CELLS: usize = 32;
 
 const STORE: usize = base::CELL_BYTES * CELLS;
@@ -40,7 +41,7 @@ fn show_received(rt: &impl Print, answer: Result<Received, Refusal>, datagram: &
     replay::line(rt, b"", u64::from(told.number), &values);
 }
 
-// Takes until none is ready: there are no more messages than cells.
+// Takes until none is ready: there are no more messages than cells. (`as u64`: usize has no From to it.)
 fn take_all(rt: &impl Print, x: &mut Receiver, store: &[u8], joined: &mut [u8]) {
     for _ in 0..CELLS {
         match x.take(store, joined) {

@@ -55,13 +55,14 @@ module _ (low : ℕ) (bits : List ℕ) (n : ℕ) where
   pub not_behind : (b : Bool) → b ≡ accepted (window_of low bits) n → b ≡ false → behind low n ≡ false
   not_behind b e f = le-ltb _ _ (low-le (window_of low bits) n (sym e ∙ f))
 
-  pub place-clear : accepted (window_of low bits) n ≡ false → distance low n ≤ window_places → (n ≡ low → ⊥) → place_set bits n ≡ false
-  place-clear t h d =
+  pub place_clear : accepted (window_of low bits) n ≡ false → distance low n ≤ window_places → (n ≡ low → ⊥) → place_set bits n ≡ false
+  place_clear t h d =
       let a : low ≤ n = low-le (window_of low bits) n t in
       sym (accepted-place (window_of low bits) n (omega arith) (omega arith)) ∙ t
 
 -- a fact on m holds if it holds in each of the five zones where m may stand
-pub zones : (P : Type 0) (low m : ℕ) → (m < low → P) → (m ≡ low → P) → (low < m → m < low + window_places → P) → (m ≡ low + window_places → P)
+pub zones : (P : Type 0) (low m : ℕ) → (m < low → P) → (m ≡ low → P) → (low < m → m < low + window_places → P)
+    → (m ≡ low + window_places → P)
     → (low + window_places < m → P) → P
 zones P low m a b c d e = go (dec_lt m low) (ℕ_discrete m low) (dec_lt m (low + window_places)) (ℕ_discrete m (low + window_places))
   where

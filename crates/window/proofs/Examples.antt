@@ -15,6 +15,6 @@ pub missing-numbers :
     (missing new_window ≡ [])
     × (missing (insert_of (insert_of (insert_of new_window 0).window 2).window 5).window ≡ 1 ∷ 3 ∷ 4 ∷ [])
     × (missing (window_of 16777215 (2 ∷ replicate 255 0)) ≡ 16777215 ∷ [])
-unfolding new_window insert_of accept advance accepted place_set set_place clear_place bit if_true if_lt if_le if_eq missing missing_of unless_accepted
-    highest and_then
+unfolding new_window insert_of accept advance accepted place_set set_place clear_place bit if_true if_lt if_le if_eq missing missing_of
+    unless_accepted highest and_then
 missing-numbers = (refl, refl, refl)

@@ -16,7 +16,7 @@ use Rattle.window.specs.Window.{accepted, advance, with_place, accept, Insertion
 use Rattle.window.specs.Proper.{Sized}
 use Rattle.window.specs.declared.ReliableWindow.{ReliableWindow}
 use Rattle.window.proofs.Places.{set_same, set_other}
-use Rattle.window.proofs.Accepted.{accepted-below, accepted-low, accepted-place, accepted-above, low-le, place-clear, zones}
+use Rattle.window.proofs.Accepted.{accepted-below, accepted-low, accepted-place, accepted-above, low-le, place_clear, zones}
 use Rattle.window.proofs.Advance.{moving, moving-below, moving-place, moving-above, advance-keeps-accepted, advance-sized}
 
 -- ---- the four ways of an insert, for every window
@@ -105,7 +105,7 @@ module _ (w : ReliableWindow) (n : ℕ) where
       go (yes e) = rw (accept-is-low e) (advance-keeps-accepted (record { low = following n; bits = w.bits }) m s ∙ after-low w n m e)
       go (no d) =
           let l : w.low ≤ n = low-le w n t in
-          rw (accept-is-place d) (with-place-accepts w n m s (omega arith) k (place-clear w.low w.bits n t (omega arith) d))
+          rw (accept-is-place d) (with-place-accepts w n m s (omega arith) k (place_clear w.low w.bits n t (omega arith) d))
 
   pub accept-sized : Sized w → Sized (accept w n)
   unfolding set_place

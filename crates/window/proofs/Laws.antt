@@ -78,7 +78,8 @@ pub reach-given : (w : ReliableWindow) → w.low + window_places < numbers24 →
 reach-given w h t = (answer-given w (w.low + window_places)).1 (h, t, le_refl (w.low + window_places))
 
 -- the number after that one gets 5
-pub past-reach-5 : (w : ReliableWindow) → w.low + window_places + 1 < numbers24 → (insert_of w (w.low + window_places + 1)).answer ≡ refused 5
+pub past-reach-5 : (w : ReliableWindow) → w.low + window_places + 1 < numbers24
+    → (insert_of w (w.low + window_places + 1)).answer ≡ refused 5
 past-reach-5 w h = (answer-5 w (w.low + window_places + 1)).1 (h, omega arith)
 
 -- ---- what is accepted, for every window of 256 bytes

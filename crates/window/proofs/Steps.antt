@@ -38,14 +38,14 @@ module _ (end n : ℕ) (bits : List ℕ) (t : ReliableWindow) (e : advance (end 
     advance-set cleared p c = rw c (rw (turns, sym q ∙ p) at e)
 
 -- ---- a number is accepted
-pub accept-low : (w v : ReliableWindow) (n a : ℕ) → n ≡ w.low → a ≡ following n → v
+pub accept_low : (w v : ReliableWindow) (n a : ℕ) → n ≡ w.low → a ≡ following n → v
     ≡ advance window_places (record { low = a; bits = w.bits }) → v ≡ accept w n
 unfolding accept
-accept-low w v n a h e f = eq_yes _ _ _ _ _ h (rw e at f)
+accept_low w v n a h e f = eq_yes _ _ _ _ _ h (rw e at f)
 
-pub accept-above : (low n : ℕ) (bits m : List ℕ) → (n ≡ low → ⊥) → m ≡ set_place bits n → window_of low m ≡ accept (window_of low bits) n
+pub accept_above : (low n : ℕ) (bits m : List ℕ) → (n ≡ low → ⊥) → m ≡ set_place bits n → window_of low m ≡ accept (window_of low bits) n
 unfolding accept
-accept-above low n bits m h e = eq_no _ _ _ _ _ h (ap (window_of low) e)
+accept_above low n bits m h e = eq_no _ _ _ _ _ h (ap (window_of low) e)
 
 pub give-same : (v u : ReliableWindow) → v ≡ u → give v ≡ give u
 give-same v u e = ap give e

@@ -7,7 +7,7 @@ use native.Mathlib.Nat.{le_refl, add_comm, add-zero, zero-add, suc-add, mul-one,
 use native.Mathlib.Decide.{ℕ_discrete, dec_lt}
 use native.Mathlib.Omega.{arith}
 use mir.Syntax.{w64}
-use lib.Bits.{bit_and, and_step, and_self, and_le_r}
+use lib.Bits.{bit_and, and_step, and_self}
 use lib.Count.{count_trailing_zeros}
 use lib.ListN.{length, get_or, take, drop, replicate, length-drop, get_or-append, get_or-eq_default, get_or-replicate}
 use lib.Seq.{take_all, get_or-drop, get_or-append_right}
@@ -115,9 +115,9 @@ cut-bytes bits out at k q e h r i l =
     go (no m) = rw (get_or-eq_default bits 0 {n = k + i} (omega arith), get_or-eq_default bits 0 {n = at + i} (omega arith))
 
 -- ---- the bits of a word from lo on and below hi
-pub mask-is : (f t a b : ℕ) → a ≡ word_places - t → b ≡ f → f < word_places → f ≤ t
+pub mask_is : (f t a b : ℕ) → a ≡ word_places - t → b ≡ f → f < word_places → f ≤ t
     → bit_and ((2 ^ 64 - 1) * 2 ^ b % 2 ^ 64) ((2 ^ 64 - 1) / 2 ^ a) ≡ 2 ^ min word_places t - 2 ^ f
-mask-is f t a b d e h k =
+mask_is f t a b d e h k =
     let u : ℕ = 64 - a in
     let p : u ≡ min word_places t = omega arith in
     let q : u - f + f ≡ min word_places t = omega arith in
@@ -157,9 +157,6 @@ module _ (x : ℕ) where
       let f : (x - 1) % 2 ≡ 1 = omega arith in
       let y : bit_and x (x - 1) ≡ bit_and (x / 2) (x / 2 - 1) * 2 + 0 = and_step x (x - 1) ∙ rw (h, e, f) in
       (omega arith, omega arith)
-
-pub rest-less : (x : ℕ) → 0 < x → bit_and x (x - 1) < x
-rest-less x h = omega (arith, and_le_r x (x - 1))
 
 pub ones-lowest : (n c x : ℕ) → 0 < x → x < 2 ^ c → ones_from n c x ≡ (n + count_trailing_zeros c x) ∷ ones_from n c (bit_and x (x - 1))
 unfolding count_trailing_zeros

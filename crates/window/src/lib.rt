@@ -25,6 +25,7 @@ pub struct ReliableWindow {
 }
 
 impl ReliableWindow {
+    #[tactic(auto, unfolding(crate::specs::Window::new_window))]
     pub fn new() -> Self
         ensures { result ≡ new_window }
     {
@@ -73,6 +74,7 @@ pub fn insert_in(low: u32, bits: &mut [u8], n: u32) -> Result<u32, Refusal>
     Ok(accept(low, bits, n))
 }
 
+#[tactic(auto, unfolding(crate::specs::Window::accepted, base::specs::If::if_true, base::specs::If::if_eq, base::specs::If::if_le))]
 pub fn accepted_in(low: u32, bits: &[u8], n: u32) -> bool
     ensures { result ≡ Window.accepted (window_of low bits.now) n }
 {
@@ -89,6 +91,7 @@ pub fn accepted_in(low: u32, bits: &[u8], n: u32) -> bool
 }
 
 // n, not accepted before and within reach, accepted; the new low.
+#[tactic(auto, using(crate::proofs::Accepted::place_clear, crate::proofs::Steps::accept_low, crate::proofs::Steps::accept_above))]
 fn accept(low: u32, bits: &mut [u8], n: u32) -> u32
     requires n_lt_numbers24 { n < numbers24 }
     requires n_value { Window.accepted (window_of low bits.old) n ≡ false }
@@ -118,6 +121,7 @@ fn advanced(low: u32, bits: &mut [u8]) -> u32
 }
 
 // Whether the place of n is set, whatever low is.
+#[tactic(auto, unfolding(crate::specs::Places::place_set, crate::specs::Places::bit))]
 pub fn place_set(bits: &[u8], n: u32) -> bool
     ensures { result ≡ place_set bits.now n }
 {
@@ -136,7 +140,7 @@ fn turn_place(bits: &mut [u8], n: u32)
     }
 }
 
-// The byte that has the place of n.
+// The byte that has the place of n. (`as usize`: u32 has no From to it.)
 fn place_byte(n: u32) -> usize
     ensures { result ≡ place_byte n }
 {

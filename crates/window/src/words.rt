@@ -74,6 +74,7 @@ fn put_ones(list: &mut [u32], p: usize, n: u32, ones: u64) -> usize
 }
 
 // In the word whose first number is n, the bits of the numbers from `from` on that are below `to`.
+#[tactic(auto, using(crate::proofs::WordBits::mask_is))]
 fn between(n: u32, from: u32, to: u32) -> u64
     requires from_in_word { from < n + word_places }
     requires to_in_word { n < to }
@@ -86,7 +87,8 @@ fn between(n: u32, from: u32, to: u32) -> u64
     (u64::MAX << below) & (u64::MAX >> above)
 }
 
-// The word whose first number is n, a whole one by one read of its bytes. A byte past the end of the bits is 0.
+// The word whose first number is n, a whole one by one read of its bytes. A byte past the end of the bits is 0: only there are they put
+// one after another.
 fn word(bits: &[u8], n: u32) -> u64
     requires { n % word_places ≡ 0 }
     ensures { result ≡ places_from bits.now n word_places }

@@ -1,5 +1,19 @@
-use Rattle.recv_acks.proofs.WriteLaws.{missing-said}
+use mathlib.Core.Path.{sym}
+use lib.Seq.{length-take-le}
+use borrow.Author.Rules.{rules}
+use Rattle.recv_acks.proofs.WriteCases.{missing-unsound, missing-sound, missing-first, missing-room}
 use Rattle.recv_acks.proofs.write_missing.Goals as goal
 
+pub returns-in_err-sound_queue : goal.returns-in_err-sound_queue
+returns-in_err-sound_queue c = search (rules, missing-unsound)
+
+pub slice_bounds-list-end : goal.slice_bounds-list-end
+slice_bounds-list-end c = search (rules, missing-room)
+
+pub slice_bounds-write_list-end : goal.slice_bounds-write_list-end
+slice_bounds-write_list-end c = sym (length-take-le _ _ (search (rules, missing-room)))
+
 pub returns : goal.returns
-returns c = missing-said _ _ _ _ c.write_list.ensures
+returns c = let written = c.write_list.ensures in
+    let is = missing-first _ _ _ _ c.missing-m.ensures (search rules) in
+    missing-sound _ _ _ c.in_ok-sound_queue.ensures _ (rw is at written.result_value) _ (rw is at written.out_after)

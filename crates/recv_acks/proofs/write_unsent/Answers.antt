@@ -1,11 +1,14 @@
-use Rattle.std.specs.Prelude.{Ok, Err}
+use borrow.Author.Rules.{rules}
 use Rattle.std.proofs.lemmas.Result.{err_from_is_err_and}
-use Rattle.recv_acks.proofs.WriteLaws.{unsent-said}
+use Rattle.recv_acks.proofs.WriteCases.{unsent-unsound, unsent-refused, unsent-given}
 use Rattle.recv_acks.proofs.write_unsent.Goals as goal
 
+pub returns-in_err-ascending : goal.returns-in_err-ascending
+returns-in_err-ascending c = search (rules, unsent-unsound)
+
 pub returns-in_err-len : goal.returns-in_err-len
-returns-in_err-len c = let p = err_from_is_err_and c.from_residual.result c.from_residual.ensures.1 in
-    rw (p.1, p.2) (unsent-said (Err _) _ _ _ c.in_err-len.ensures)
+returns-in_err-len c = let refused = err_from_is_err_and c.from_residual-in_err-len.result c.from_residual-in_err-len.ensures.1 in
+    rw (refused.1, refused.2) (search (rules, unsent-refused))
 
 pub returns : goal.returns
-returns c = unsent-said (Ok c.in_ok-len.len) _ _ _ c.in_ok-len.ensures
+returns c = search (rules, unsent-given)

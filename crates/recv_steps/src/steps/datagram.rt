@@ -1,12 +1,13 @@
 // A datagram: what its frames begin with, the frames in order, and after acceptance the bodies copied into the store.
-ghost use Rattle.std.specs.Prelude.{◌≡◌, map, ◌≤◌, ◌*◌, ◌<◌, length, set};
+ghost use Rattle.std.specs.Prelude.{◌≡◌, true, map, ◌≤◌, ◌*◌, ◌<◌, length};
 ghost use Rattle.base.specs.Limits.{max_cells};
 ghost use Rattle.base.specs.Lists.{count_of};
-ghost use Rattle.window.specs.Window.{window_of, inserted_in};
+ghost use Rattle.window.specs.Proper.{Sized};
+ghost use Rattle.window.specs.Window.{insertion};
+ghost use Rattle.bare.specs.Frame.{carries_reliable};
 ghost use Rattle.cells.specs.Records.{first_cell};
 ghost use Rattle.cells.specs.Store.{cell_size};
-ghost use Rattle.rows.specs.Rows.{row_count, rows_of, cells_in};
-ghost use Rattle.rows.specs.Whole.{whole_row, rest};
+ghost use Rattle.rows.specs.Rows.{cells_in};
 ghost use Rattle.row_slots.specs.Slots.{is_placed, flushed, Fits, AllFit};
 ghost use Rattle.recv_steps.specs.Flush.{flushed_row, stored, settled, settled_rows};
 ghost use Rattle.recv_steps.specs.Frames.{number_in, Begun, Ran};
@@ -15,75 +16,71 @@ ghost use Rattle.recv_steps.specs.Receives.{begun_rows};
 use super::super::{Framed, Tally};
 use base::Refusal;
 use frame::Placed;
-use rows::{ROW, Row};
+use receiver::Nexts;
+use rows::Row;
+use window::ReliableWindow;
 
 pub mod receive;
 
-// What the frames begin with: all bodies stand in the store, and the ready messages' turns are 0, 1, 2, .. The next turn.
-fn begin(words: &mut [u32]) -> u32
-    requires { row_count words.old ≤ max_cells }
-    ensures turn { result ≡ count_of first_cell (cells_in words.old) }
-    ensures rows { rows_of words.new ≡ begun_rows (rows_of words.old) }
+// What the frames begin with: all bodies stand in the store, and the ready messages' turns are 0, 1, 2, .. The next turn. (`as u32`: there
+// are at most 4,096 rows.)
+#[tactic(auto, using(crate::proofs::Beginning::begins_rows, crate::proofs::Beginning::turn_few))]
+fn begin(rows: &mut [Row]) -> u32
+    requires { length rows.old ≤ max_cells }
+    ensures turn { result ≡ count_of first_cell (cells_in rows.old) }
+    ensures rows { rows.new ≡ begun_rows rows.old }
 {
-    let turn = row_scans::count_first(words);
-    clear_places(words);
-    row_ranks::renumber(words);
+    let turn = row_scans::count_first(rows);
+    clear_places(rows);
+    row_ranks::renumber(rows);
     turn as u32
 }
 
-#[tactic(auto, unfolding(crate::specs::Flush::stored, row_slots::specs::First::stored_row, rows::specs::Rows::cell_of))]
-fn stored_row(r: Row) -> Row
-    ensures { result ≡ stored r }
+// The row's body stands in the store. Most rows' bodies do already, and are not written.
+#[tactic(auto, using(crate::proofs::Flushing::stored_same, crate::proofs::Flushing::stored_anew))]
+fn clear_place(r: &mut Row)
+    ensures { r.new ≡ stored r.old }
 {
-    Row { place: 0, ..r }
-}
-
-fn clear_place(words: &mut [u32], i: usize)
-    ensures is { rows_of words.new ≡ set (rows_of words.old) i (stored (whole_row words.old i)) }
-    ensures rest { rest words.new ≡ rest words.old }
-{
-    let r = rows::whole_row(words, i);
-    if 0 < r.place {
-        rows::put_row(words, i, stored_row(r));
+    if r.place != 0 {
+        r.place = 0;
     }
 }
 
-// Every body stands in the store. Rows that were read from records have place 0 already, and are not written.
-fn clear_places(words: &mut [u32])
-    ensures is { rows_of words.new ≡ map stored (rows_of words.old) }
-    ensures rest { rest words.new ≡ rest words.old }
+fn clear_places(rows: &mut [Row])
+    ensures { rows.new ≡ map stored rows.old }
 {
-    for i in 0..words.len() / ROW {
-        clear_place(words, i);
+    for r in rows.iter_mut() {
+        clear_place(r);
     }
 }
 
-// The frame's reliable number, where it carries one, inserted.
-fn number_in(low: u32, bits: &mut [u8], placed: Placed) -> Result<u32, Refusal>
-    ensures { inserted_in low result bits.new ≡ number_in (window_of low bits.old) placed }
+// The frame's reliable number, where it carries one, inserted. (By `insert_in`, and not by the window's method: the proof needs the array's
+// length, which is known where the array is lent.)
+#[tactic(auto, unfolding(crate::specs::Frames::number_in, bare::specs::Frame::carries_reliable))]
+fn number_in(reliables: &mut ReliableWindow, placed: Placed) -> Result<(), Refusal>
+    ensures is { insertion result reliables.new ≡ number_in reliables.old placed }
+    ensures sized { carries_reliable placed.frame.kind ≡ true → Sized reliables.old }
 {
     let f = placed.frame;
     if reliability::has_reliable(f.kind) {
-        return window::insert_in(low, bits, f.reliable);
+        reliables.low = window::insert_in(reliables.low, &mut reliables.bits, f.reliable)?;
     }
-    Ok(low)
+    Ok(())
 }
 
 // All frames of the datagram, in order, until one does not fit or carries a number beyond reach.
 fn frames(
-    words: &mut [u32],
-    bits: &mut [u8],
-    nexts: &mut [u32],
-    low: u32,
+    rows: &mut [Row],
+    reliables: &mut ReliableWindow,
+    nexts: &mut Nexts,
     turn: u32,
     datagram: &[u8],
 ) -> Result<Framed, Refusal>
-    requires { Begun low bits.old nexts.old (rows_of words.old) turn datagram.now }
-    ensures { Ran low bits.old nexts.old (rows_of words.old) turn datagram.now
-        result bits.new nexts.new (rows_of words.new) }
+    requires { Begun reliables.old nexts.old rows.old turn datagram.now }
+    ensures { Ran reliables.old nexts.old rows.old turn datagram.now
+        result reliables.new nexts.new rows.new }
 {
-    let profile = recv_memory::profile_for(nexts);
-    let mut low = low;
+    let profile = nexts.profile;
     let mut counts = Tally {
         turn,
         ready: 0,
@@ -92,11 +89,8 @@ fn frames(
     };
     let mut at = base::MIN_DATAGRAM;
     while let Ok((placed, next)) = frame::read_frame(profile, datagram, at) {
-        match number_in(low, bits, placed) {
-            Ok(l) => {
-                low = l;
-                counts = super::keep_in(words, nexts, counts, placed);
-            }
+        match number_in(reliables, placed) {
+            Ok(()) => counts = super::keep_in(rows, nexts, counts, placed),
             Err(refusal) => match refusal {
                 Refusal::Beyond => return Err(Refusal::ReliableBeyond),
                 // "Reliable number accepted before: drop."
@@ -106,23 +100,24 @@ fn frames(
         at = next;
     }
     Ok(Framed {
-        low,
         counts,
         left: datagram.len().saturating_sub(at),
     })
 }
 
 #[tactic(auto, unfolding(row_slots::specs::Slots::is_placed))]
-fn is_placed(r: Row) -> bool
-    ensures { result ≡ is_placed r }
+fn is_placed(r: &Row) -> bool
+    ensures { result ≡ is_placed r.now }
 {
-    !(r.used == cells::UNUSED) & !(r.place == 0)
+    (r.used != cells::UNUSED) & (r.place != 0)
 }
 
-fn flush_row(store: &mut [u8], i: usize, r: Row, datagram: &[u8])
-    requires fits { Fits datagram.now r }
+// The row's body, where it is still in the datagram, copied into cell i of the store. (`as usize`: u32 has no From to it.)
+#[tactic(auto, using(crate::proofs::Flushing::placed_there, crate::proofs::Flushing::row_kept, crate::proofs::Flushing::row_copied))]
+fn flush_row(store: &mut [u8], i: usize, r: &Row, datagram: &[u8])
+    requires fits { Fits datagram.now r.now }
     requires i_lt_max_cells { i < max_cells }
-    ensures { store.new ≡ flushed_row i r store.old datagram.now }
+    ensures { store.new ≡ flushed_row i r.now store.old datagram.now }
 {
     if is_placed(r) {
         let from = r.place as usize - 1;
@@ -131,36 +126,28 @@ fn flush_row(store: &mut [u8], i: usize, r: Row, datagram: &[u8])
     }
 }
 
-fn settled_row(r: Row) -> Row
-    ensures { result ≡ settled r }
+// The row's body is in the store from now on; a late join's row is free.
+#[tactic(auto, using(crate::proofs::Flushing::settled_late, crate::proofs::Flushing::settled_kept))]
+fn settle_row(r: &mut Row)
+    ensures { r.new ≡ settled r.old }
 {
     if r.used == cells::RELEASED {
-        return rows::blank_row();
-    }
-    Row { place: 0, ..r }
-}
-
-// The row's body is in the store from now on; a late join's row is free. Most rows are so already, and are not written.
-fn settle_row(words: &mut [u32], i: usize)
-    ensures is { rows_of words.new ≡ set (rows_of words.old) i (settled (whole_row words.old i)) }
-    ensures rest { rest words.new ≡ rest words.old }
-{
-    let r = rows::whole_row(words, i);
-    if (r.used == cells::RELEASED) | (0 < r.place) {
-        rows::put_row(words, i, settled_row(r));
+        *r = rows::blank_row();
+    } else {
+        clear_place(r);
     }
 }
 
 // Every body that the datagram placed copied into the store, and every row settled.
-fn settle(words: &mut [u32], store: &mut [u8], datagram: &[u8])
-    requires all_fit { AllFit datagram.now (rows_of words.old) }
-    requires words_bound { row_count words.old ≤ max_cells }
-    requires cell_size_in_bounds { row_count words.old * cell_size ≤ length store.old }
-    ensures rows { rows_of words.new ≡ settled_rows (rows_of words.old) }
-    ensures store { store.new ≡ flushed (rows_of words.old) store.old datagram.now }
+fn settle(rows: &mut [Row], store: &mut [u8], datagram: &[u8])
+    requires all_fit { AllFit datagram.now rows.old }
+    requires rows_bound { length rows.old ≤ max_cells }
+    requires cell_size_in_bounds { length rows.old * cell_size ≤ length store.old }
+    ensures rows { rows.new ≡ settled_rows rows.old }
+    ensures store { store.new ≡ flushed rows.old store.old datagram.now }
 {
-    for i in 0..words.len() / ROW {
-        flush_row(store, i, rows::whole_row(words, i), datagram);
-        settle_row(words, i);
+    for (i, r) in rows.iter_mut().enumerate() {
+        flush_row(store, i, r, datagram);
+        settle_row(r);
     }
 }

@@ -6,4 +6,4 @@ use Rattle.recv_take.specs.Pieces.{length_to}
 use Rattle.recv_take.proofs.joined_length.Given as goal
 
 abbrev pub invariant-loop-i : goal.invariant-loop-i
-invariant-loop-i l = (l.len ≤ cell_bytes * l.i) × (l.len ≡ length_to l.turn (cells_in l.words) l.i)
+invariant-loop-i l = (l.len ≤ cell_bytes * l.i) × (l.len ≡ length_to l.turn (cells_in l.rows) l.i)

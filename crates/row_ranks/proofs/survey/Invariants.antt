@@ -1,11 +1,7 @@
-use Prim.Native.Nat.{◌≤◌, ◌-◌}
-use lib.ListN.{length}
-use Rattle.rows.proofs.Below.{cells_below}
+use lib.ListN.{length, take}
+use Rattle.rows.specs.Rows.{cells_in}
 use Rattle.row_ranks.proofs.Surveys.{Marked}
 use Rattle.row_ranks.proofs.survey.Given as goal
 
-abbrev pub invariant-loop-i : goal.invariant-loop-i
-invariant-loop-i l = (l.i ≤ l.n) × Marked (length l.initial.marks) (cells_below l.words l.i) l.marks l.t
-
-abbrev pub decreases-loop-i : goal.decreases-loop-i
-decreases-loop-i l = l.n - l.i
+abbrev pub invariant-loop-r : goal.invariant-loop-r
+invariant-loop-r l = Marked (length l.initial.marks) (cells_in (take l.r-index l.rows)) l.marks l.t

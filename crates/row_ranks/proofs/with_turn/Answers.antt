@@ -1,18 +1,14 @@
-use native.Mathlib.Omega.{arith}
-use Rattle.row_ranks.proofs.Surveys.{turn_is}
+use mathlib.Core.Path.{◌≡◌, refl}
+use mathlib.Core.Bool.{Bool, true, false, cond}
+use mir.Val.{bool_byte}
+use Rattle.rows.specs.Rows.{cell_of}
+use Rattle.row_ranks.specs.Renumber.{with_turn}
 use Rattle.row_ranks.proofs.with_turn.Goals as goal
 
-pub one_if-requires : goal.one_if-requires
-one_if-requires c = tt
-
-pub overflow_add-result : goal.overflow_add-result
-overflow_add-result c = omega (arith, c.one_if.ensures.1)
-
-pub lesser-requires : goal.lesser-requires
-lesser-requires c = tt
-
-pub greater-requires : goal.greater-requires
-greater-requires c = tt
+byte-is : (b : Bool) → bool_byte b ≡ cond b 1 0
+byte-is true = refl
+byte-is false = refl
 
 pub returns : goal.returns
-returns c = turn_is _ _ c.one_if.ensures.0 c.lesser.ensures c.greater.ensures
+unfolding with_turn cell_of
+returns c = rw (c.from.ensures, byte-is _, c.min.ensures, c.max.ensures)

@@ -14,6 +14,7 @@ use Rattle.sound_queue.proofs.places_within.Goals as goal
 
 pub returns : goal.returns
 returns c =
-    all_from_yields_List (λ (k : ℕ). ltb (c.args.low + k + 1) numbers24 || not (place_set c.args.bits.now (c.args.low + k + 1)))
+    let w = c.args.window.now in
+    all_from_yields_List (λ (k : ℕ). ltb (w.low + k + 1) numbers24 || not (place_set w.bits (w.low + k + 1)))
     _ _ _ c.all.ensures.ran (YieldsList-from_range 0 window_places window_places (cc) refl) (λ x b q k. search (rules, tests))
-    ∙ range_below _ window_places ∙ places_below c.args.low c.args.bits.now window_places
+    ∙ range_below _ window_places ∙ places_below w window_places

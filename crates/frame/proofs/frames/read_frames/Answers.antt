@@ -1,9 +1,6 @@
 use borrow.Author.Rules.{rules}
-use Rattle.frame.proofs.FramesCases.{passed_none, passed-all, passed-more, passed-less}
+use Rattle.frame.proofs.FramesCases.{passed-all, passed-more, passed-less}
 use Rattle.frame.proofs.frames.read_frames.Goals as goal
-
-pub loop-span-init : goal.loop-span-init
-loop-span-init c = search (rules, passed_none)
 
 pub loop-span-smaller : goal.loop-span-smaller
 loop-span-smaller c = search (rules, passed-less)

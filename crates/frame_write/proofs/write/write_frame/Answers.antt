@@ -7,9 +7,6 @@ use Rattle.frame_write.proofs.write.write_frame.Goals as goal
 pub returns-then-not-within_limits : goal.returns-then-not-within_limits
 returns-then-not-within_limits c = search (rules, answer-over, output-over)
 
-pub size_of-size-requires : goal.size_of-size-requires
-size_of-size-requires c = search (rules, limits-body)
-
 pub returns-in_err-room-clause-answer : goal.returns-in_err-room-clause-answer
 returns-in_err-room-clause-answer c =
     let p = err_from_is_err_and c.from_residual.result c.from_residual.ensures.1 in rw (p.1, p.2) (search (rules, answer-past))
@@ -28,5 +25,6 @@ returns-clause-answer c = search (rules, answer-written)
 
 pub returns-clause-output : goal.returns-clause-output
 returns-clause-output c =
-    output-written _ _ _ _ _ _ c.within_limits.ensures c.if-not-within_limits.false _ c.size_of-size.ensures.is (search rules) (search rules) _ _
+    output-written _ _ _ _ _ _ c.within_limits.ensures c.if-not-within_limits.false _ c.header_size.ensures.is (search rules)
+    (search rules) _ _
     c.put_frame.ensures

@@ -1,26 +1,16 @@
 use native.Mathlib.Omega.{arith}
-use Rattle.recv_steps.proofs.CountChanges.{next-rises, counts-one}
 use Rattle.recv_steps.proofs.Following.{following-begins, following-goes, follows-stops, follows-done}
 use borrow.Author.Rules.{rules}
 use Rattle.recv_steps.proofs.steps.follows.Goals as goal
 
-pub rise-requires : goal.rise-requires
-rise-requires c = search (rules, next-rises)
-
 pub loop-init : goal.loop-init
 loop-init c = let pre = c.requires in
-    following-begins _ _ _ _ _ pre.channel_lt_max_ord_chans pre.words_bound pre.can_count pre.rises c.rise.ensures _ (omega arith)
-
-pub rise-requires-in-loop : goal.rise-requires-in-loop
-rise-requires-in-loop c = search (rules, next-rises)
-
-pub make_one-t-requires : goal.make_one-t-requires
-make_one-t-requires c = search (rules, counts-one)
+    following-begins _ _ _ _ _ pre.channel_lt_max_ord_chans pre.rows_bound pre.can_count pre.rises c.rise.ensures _ (omega arith)
 
 pub loop-preserved : goal.loop-preserved
 loop-preserved c = let held = c.turn_held.ensures in
     following-goes _ _ _ _ _ _ _ _ _ c.loop.invariant (omega arith) c.requires.channel_lt_max_ord_chans _ c.next_of-next.ensures _ held.held
-    c.if-not-turn_held.false _ _ _ c.turn_held.auto.words held.is c.rise-in-loop.ensures c.make_one-t.ensures _ (omega arith)
+    c.if-not-turn_held.false _ _ _ c.turn_held.auto.rows held.is c.rise-in-loop.ensures c.make_one-t.ensures _ (omega arith)
 
 pub returns-then-not-turn_held : goal.returns-then-not-turn_held
 returns-then-not-turn_held c = search (rules, follows-stops)

@@ -1,20 +1,10 @@
-use Rattle.recv_steps.proofs.CountChanges.{counts-first, counts-after}
-use Rattle.recv_steps.proofs.Following.{few-still}
+use Rattle.recv_steps.proofs.CountChanges.{counts-after}
 use Rattle.recv_steps.proofs.Joining.{joins-late, joins-early, joins-due, joins-newer, joins-free}
 use borrow.Author.Rules.{rules}
 use Rattle.recv_steps.proofs.steps.joins.Goals as goal
 
-pub turn_ready-t-requires : goal.turn_ready-t-requires
-turn_ready-t-requires c = search (rules, counts-first)
-
-pub follows-requires : goal.follows-requires
-follows-requires c = record { channel_lt_max_ord_chans = search rules; words_bound = search (rules, few-still); can_count = search (rules, counts-after); rises = search rules }
-
-pub turn_ready-requires : goal.turn_ready-requires
-turn_ready-requires c = search (rules, counts-first)
-
-pub turn_ready-requires-in-Free : goal.turn_ready-requires-in-Free
-turn_ready-requires-in-Free c = search (rules, counts-first)
+pub follows-requires-clause-can_count : goal.follows-requires-clause-can_count
+follows-requires-clause-can_count c = search (rules, counts-after)
 
 pub returns-in-Late : goal.returns-in-Late
 returns-in-Late c = search (rules, joins-late)

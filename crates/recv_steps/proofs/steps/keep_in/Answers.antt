@@ -1,9 +1,6 @@
-use Rattle.recv_steps.proofs.Stepping.{limits-kept, limits-channel, limited-piece, limited-whole, limited-drops}
+use Rattle.recv_steps.proofs.Stepping.{limits-channel, limited-piece, limited-whole, limited-drops}
 use borrow.Author.Rules.{rules}
 use Rattle.recv_steps.proofs.steps.keep_in.Goals as goal
-
-pub piece-requires-clause-limited : goal.piece-requires-clause-limited
-piece-requires-clause-limited c = search (rules, limits-kept)
 
 pub returns-then-placed : goal.returns-then-placed
 returns-then-placed c = search (rules, limited-piece)

@@ -1,10 +1,6 @@
-use Rattle.recv_steps.proofs.Following.{few-still}
 use Rattle.recv_steps.proofs.Joining.{piece-kept, piece-full}
 use borrow.Author.Rules.{rules}
 use Rattle.recv_steps.proofs.steps.put_piece.Goals as goal
-
-pub kept-requires : goal.kept-requires
-kept-requires c = record { readable_placed = search rules; channel_lt_max_ord_chans = search rules; words_bound = search (rules, few-still); can_count = search rules; rises = search rules }
 
 pub returns-then-put_frame : goal.returns-then-put_frame
 returns-then-put_frame c = let put = c.put_frame.ensures in let pre =

@@ -1,13 +1,6 @@
-use Rattle.recv_steps.proofs.CountChanges.{counts-first}
 use Rattle.recv_steps.proofs.Wholes.{whole-late, whole-early, whole-due, whole-newer, whole-free}
 use borrow.Author.Rules.{rules}
 use Rattle.recv_steps.proofs.steps.whole.Goals as goal
-
-pub ready-requires : goal.ready-requires
-ready-requires c = search (rules, counts-first)
-
-pub ready-requires-in-Free : goal.ready-requires-in-Free
-ready-requires-in-Free c = search (rules, counts-first)
 
 pub returns-in-Late : goal.returns-in-Late
 returns-in-Late c = search (rules, whole-late)

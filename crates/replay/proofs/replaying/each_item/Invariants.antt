@@ -7,4 +7,5 @@ use Rattle.replay.proofs.replaying.each_item.Given as goal
 abbrev pub invariant-loop-tag : goal.invariant-loop-tag
 invariant-loop-tag g l =
     goal.F-IsAlwaysCallable g l.step
-    × ((last : _) → FoldsTo (RanAt g.F.FnMut) l.step (items_left l.tag-iterator) last → FoldsTo (RanAt g.F.FnMut) l.fn.step (items_of l.bytes) last)
+    × ((last : _) → FoldsTo (RanAt g.F.FnMut) l.step (items_left l.tag-iterator) last
+    → FoldsTo (RanAt g.F.FnMut) l.fn.step (items_of l.bytes) last)

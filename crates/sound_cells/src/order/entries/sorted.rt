@@ -1,42 +1,44 @@
 // The cells' records are sound where their entries, sorted, pass these tests; else the test by pairs decides. So pairs are compared only of
 // records that are not sound, and the call is then refused.
-ghost use Rattle.std.specs.Prelude.{◌≡◌, true, ℕ, ◌+◌, ◌<◌, ◌≤◌, length, get_or};
+ghost use Rattle.std.specs.Prelude.{◌≡◌, true, ℕ, ◌<◌, ◌≤◌, length, get_or};
 ghost use Rattle.base.specs.Limits.{max_cells};
 ghost use Rattle.base.specs.Lists.{below};
 ghost use Rattle.cells.specs.Sound.{sound_cells};
-ghost use Rattle.rows.specs.Rows.{row_count, cell_of, cells_in};
-ghost use Rattle.receiver.specs.Parts.{next_at};
-ghost use Rattle.sound_cells.specs.Sorted.{is_own, is_led, is_placed_entry, counted, tallied, is_due, all_rise};
+ghost use Rattle.rows.specs.Rows.{cell_of, cells_in};
+ghost use Rattle.receiver.specs.Queue.{next_in};
+ghost use Rattle.sound_cells.specs.Sorted.{place_of, is_own, is_led, is_placed_entry, counted, tallied, due_cell, is_due, all_rise};
 
 use super::super::super::{
     FEW, SMALL, SOME, agrees, by_pairs, is_due, is_mate, is_within, key_part,
 };
-use super::{Prepared, key_at, prepare, row_number_at, upper_at, upper_part};
-use rows::{ROW, Row};
+use super::{Place, key_at, prepare, row_number_at, upper_at, upper_part};
+use receiver::Channel;
+use rows::Row;
 
 mod tiers;
 
 pub use tiers::sound_cells;
 
-fn wide(x: u32) -> usize
-    ensures { result ≡ x }
-{
-    x as usize
-}
+// How long lists for so many rows are: the first entry is no row's.
+const SMALL_ENTRIES: usize = SMALL + 1;
 
-// Reading is total: past the end stands 0.
-fn place_at(places: &[u32], i: usize) -> usize
-    ensures { result ≡ get_or places.now i 0 }
+const FEW_ENTRIES: usize = FEW + 1;
+
+const SOME_ENTRIES: usize = SOME + 1;
+
+const MOST_ENTRIES: usize = base::MAX_CELLS + 1;
+
+// Reading is total: past the end stand zeros. (`as usize`, here and below: u32 has no From to it.)
+fn place_at(places: &[Place], i: usize) -> Place
+    ensures { result ≡ place_of places.now i }
 {
-    if i < places.len() {
-        return wide(places[i]);
-    }
-    0
+    places.get(i).copied().unwrap_or_default()
 }
 
 // Is the entry at place p that of row i?
-fn is_own(entries: &[u64], k: usize, p: usize, i: usize, r: Row) -> bool
-    ensures { result ≡ is_own entries.now k p i (cell_of r) }
+#[tactic(auto, unfolding(crate::specs::Sorted::is_own))]
+fn is_own(entries: &[u64], k: usize, p: usize, i: usize, r: &Row) -> bool
+    ensures { result ≡ is_own entries.now k p i (cell_of r.now) }
 {
     let upper = upper_at(entries, p);
     let number = row_number_at(entries, p);
@@ -45,240 +47,150 @@ fn is_own(entries: &[u64], k: usize, p: usize, i: usize, r: Row) -> bool
 }
 
 // Do the entries of the row's message begin after place q, with one of a cell that agrees with the row's?
-fn is_led(words: &[u32], entries: &[u64], k: usize, q: usize, r: Row) -> bool
-    ensures { result ≡ is_led words.now entries.now k q (cell_of r) }
+#[tactic(auto, unfolding(crate::specs::Sorted::is_led, crate::specs::Sorted::cell_at))]
+fn is_led(rows: &[Row], entries: &[u64], k: usize, q: usize, r: &Row) -> bool
+    ensures { result ≡ is_led rows.now entries.now k q (cell_of r.now) }
 {
     if q < k {
         let before = key_at(entries, q);
         let key = key_at(entries, q + 1);
         let part = key_part(r);
-        let d = rows::whole_row(words, row_number_at(entries, q + 1));
-        let mate = is_mate(r, d);
-        let like = agrees(r, d);
+        let d = rows::whole_row(rows, row_number_at(entries, q + 1));
+        let mate = is_mate(r, &d);
+        let like = agrees(r, &d);
         return (before != key) & ((key == part) & (mate & like));
     }
     false
 }
 
 fn is_placed(
-    words: &[u32],
-    nexts: &[u32],
+    rows: &[Row],
+    channels: &[Channel],
     entries: &[u64],
-    ranks: &[u32],
-    leads: &[u32],
+    places: &[Place],
     k: usize,
     i: usize,
 ) -> bool
-    ensures { result ≡ is_placed_entry words.now (next_at nexts.now) entries.now ranks.now
-        leads.now k i }
+    requires { i < length rows.now }
+    ensures { result ≡ is_placed_entry rows.now (next_in channels.now) entries.now places.now k i }
 {
-    let r = rows::whole_row(words, i);
+    let r = &rows[i];
     if r.used == cells::UNUSED {
         return true;
     }
-    if is_within(nexts, r) {
-        let own = is_own(entries, k, place_at(ranks, i), i, r);
-        let led = is_led(words, entries, k, place_at(leads, i), r);
+    if is_within(channels, r) {
+        let place = place_at(places, i);
+        let own = is_own(entries, k, place.rank as usize, i, r);
+        let led = is_led(rows, entries, k, place.lead as usize, r);
         return own & led;
     }
     false
 }
 
-fn count_row(counts: &mut [u32], r: Row, q: usize)
+#[tactic(auto, unfolding(crate::specs::Sorted::counted, rows::specs::Rows::cell_of))]
+fn count_row(counts: &mut [u32], r: &Row, q: usize)
     requires { get_or counts.old q 0 ≤ max_cells }
-    ensures { counts.new ≡ counted counts.old (cell_of r) q }
+    ensures { counts.new ≡ counted counts.old (cell_of r.now) q }
 {
     if r.used == cells::UNUSED {
         return;
     }
     if q < counts.len() {
-        let k = counts[q];
-        counts[q] = k + 1;
+        counts[q] += 1;
     }
 }
 
 // Are all rows placed? Where they are, the used ones led from each place are counted.
 fn all_placed(
-    words: &[u32],
-    nexts: &[u32],
+    rows: &[Row],
+    channels: &[Channel],
     entries: &[u64],
-    ranks: &[u32],
-    leads: &[u32],
+    places: &[Place],
     k: usize,
     counts: &mut [u32],
 ) -> bool
-    requires { (row_count words.now ≤ max_cells) × ((g : ℕ) → get_or counts.old g 0 ≡ 0) }
-    ensures is { result ≡ below (row_count words.now) (is_placed_entry words.now (next_at nexts.now)
-        entries.now ranks.now leads.now k) }
-    ensures led { result ≡ true → counts.new ≡ tallied words.now leads.now counts.old
-        (row_count words.now) }
+    requires { (length rows.now ≤ max_cells) × ((g : ℕ) → get_or counts.old g 0 ≡ 0) }
+    ensures is { result ≡ below (length rows.now) (is_placed_entry rows.now (next_in channels.now)
+        entries.now places.now k) }
+    ensures led { result ≡ true → counts.new ≡ tallied rows.now places.now counts.old
+        (length rows.now) }
 {
-    let n = words.len() / ROW;
-    let mut i = 0;
-    while i < n {
-        if is_placed(words, nexts, entries, ranks, leads, k, i) {
-            let r = rows::whole_row(words, i);
-            count_row(counts, r, place_at(leads, i));
-            i += 1;
-        } else {
+    for (i, r) in rows.iter().enumerate() {
+        if !is_placed(rows, channels, entries, places, k, i) {
+            return false;
+        }
+        count_row(counts, r, place_at(places, i).lead as usize);
+    }
+    true
+}
+
+// Is the row's message whole or not, as it must be, where it has so many cells?
+#[tactic(auto, unfolding(crate::specs::Sorted::due_cell, rows::specs::Rows::cell_of))]
+fn is_due_row(r: &Row, mates: u32) -> bool
+    ensures { result ≡ due_cell (cell_of r.now) mates }
+{
+    r.used == cells::UNUSED || is_due(r.used == cells::OPEN, mates == r.count)
+}
+
+fn all_due(rows: &[Row], places: &[Place], counts: &[u32]) -> bool
+    ensures { result ≡ below (length rows.now) (is_due rows.now places.now counts.now) }
+{
+    for (i, r) in rows.iter().enumerate() {
+        let lead = place_at(places, i).lead as usize;
+        if !is_due_row(r, counts.get(lead).copied().unwrap_or(0)) {
             return false;
         }
     }
     true
 }
 
-fn is_due_at(words: &[u32], leads: &[u32], counts: &[u32], i: usize) -> bool
-    ensures { result ≡ is_due words.now leads.now counts.now i }
-{
-    let r = rows::whole_row(words, i);
-    if r.used == cells::UNUSED {
-        return true;
-    }
-    let mates = place_at(counts, place_at(leads, i));
-    is_due(r.used == cells::OPEN, mates == r.count as usize)
-}
-
-fn all_due(words: &[u32], leads: &[u32], counts: &[u32]) -> bool
-    ensures { result ≡ below (row_count words.now) (is_due words.now leads.now counts.now) }
-{
-    let n = words.len() / ROW;
-    let mut i = 0;
-    while i < n {
-        if is_due_at(words, leads, counts, i) {
-            i += 1;
-        } else {
-            return false;
-        }
-    }
-    true
-}
-
-// Do the entries pass all tests? Only then is the answer known from them.
+// Do the entries, which ascend up to place k, pass all tests? Only then is the answer known from them.
 fn certified(
-    words: &[u32],
-    nexts: &[u32],
+    rows: &[Row],
+    channels: &[Channel],
     entries: &[u64],
-    ranks: &[u32],
-    leads: &[u32],
-    p: Prepared,
+    places: &[Place],
+    k: usize,
     counts: &mut [u32],
 ) -> bool
-    requires { (p.rise ≡ all_rise entries.now p.count) × (row_count words.now ≤ max_cells)
+    requires { (all_rise entries.now k ≡ true) × (length rows.now ≤ max_cells)
         × ((g : ℕ) → get_or counts.old g 0 ≡ 0) }
-    ensures { result ≡ true → sound_cells (cells_in words.now) (next_at nexts.now) ≡ true }
+    ensures { result ≡ true → sound_cells (cells_in rows.now) (next_in channels.now) ≡ true }
 {
-    let k = p.count;
     if counts.len() < k {
         return false;
     }
-    if p.rise {} else {
-        return false;
-    }
-    if all_placed(words, nexts, entries, ranks, leads, k, counts) {
-        return all_due(words, leads, counts);
-    }
-    false
+    all_placed(rows, channels, entries, places, k, counts) && all_due(rows, places, counts)
 }
 
-// A call refuses more than 4,096 cells before it asks this.
-fn by_sorted(
-    words: &[u32],
-    nexts: &[u32],
-    entries: &mut [u64],
-    ranks: &mut [u32],
-    leads: &mut [u32],
-    counts: &mut [u32],
-) -> bool
-    requires { (1 ≤ length entries.old) × ((g : ℕ) → get_or counts.old g 0 ≡ 0) }
-    ensures { result ≡ sound_cells (cells_in words.now) (next_at nexts.now) }
+// With lists of N. A call refuses more than 4,096 cells before it asks this.
+fn by_lists<const N: usize>(rows: &[Row], channels: &[Channel]) -> bool
+    requires { (1 ≤ N) × (N ≤ 65536) }
+    ensures { result ≡ sound_cells (cells_in rows.now) (next_in channels.now) }
 {
-    if base::MAX_CELLS < words.len() / ROW {
-        return by_pairs(words, nexts);
+    if base::MAX_CELLS < rows.len() {
+        return by_pairs(rows, channels);
     }
-    let p = prepare(words, entries, ranks, leads);
-    if certified(words, nexts, entries, ranks, leads, p, counts) {
+    let mut entries = [0u64; N];
+    let mut places = [Place::default(); N];
+    let mut counts = [0u32; N];
+    if let Some(k) = prepare(rows, &mut entries, &mut places)
+        && certified(rows, channels, &entries, &places, k, &mut counts)
+    {
         return true;
     }
-    by_pairs(words, nexts)
-}
-
-fn by_small(words: &[u32], nexts: &[u32]) -> bool
-    ensures { result ≡ sound_cells (cells_in words.now) (next_at nexts.now) }
-{
-    let mut entries = [0u64; SMALL + 1];
-    let mut ranks = [0u32; SMALL];
-    let mut leads = [0u32; SMALL];
-    let mut counts = [0u32; SMALL];
-    by_sorted(
-        words,
-        nexts,
-        &mut entries,
-        &mut ranks,
-        &mut leads,
-        &mut counts,
-    )
-}
-
-fn by_few(words: &[u32], nexts: &[u32]) -> bool
-    ensures { result ≡ sound_cells (cells_in words.now) (next_at nexts.now) }
-{
-    let mut entries = [0u64; FEW + 1];
-    let mut ranks = [0u32; FEW];
-    let mut leads = [0u32; FEW];
-    let mut counts = [0u32; FEW];
-    by_sorted(
-        words,
-        nexts,
-        &mut entries,
-        &mut ranks,
-        &mut leads,
-        &mut counts,
-    )
-}
-
-fn by_some(words: &[u32], nexts: &[u32]) -> bool
-    ensures { result ≡ sound_cells (cells_in words.now) (next_at nexts.now) }
-{
-    let mut entries = [0u64; SOME + 1];
-    let mut ranks = [0u32; SOME];
-    let mut leads = [0u32; SOME];
-    let mut counts = [0u32; SOME];
-    by_sorted(
-        words,
-        nexts,
-        &mut entries,
-        &mut ranks,
-        &mut leads,
-        &mut counts,
-    )
-}
-
-fn by_many(words: &[u32], nexts: &[u32]) -> bool
-    ensures { result ≡ sound_cells (cells_in words.now) (next_at nexts.now) }
-{
-    let mut entries = [0u64; base::MAX_CELLS + 1];
-    let mut ranks = [0u32; base::MAX_CELLS];
-    let mut leads = [0u32; base::MAX_CELLS];
-    let mut counts = [0u32; base::MAX_CELLS];
-    by_sorted(
-        words,
-        nexts,
-        &mut entries,
-        &mut ranks,
-        &mut leads,
-        &mut counts,
-    )
+    by_pairs(rows, channels)
 }
 
 // The same answer as that of the test by pairs, with lists for so many rows or more.
-fn by_entries(words: &[u32], nexts: &[u32], room: usize) -> bool
-    ensures { result ≡ sound_cells (cells_in words.now) (next_at nexts.now) }
+fn by_entries(rows: &[Row], channels: &[Channel], room: usize) -> bool
+    ensures { result ≡ sound_cells (cells_in rows.now) (next_in channels.now) }
 {
     if room <= FEW {
-        return by_few(words, nexts);
+        return by_lists::<FEW_ENTRIES>(rows, channels);
     }
     if room <= SOME {
-        return by_some(words, nexts);
+        return by_lists::<SOME_ENTRIES>(rows, channels);
     }
-    by_many(words, nexts)
+    by_lists::<MOST_ENTRIES>(rows, channels)
 }

@@ -1,10 +1,6 @@
 use borrow.Author.Rules.{rules}
-use Rattle.base.proofs.Runs.{left-all}
 use Rattle.window.proofs.ByWords.{lowest-put, all-put}
 use Rattle.window.proofs.words.put_ones.Goals as goal
-
-pub loop-x-init : goal.loop-x-init
-loop-x-init c = search (rules, left-all)
 
 pub loop-x-preserved : goal.loop-x-preserved
 loop-x-preserved c = search (rules, lowest-put)

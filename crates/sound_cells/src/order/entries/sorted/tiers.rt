@@ -2,39 +2,40 @@
 ghost use Rattle.std.specs.Prelude.{◌≡◌};
 ghost use Rattle.cells.specs.Sound.{sound_cells};
 ghost use Rattle.rows.specs.Rows.{cells_in};
-ghost use Rattle.receiver.specs.Parts.{next_at};
+ghost use Rattle.receiver.specs.Queue.{next_in};
 
 use super::super::super::super::{PAIRS, SMALL, SOME, by_pairs};
 use super::super::super::by_order;
-use super::{by_entries, by_small};
-use rows::ROW;
+use super::{SMALL_ENTRIES, by_entries, by_lists};
+use receiver::Channel;
+use rows::Row;
 
 // By sorted entries, or by each two where the rows are few.
-fn by_lists(words: &[u32], nexts: &[u32]) -> bool
-    ensures { result ≡ sound_cells (cells_in words.now) (next_at nexts.now) }
+fn by_size(rows: &[Row], channels: &[Channel]) -> bool
+    ensures { result ≡ sound_cells (cells_in rows.now) (next_in channels.now) }
 {
-    let n = words.len() / ROW;
+    let n = rows.len();
     if n <= PAIRS {
-        return by_pairs(words, nexts);
+        return by_pairs(rows, channels);
     }
     if n <= SMALL {
-        return by_small(words, nexts);
+        return by_lists::<SMALL_ENTRIES>(rows, channels);
     }
     // Two calls, with different numbers: LLVM inlines a function that is called once, and every call would then have its large lists on the
     // stack.
     if n <= SOME {
-        return by_entries(words, nexts, n);
+        return by_entries(rows, channels, n);
     }
-    by_entries(words, nexts, words.len())
+    by_entries(rows, channels, n.max(base::MAX_CELLS))
 }
 
 // Are the cells' records sound beside these channels' next order numbers? The order of the rows tells it soonest, then sorted entries of
 // them. For these the slices are made anew: LLVM then keeps no copy of them in memory on the common path.
-pub fn sound_cells(words: &[u32], nexts: &[u32]) -> bool
-    ensures { result ≡ sound_cells (cells_in words.now) (next_at nexts.now) }
+pub fn sound_cells(rows: &[Row], channels: &[Channel]) -> bool
+    ensures { result ≡ sound_cells (cells_in rows.now) (next_in channels.now) }
 {
-    if by_order(words, nexts) {
+    if by_order(rows, channels) {
         return true;
     }
-    by_lists(&words[0..], &nexts[0..])
+    by_size(&rows[0..], &channels[0..])
 }

@@ -1,13 +1,12 @@
 use mathlib.Core.Path.{◌≡◌}
 use mathlib.Core.Bool.{true}
-use Prim.Native.Nat.{◌≤◌, ◌-◌}
 use Rattle.base.specs.Lists.{below}
-use Rattle.receiver.specs.Parts.{next_at}
+use Rattle.receiver.specs.Queue.{next_in}
 use Rattle.sound_cells.specs.Sorted.{is_placed_entry, tallied}
 use Rattle.sound_cells.proofs.order.entries.sorted.all_placed.Given as goal
 
 abbrev pub invariant-loop-i : goal.invariant-loop-i
-invariant-loop-i l = (l.i ≤ l.n) × (true ≡ below l.i (is_placed_entry l.words (next_at l.nexts) l.entries l.ranks l.leads l.k)) × (l.counts ≡ tallied l.words l.leads l.initial.counts l.i)
-
-abbrev pub decreases-loop-i : goal.decreases-loop-i
-decreases-loop-i l = l.n - l.i
+invariant-loop-i l = record {
+  all : true ≡ below l.i (is_placed_entry l.rows (next_in l.channels) l.entries l.places l.k);
+  led : l.counts ≡ tallied l.rows l.places l.initial.counts l.i;
+}

@@ -1,14 +1,8 @@
 use Rattle.sound_cells.proofs.EntryCases.{told-true, told-anew}
 use Rattle.sound_cells.proofs.order.entries.sorted.tiers.sound_cells.Goals as goal
 
-pub by_order-requires : goal.by_order-requires
-by_order-requires c = tt
-
 pub returns-then-by_order : goal.returns-then-by_order
 returns-then-by_order c = told-true c.by_order.ensures c.if-by_order.true
 
-pub by_lists-requires : goal.by_lists-requires
-by_lists-requires c = tt
-
 pub returns : goal.returns
-returns c = told-anew _ _ c.by_lists.ensures
+returns c = told-anew _ _ c.by_size.ensures
