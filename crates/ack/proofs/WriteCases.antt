@@ -90,6 +90,8 @@ module _ (nack : Bool) (l : List ℕ) (a : Bool) (f : a ≡ too_large l) (g : a 
   unfolding written_of list_bytes tally_of
   written_is out o q m r = rw e at r.is ∙ fits (length out) nack l _ _ _ _ a f g b i k (rw (tally-size nack l t e) at o)
 
+pub ruleset writes = (too_large_lem, not-ascending, no_room, length-is)
+
 -- the header's bytes, then others
 pub put_all : (nack : Bool) (count : ℕ) (bs l : List ℕ) (id : ℕ) → id ≡ id_of nack → (q : ℕ) (L : List ℕ) → Run 0 (id ∷ []) l q L
     → (r : ℕ) (M : List ℕ) → Run q (be16_bytes count) L r M → (s : ℕ) (N : List ℕ) → Run r bs M s N

@@ -14,7 +14,8 @@ use base::Refusal;
 
 mod runs;
 
-// The bytes that an ACK and a NACK begin with: the wire's numbers, read and written as they are.
+// The bytes that an ACK and a NACK begin with: the wire's numbers, read and written as they are. Which of the two is a bool,
+// as C passes it and the definitions have it: it chooses nothing but this byte, and an enum would be made of it and read back at each call.
 pub const ACK: u8 = 0xc0;
 
 pub const NACK: u8 = 0xa0;
@@ -49,7 +50,8 @@ pub enum Record {
     Range(RangeRecord),
 }
 
-// Where the next record stands, and how many are left.
+// Where the next record stands, and how many are left. No iterator over the records: C holds the cursor between two exported calls, each of
+// which is given it and answers the next.
 #[repr(C)]
 #[derive(Clone, Copy, Debug, Default, PartialEq, Eq)]
 pub struct AckCursor {
@@ -98,16 +100,13 @@ pub fn read_header(s: &[u8]) -> Result<Header, Refusal>
 pub fn read_record(s: &[u8], records: AckCursor) -> Result<Option<Step>, Refusal>
     ensures { answer result ≡ read_record_of s.now records }
 {
-    let AckCursor { at, left } = records;
-    if left == 0 {
+    let Some(left) = records.left.checked_sub(1) else {
         return Ok(None);
-    }
-    if s.len() <= at {
-        return Err(Refusal::Cut);
-    }
-    match s[at] {
-        SINGLE => read_single(s, at, left - 1),
-        RANGE => read_range(s, at, left - 1),
+    };
+    let at = records.at;
+    match *s.get(at).ok_or(Refusal::Cut)? {
+        SINGLE => read_single(s, at, left),
+        RANGE => read_range(s, at, left),
         _ => Err(Refusal::UnknownType),
     }
 }
@@ -152,7 +151,8 @@ fn read_range(s: &[u8], at: usize, left: u32) -> Result<Option<Step>, Refusal>
     }))
 }
 
-// Writes the numbers at the start of the output: 13 and 14 by the numbers alone, 12 before anything is written.
+// Writes the numbers at the start of the output: `TooLarge` and `NotAscending` by the numbers alone, `NoRoom` before anything is written.
+#[tactic(auto, using(crate::proofs::WriteCases::writes), unfolding(crate::specs::Write::write_list_of, crate::specs::Write::written_of))]
 pub fn write_list(out: &mut [u8], nack: bool, numbers: &[u32]) -> Result<usize, Refusal>
     ensures result_value { answer result ≡ write_list_of (length out.old) nack numbers.now }
     ensures out_after { out.new ≡ written_of out.old nack numbers.now }

@@ -11,7 +11,7 @@ use super::{RANGE, RANGE_SIZE, SINGLE, SINGLE_SIZE};
 fn is_next(x: &u32, y: &u32) -> bool
     ensures { result ≡ is_next x.now y.now }
 {
-    0 < *y && *y - 1 == *x
+    x.checked_add(1) == Some(*y)
 }
 
 #[tactic(auto, unfolding(crate::specs::Records::record_size, base::specs::If::if_eq, base::specs::If::if_true))]
@@ -28,7 +28,7 @@ fn record_size(run: &[u32]) -> usize
 }
 
 // How many records there are, and how many bytes they take.
-#[derive(Clone, Copy)]
+#[derive(Clone, Copy, Debug, Default, PartialEq, Eq)]
 pub(crate) struct Tally {
     pub(crate) records: usize,
     pub(crate) bytes: usize,
@@ -39,6 +39,7 @@ pub(crate) fn tally_runs(numbers: &[u32]) -> Tally
     ensures is { result ≡ tally_of (runs numbers.now) }
     ensures small { (result.records ≤ length numbers.now) × (result.bytes ≤ range_size * length numbers.now) }
 {
+    // A loop: a fold would carry the same two numbers, as a pair.
     let mut records = 0;
     let mut bytes = 0;
     for run in numbers.chunk_by(is_next) {
@@ -71,6 +72,7 @@ fn put_record(out: &mut [u8], p: usize, run: &[u32]) -> usize
 pub(crate) fn put_runs(out: &mut [u8], p: usize, numbers: &[u32]) -> usize
     ensures { Run p (records_bytes (runs numbers.now)) out.old result out.new }
 {
+    // A loop: a fold would carry the same place, and lend the output to a closure.
     let mut q = p;
     for run in numbers.chunk_by(is_next) {
         q = put_record(out, q, run);

@@ -1,6 +1,5 @@
 pub mod Ifs
 pub mod Puts
-pub mod Past
 pub mod Digits
 pub mod Choices
 pub mod Lists

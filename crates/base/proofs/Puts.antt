@@ -6,7 +6,6 @@ use mathlib.Core.List.{List, [], ◌∷◌, ◌++◌, append-nil, append_assoc}
 use Prim.Native.Nat.{ℕ, zero, suc, ◌+◌, ◌-◌, ◌<◌, ◌≤◌, min}
 use native.Mathlib.Decide.{dec_le}
 use native.Mathlib.Nat.{add-zero, zero-add, add-suc, suc-add, le_of_suc-le-suc, not-suc-le-zero}
-use native.Mathlib.Numerals.{add-one}
 use native.Mathlib.Omega.{arith}
 use lib.Dec.{ltb}
 use lib.ListN.{length, get_or, set, take, drop, length-set, length-append, length-take, length-drop, take-append-drop}
@@ -20,10 +19,6 @@ use Rattle.base.specs.Put.{put, and_then, after, Run}
 pub put-none : {A : Type 0} (l : List A) (p : ℕ) → put l p [] ≡ l
 unfolding put
 put-none l p = refl
-
-pub put_one : {A : Type 0} (l : List A) (p : ℕ) (b : A) → put l p (b ∷ []) ≡ set l p b
-unfolding put
-put_one l p b = refl
 
 pub length-put : {A : Type 0} (l : List A) (p : ℕ) (bs : List A) → length (put l p bs) ≡ length l
 unfolding put
@@ -146,14 +141,6 @@ run-cons p a bs l q L r M x y = run-then p (a ∷ []) bs l q L r M x y
 -- past the end nothing is stored
 pub run_past : {A : Type 0} (p : ℕ) (bs l : List A) → length l ≤ p → Run p bs l p l
 run_past p bs l h = record { next = sym (after-past (length l) p (length bs) h); is = sym (put-past l p bs h) }
-
--- one element, where there is room and past the end
-pub byte-in : {A : Type 0} (l : List A) (p : ℕ) (b : A) → p < length l → Run p (b ∷ []) l (p + 1) (set l p b)
-unfolding after
-byte-in l p b h = record { next = lt_yes p (length l) (p + 1) (suc p) p h (add-one p); is = sym (put_one l p b) }
-
-pub byte_past : {A : Type 0} (l : List A) (p : ℕ) (b : A) → length l ≤ p → Run p (b ∷ []) l p l
-byte_past l p b h = run_past p (b ∷ []) l h
 
 -- a body, as much of it as there is room for, in place of a part of the list
 module _ {A : Type 0} (p m : ℕ) (body l : List A) (h : p < length l) (e : m ≡ min (length l - p) (length body)) where

@@ -43,13 +43,14 @@ pub const MAX_DATAGRAM: usize = 1500;
 
 pub const MAX_UNSENT: u32 = 1024;
 
-// Reading is total: a byte past the end is 0. (std's form under a name, by which the readers here and above go.)
+// Reading is total: a byte past the end is 0. The readers below, the places of a window and the programs that replay files read by it.
 pub fn byte(s: &[u8], p: usize) -> u8
     ensures { result ≡ get_or s.now p 0 }
 {
     s.get(p).copied().unwrap_or(0)
 }
 
+// No generic reader of N bytes: it would have to ask at each byte whether the place wraps, and `le24_at` would still add its 0.
 // p may be any number: only where it is in the slice does the place after it surely not wrap, and past the end all is 0.
 #[tactic(auto, unfolding(crate::specs::Bytes::be16))]
 pub fn be16_at(s: &[u8], p: usize) -> u16
@@ -61,12 +62,12 @@ pub fn be16_at(s: &[u8], p: usize) -> u16
     0
 }
 
-#[tactic(auto, using(crate::proofs::Past::past32), unfolding(crate::specs::Bytes::be32))]
+#[tactic(auto, unfolding(crate::specs::Bytes::be32, crate::specs::Bytes::be16))]
 pub fn be32_at(s: &[u8], p: usize) -> u32
     ensures { result ≡ be32 s.now p }
 {
     if p < s.len() {
-        return u32::from(be16_at(s, p)) * 65536 + u32::from(be16_at(s, p + 2));
+        return u32::from_be_bytes([byte(s, p), byte(s, p + 1), byte(s, p + 2), byte(s, p + 3)]);
     }
     0
 }
@@ -81,7 +82,9 @@ pub fn le24_at(s: &[u8], p: usize) -> u32
     0
 }
 
-// Each writer stores its elements from place p on, as far as the slice goes, and returns the place after them.
+// Each writer stores its elements from place p on, as far as the slice goes, and returns the place after them. No struct holds both: one
+// that borrows `out` would have to promise at each method that its borrow is the one that came in, and no call would be plainer.
+// Its copies are std's: a loop copies a body of 1,400 bytes in less (3 to 6 % of a datagram's time), but a small frame 3 to 14 ns slower.
 pub fn put_all<T: Copy>(out: &mut [T], p: usize, xs: &[T]) -> usize
     ensures { Run p xs.now out.old result out.new }
 {
@@ -98,6 +101,7 @@ pub fn put_all<T: Copy>(out: &mut [T], p: usize, xs: &[T]) -> usize
     p + room
 }
 
+#[tactic(auto, unfolding(crate::specs::Put::put, crate::specs::Put::after, crate::specs::If::if_lt, crate::specs::If::if_true))]
 pub fn put<T: Copy>(out: &mut [T], p: usize, x: T) -> usize
     ensures { Run p (x ∷ []) out.old result out.new }
 {
@@ -108,7 +112,8 @@ pub fn put<T: Copy>(out: &mut [T], p: usize, x: T) -> usize
     p
 }
 
-// Two or three bytes go one by one: as a slice for `put_all` they are copied by a call, and a list takes up to three times as long.
+// Two or three bytes go one by one: as a slice for `put_all` they are copied by a call, and an ACK, which is made of them, takes up to
+// three times as long. (A frame has three such numbers at most, and `frame_write` puts them by `put_all`.)
 pub fn put16(out: &mut [u8], p: usize, x: u32) -> usize
     ensures { Run p (be16_bytes x) out.old result out.new }
 {

@@ -23,7 +23,7 @@ const BUFFER: usize = 65535;
 
 // ---- the input
 
-#[derive(Clone, Copy)]
+#[derive(Clone, Copy, Debug, PartialEq, Eq)]
 enum Call {
     Receive,
     Take,
@@ -79,24 +79,12 @@ fn received_values(r: Received) -> [u64; 3] {
 }
 
 fn taken_values(taken: Taken, body: &[u8]) -> [u64; 5] {
-    let (Taken::InStore {
-        kind,
-        channel,
-        order,
-        ..
-    }
-    | Taken::Joined {
-        kind,
-        channel,
-        order,
-        ..
-    }) = taken;
     [
         body.len() as u64,
         replay::sum(body),
-        u64::from(kind),
-        u64::from(channel),
-        u64::from(order),
+        u64::from(taken.kind),
+        u64::from(taken.channel),
+        u64::from(taken.order),
     ]
 }
 

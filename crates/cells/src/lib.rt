@@ -17,7 +17,7 @@ pub const RELEASED: u32 = 4;
 
 // One record stands beside each cell; all its numbers have one width. Other languages lay it out in memory, and lend it.
 #[repr(C)]
-#[derive(Clone, Copy)]
+#[derive(Clone, Copy, Debug, Default, PartialEq, Eq)]
 pub struct CellRecord {
     pub used: u32,
     pub kind: u32,

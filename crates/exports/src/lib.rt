@@ -12,7 +12,7 @@ ghost use Rattle.window.specs.Missing as Missing;
 ghost use Rattle.ack.specs.Read.{read_header_of, read_record_of};
 ghost use Rattle.ack.specs.Write.{write_list_of, written_of};
 ghost use Rattle.split.specs.Split.{split_piece_of};
-ghost use Rattle.exports.specs.Numbers.{insert_told, ack_told, header_told, found_told, record_told, piece_told};
+ghost use Rattle.exports.specs.Numbers.{number_of, insert_told, ack_told, header_told, found_told, record_told, piece_told};
 
 use ack::{AckCursor, Header, Record, Step};
 use base::Refusal;
@@ -20,8 +20,10 @@ use split::Fragment;
 use window::ReliableWindow;
 
 // In this struct and those below C lays out a number, 0 or the refusal's, beside the values: so they are no `Result` and no `Option`.
+// Where a call answers a `Result`, a `From` makes the struct. Its `Err` arm, the number and the default, stands in each: a trait for that
+// arm would need an impl for each as well.
 #[repr(C)]
-#[derive(Clone, Copy)]
+#[derive(Clone, Copy, Debug, PartialEq, Eq)]
 pub struct WindowInsert {
     pub number: u32,
     pub window: ReliableWindow,
@@ -29,7 +31,7 @@ pub struct WindowInsert {
 
 // How many bytes were written.
 #[repr(C)]
-#[derive(Clone, Copy, Default)]
+#[derive(Clone, Copy, Debug, Default, PartialEq, Eq)]
 pub struct AckWritten {
     pub number: u32,
     pub len: usize,
@@ -51,7 +53,7 @@ impl From<Result<usize, Refusal>> for AckWritten {
 
 // The cursor stands at the first record.
 #[repr(C)]
-#[derive(Clone, Copy, Default)]
+#[derive(Clone, Copy, Debug, Default, PartialEq, Eq)]
 pub struct AckHeaderFound {
     pub number: u32,
     pub nack: bool,
@@ -78,7 +80,7 @@ impl From<Result<Header, Refusal>> for AckHeaderFound {
 
 // A record and the cursor after it; nothing is found where no record is left. A Single's number is first and last.
 #[repr(C)]
-#[derive(Clone, Copy, Default)]
+#[derive(Clone, Copy, Debug, Default, PartialEq, Eq)]
 pub struct AckRecordFound {
     pub number: u32,
     pub found: bool,
@@ -125,7 +127,7 @@ impl From<Result<Option<Step>, Refusal>> for AckRecordFound {
 
 // The piece's bytes are those from `start` on, `len` of them.
 #[repr(C)]
-#[derive(Clone, Copy, Default)]
+#[derive(Clone, Copy, Debug, Default, PartialEq, Eq)]
 pub struct SplitPiece {
     pub number: u32,
     pub start: usize,
@@ -161,6 +163,13 @@ impl From<Result<Fragment, Refusal>> for SplitPiece {
     }
 }
 
+// What a call answers that gives no values: for C, a number alone.
+pub fn number_of(r: Result<(), Refusal>) -> u32
+    ensures { result ≡ number_of (answer r) }
+{
+    r.err().map_or(0, u32::from)
+}
+
 pub fn poghduka_window_new() -> ReliableWindow
     ensures { result ≡ new_window }
 {
@@ -170,7 +179,7 @@ pub fn poghduka_window_new() -> ReliableWindow
 pub fn poghduka_window_insert(mut w: ReliableWindow, n: u32) -> WindowInsert
     ensures { result ≡ insert_told (insert_of w n) }
 {
-    let number = w.insert(n).err().map_or(0, u32::from);
+    let number = number_of(w.insert(n));
     WindowInsert { number, window: w }
 }
 

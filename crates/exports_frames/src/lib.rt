@@ -23,7 +23,7 @@ use reliability::Profile;
 
 // The frame and where its body stands, and the place after it. As in `exports`, C lays out a number beside the values, and no `Result`.
 #[repr(C)]
-#[derive(Clone, Copy, Default)]
+#[derive(Clone, Copy, Debug, Default, PartialEq, Eq)]
 pub struct FrameFound {
     pub number: u32,
     pub placed: Placed,
@@ -50,7 +50,7 @@ impl From<Result<(Placed, usize), Refusal>> for FrameFound {
 
 // How many frames there are, and the bytes left from the first that does not fit.
 #[repr(C)]
-#[derive(Clone, Copy, Default)]
+#[derive(Clone, Copy, Debug, Default, PartialEq, Eq)]
 pub struct FramesFound {
     pub number: u32,
     pub count: usize,
@@ -77,7 +77,7 @@ impl From<Result<FramesRead, Refusal>> for FramesFound {
 
 // The place after the frame.
 #[repr(C)]
-#[derive(Clone, Copy, Default)]
+#[derive(Clone, Copy, Debug, Default, PartialEq, Eq)]
 pub struct FrameWritten {
     pub number: u32,
     pub next: usize,
@@ -101,23 +101,20 @@ impl From<Result<usize, Refusal>> for FrameWritten {
 pub fn poghduka_read_frames(profile: u32, s: &[u8], at: usize) -> FramesFound
     ensures { result ≡ frames_told (under_profile profile (gives (read_frames_of (profile_of profile) s.now at))) }
 {
-    match Profile::try_from(profile) {
-        Ok(p) => FramesFound::from(Ok(frame::read_frames(p, s, at))),
-        Err(e) => FramesFound::from(Err(e)),
-    }
+    let read = |p| frame::read_frames(p, s, at);
+    Profile::try_from(profile).map(read).into()
 }
 
 // The frame at place `at`.
 pub fn poghduka_read_frame(profile: u32, s: &[u8], at: usize) -> FrameFound
     ensures { result ≡ frame_told (under_profile profile (read_frame_of (profile_of profile) s.now at)) }
 {
-    match Profile::try_from(profile) {
-        Ok(p) => frame::read_frame(p, s, at).into(),
-        Err(e) => FrameFound::from(Err(e)),
-    }
+    let read = |p| frame::read_frame(p, s, at);
+    Profile::try_from(profile).and_then(read).into()
 }
 
-// Writes the frame into the output from place `at` on.
+// Writes the frame into the output from place `at` on. (A `match`: of a closure that borrows the output a proof does not learn that, where
+// it is not called, the output is as it was.)
 pub fn poghduka_write_frame(
     profile: u32,
     out: &mut [u8],
@@ -141,6 +138,5 @@ pub fn poghduka_write_head(out: &mut [u8], number: u32) -> u32
     ensures value { result ≡ number_of (write_head_of (length out.old) number) }
     ensures out_after { out.new ≡ head_written_of out.old number }
 {
-    let written = frame_write::write_head(out, number);
-    written.err().map_or(0, u32::from)
+    exports::number_of(frame_write::write_head(out, number))
 }

@@ -18,6 +18,7 @@ use recv_answers::{QueueReceived, QueueTaken};
 use recv_queue::{CellRecord, Profile, RecvQueue};
 
 // Make new, for the profile of a number.
+#[tactic(auto, using(crate::proofs::Numbered::ways), unfolding(recv_new::specs::New::made_new))]
 fn make_numbered(
     queue: &mut RecvQueue,
     records: &mut [CellRecord],
@@ -31,6 +32,7 @@ fn make_numbered(
     recv_queue::make_new(queue, records, store, p)
 }
 
+#[tactic(auto, unfolding(recv_new::specs::New::made_new, crate::specs::Receiver::new_numbers_of))]
 #[unsafe(no_mangle)]
 pub extern "C" fn poghduka_make_new(
     queue: &mut RecvQueue,
@@ -44,6 +46,7 @@ pub extern "C" fn poghduka_make_new(
     recv_answers::new_number(make_numbered(queue, records, store, profile))
 }
 
+#[tactic(auto, unfolding(recv_queue::specs::Answers::received, crate::specs::Receiver::receive_numbers_of))]
 #[unsafe(no_mangle)]
 pub extern "C" fn poghduka_receive(
     queue: &mut RecvQueue,
@@ -57,6 +60,7 @@ pub extern "C" fn poghduka_receive(
     recv_queue::receive(queue, records, store, datagram).into()
 }
 
+#[tactic(auto, unfolding(recv_take::specs::Outcome::take_result, crate::specs::Receiver::take_numbers_of))]
 #[unsafe(no_mangle)]
 pub extern "C" fn poghduka_take(
     queue: &RecvQueue,
@@ -70,6 +74,7 @@ pub extern "C" fn poghduka_take(
     recv_queue::take(queue, records, store, joined).into()
 }
 
+#[tactic(auto, unfolding(recv_acks::specs::Wrote::wrote, crate::specs::Receiver::write_numbers_of))]
 #[unsafe(no_mangle)]
 pub extern "C" fn poghduka_write_unsent(queue: &mut RecvQueue, out: &mut [u8]) -> AckWritten
     ensures { write_numbers result queue.new out.new
@@ -78,6 +83,7 @@ pub extern "C" fn poghduka_write_unsent(queue: &mut RecvQueue, out: &mut [u8]) -
     recv_queue::write_unsent(queue, out).into()
 }
 
+#[tactic(auto, unfolding(recv_acks::specs::Wrote::wrote, crate::specs::Receiver::write_numbers_of))]
 #[unsafe(no_mangle)]
 pub extern "C" fn poghduka_write_missing(queue: &RecvQueue, out: &mut [u8]) -> AckWritten
     ensures { write_numbers result queue.now out.new

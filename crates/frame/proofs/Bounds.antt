@@ -1,18 +1,17 @@
 -- How large the values of a frame that was read can be.
 -- Assumes nothing.
-use mathlib.Core.Path.{◌≡◌, refl}
+use mathlib.Core.Path.{◌≡◌}
 use mathlib.Core.Bool.{Bool, true, false}
 use mathlib.Core.List.{List}
 use Prim.Native.Nat.{ℕ, ◌+◌, ◌^◌, ◌<◌, ◌≤◌}
-use native.Mathlib.Decide.{ℕ_discrete}
 use native.Mathlib.Omega.{arith}
 use lib.ListN.{get_or}
 use Rattle.base.specs.Answer.{gives}
 use Rattle.base.specs.Bytes.{be16, be32, le24, Bytes}
-use Rattle.base.specs.If.{if_true, if_eq}
+use Rattle.base.specs.If.{if_true}
 use Rattle.base.specs.Limits.{numbers24}
-use Rattle.base.proofs.Ifs.{eq_yes, eq_no}
-use Rattle.reliability.specs.Kinds.{fields_of}
+use Rattle.std.specs.Prelude.{Option, Some, None}
+use Rattle.reliability.specs.Kinds.{fields_of, on_place}
 use Rattle.reliability.specs.declared.Profile.{Profile}
 use Rattle.reliability.specs.declared.Profile.TheVariants.{Console, Cpp}
 use Rattle.frame.specs.declared.FragmentMeta.{FragmentMeta}
@@ -51,12 +50,9 @@ pub record FrameSmall (f : Frame) : Type 0 where
   pub channel : f.channel < 2 ^ 8
   pub meta : MetaSmall f.meta
 
-field-small : (limit off v : ℕ) → 0 < limit → v < limit → if_eq off 0 0 v < limit
-field-small limit off v z h = go (ℕ_discrete off 0)
-  where
-    go : Dec (off ≡ 0) → if_eq off 0 0 v < limit
-    go (yes e) = rw (← eq_yes off 0 0 0 v e refl) z
-    go (no n) = rw (← eq_no off 0 v 0 v n refl) h
+field-small : (limit : ℕ) (off : Option ℕ) (f : ℕ → ℕ) → 0 < limit → ((n : ℕ) → f n < limit) → on_place off 0 f < limit
+field-small limit None f z h = z
+field-small limit (Some n) f z h = h n
 
 module _ (s : List ℕ) (by : Bytes s) where
   meta-small : (b : Bool) (p : ℕ) → MetaSmall (meta_at b s p)
@@ -64,8 +60,8 @@ module _ (s : List ℕ) (by : Bytes s) where
   meta-small true p = record { count = be32-small s by p; id = be16-small s by (p + 4); index = be32-small s by (p + 6) }
   meta-small false p = record { count = omega arith; id = omega arith; index = omega arith }
 
-  number_small : (at off : ℕ) → number_at s at off < numbers24
-  number_small at off = field-small numbers24 off (le24 s (at + off)) (omega arith) (le24-small s by (at + off))
+  number_small : (at : ℕ) (off : Option ℕ) → number_at s at off < numbers24
+  number_small at off = field-small numbers24 off _ (omega arith) (λ n. le24-small s by (at + n))
 
 -- a body's bytes, under either profile
 pub body-small : (p : Profile) (bits : ℕ) → bits < 65536 → body_length p bits ≤ longest_body
@@ -83,7 +79,7 @@ module _ (p : Profile) (s : List ℕ) (by : Bytes s) where
         reliable = number_small s by at k.reliable;
         sequence = number_small s by at k.sequence;
         order = number_small s by at k.order;
-        channel = field-small 256 k.channel (get_or s (at + k.channel) 0) (omega arith) (by (at + k.channel));
+        channel = field-small 256 k.channel _ (omega arith) (λ n. by (at + n));
         meta = meta-small s by (is_piece (get_or s at 0)) (at + k.header);
       }
 

@@ -4,19 +4,19 @@ use mathlib.Core.Path.{◌≡◌, ◌∙◌, sym, ap, refl}
 use mathlib.Core.Bool.{Bool, true, false}
 use mathlib.Core.List.{List}
 use Prim.Native.Nat.{ℕ, ◌+◌, ◌-◌, ◌<◌, ◌≤◌}
-use native.Mathlib.Decide.{ℕ_discrete, dec_lt}
+use native.Mathlib.Decide.{dec_lt}
 use native.Mathlib.Omega.{arith}
 use lib.ListN.{length, get_or}
-use Rattle.std.specs.Prelude.{Option, Some, None}
+use Rattle.std.specs.Prelude.{Option, Some, None, MatchOption}
 use Rattle.std.proofs.lemmas.Option.{none-some}
 use Rattle.base.specs.Answer.{refused, gives}
 use Rattle.base.specs.Refusals.{number_of}
 use Rattle.base.specs.declared.refusal.Refusal.{Refusal}
 use Rattle.base.specs.declared.refusal.Refusal.TheVariants.{Cut}
-use Rattle.base.specs.Bytes.{be16}
-use Rattle.base.specs.If.{if_true, if_eq}
-use Rattle.base.proofs.Ifs.{true-yes, true-no, lt_yes, lt_no, eq_yes, eq_no}
-use Rattle.reliability.specs.Kinds.{fields_of}
+use Rattle.base.specs.Bytes.{be16, le24}
+use Rattle.base.specs.If.{if_true}
+use Rattle.base.proofs.Ifs.{true-yes, true-no, lt_yes, lt_no}
+use Rattle.reliability.specs.Kinds.{fields_of, on_place}
 use Rattle.reliability.specs.declared.KindFields.{KindFields}
 use Rattle.reliability.specs.declared.Profile.{Profile}
 use Rattle.reliability.proofs.Laws.{Inside}
@@ -123,8 +123,11 @@ module _ (p : Profile) (s : List ℕ) (at : ℕ) (r : Option Span) (e : r ≡ sp
             }
 
     -- Where the frame fits, so does its header.
-    pub header-in : (at < length s) × ((placed_at p s at).start ≤ length s)
-    header-in = let w = one-spanned in (omega arith, omega arith)
+    pub flags-in : at < length s
+    flags-in = let w = one-spanned in omega arith
+
+    pub header-in : (placed_at p s at).start ≤ length s
+    header-in = let w = one-spanned in omega arith
 
     pub body-after : x.start ≤ x.next
     body-after = let w = one-spanned in omega arith
@@ -140,13 +143,18 @@ module _ (p : Profile) (s : List ℕ) (at : ℕ) (r : Option Span) (e : r ≡ sp
         rw v (sym w.gives)
 
 -- ---- the fields of a header that fits
+-- the number, and the channel, at place n of a header
+abbrev pub number_in : List ℕ → ℕ → ℕ → ℕ
+number_in s at n = le24 s (at + n)
+
+abbrev pub channel_in : List ℕ → ℕ → ℕ → ℕ
+channel_in s at n = get_or s (at + n) 0
+
 -- 0 where the kind lacks it, else what was read
-pub carried : (off r v : ℕ) → (off ≡ 0 → r ≡ 0) → ((off ≡ 0 → ⊥) → r ≡ v) → r ≡ if_eq off 0 0 v
-carried off r v lacks has = go (ℕ_discrete off 0)
-  where
-    go : Dec (off ≡ 0) → r ≡ if_eq off 0 0 v
-    go (yes e) = eq_yes _ _ _ _ _ e (lacks e)
-    go (no n) = eq_no _ _ _ _ _ n (has n)
+pub carried : (off : Option ℕ) (r : ℕ) (f : ℕ → ℕ) (Q : ℕ → Type 0) → MatchOption off (r ≡ 0) Q
+    → ((n : ℕ) → off ≡ Some n → Q n → r ≡ f n) → r ≡ on_place off 0 f
+carried None r f Q e h = e
+carried (Some n) r f Q e h = h n refl e
 
 module _ (p : Profile) (s : List ℕ) (at : ℕ) (h : (placed_at p s at).start ≤ length s) (k : KindFields)
     (e : k ≡ fields_of p (kind_of (get_or s at 0))) where
@@ -157,17 +165,17 @@ module _ (p : Profile) (s : List ℕ) (at : ℕ) (h : (placed_at p s at).start �
   row_fits : Inside k × (at + k.header ≤ length s)
   row_fits = (rw e (row_inside p _), omega (arith, header-fits, header-least (is_piece (get_or s at 0)) k.header))
 
-  pub reliable-in : at + k.reliable + 3 ≤ length s
-  reliable-in = let r = row_fits in omega arith
+  pub reliable-in : (n : ℕ) → k.reliable ≡ Some n → at + n + 3 ≤ length s
+  reliable-in n i = let r = row_fits in let a : n + 3 ≤ k.header = rw i at r.0.reliable in omega arith
 
-  pub sequence-in : at + k.sequence + 3 ≤ length s
-  sequence-in = let r = row_fits in omega arith
+  pub sequence-in : (n : ℕ) → k.sequence ≡ Some n → at + n + 3 ≤ length s
+  sequence-in n i = let r = row_fits in let a : n + 3 ≤ k.header = rw i at r.0.sequence in omega arith
 
-  pub order-in : at + k.order + 3 ≤ length s
-  order-in = let r = row_fits in omega arith
+  pub order-in : (n : ℕ) → k.order ≡ Some n → at + n + 3 ≤ length s
+  order-in n i = let r = row_fits in let a : n + 3 ≤ k.header = rw i at r.0.order in omega arith
 
-  pub channel-in : at + k.channel < length s
-  channel-in = let r = row_fits in omega arith
+  pub channel-in : (n : ℕ) → k.channel ≡ Some n → at + n < length s
+  channel-in n i = let r = row_fits in let a : n < k.header = rw i at r.0.channel in omega arith
 
   pub meta-in : is_piece (get_or s at 0) ≡ true → at + k.header + meta_size ≤ length s
   unfolding if_true
@@ -199,3 +207,8 @@ module _ (p : Profile) (s : List ℕ) (at : ℕ) (h : (placed_at p s at).start �
         piece = is_piece (get_or s at 0);
         meta = em j;
       })
+
+-- what each read of a part asks
+pub ruleset header_parts = (reliable-in, sequence-in, order-in, channel-in, meta-in)
+
+pub ruleset reads = (flags-in, header-in, body-after, none-read, one-read)

@@ -1,11 +1,11 @@
 -- A frame read: document 01, "Bytes", paragraph "Frame", and the call "Read frame"; under a profile (document 02, request 2).
 -- Past the end of the slice a byte reads as 0. No frame that is given depends on it: one that reaches past the end is cut.
-use Rattle.std.specs.Prelude.{ℕ, ◌+◌, ◌/◌, ◌%◌, Bool, List, get_or, length, take, drop, eqb, Option, Some, None}
+use Rattle.std.specs.Prelude.{ℕ, ◌+◌, ◌/◌, ◌%◌, Bool, ◌&&◌, leb, ltb, List, get_or, length, take, drop, eqb, Option, Some, None}
 use Rattle.base.specs.Answer.{Answer, refused, gives}
 use Rattle.base.specs.Bytes.{be16, be32, le24}
-use Rattle.base.specs.If.{if_true, if_lt, if_eq}
-use Rattle.base.specs.Limits.{max_body}
-use Rattle.reliability.specs.Kinds.{fields_of}
+use Rattle.base.specs.If.{if_true, if_lt}
+use Rattle.base.specs.Limits.{max_body, max_frags}
+use Rattle.reliability.specs.Kinds.{fields_of, on_place}
 use Rattle.reliability.specs.declared.KindFields.{KindFields}
 use Rattle.reliability.specs.declared.Profile.{Profile}
 use Rattle.reliability.specs.declared.Profile.TheVariants.{Console, Cpp}
@@ -26,18 +26,22 @@ kind_of flags = flags / 32
 abbrev pub is_piece : ℕ → Bool
 is_piece flags = eqb (flags / 16 % 2) 1
 
--- "reliable, sequence and order number, 24 bits little-endian each": the one at place off of the header; "uncarried fields are 0"
-abbrev pub number_at : List ℕ → ℕ → ℕ → ℕ
-number_at s at off = if_eq off 0 0 (le24 s (at + off))
+-- "reliable, sequence and order number, 24 bits little-endian each": the one whose place in the header is given; "uncarried fields are 0"
+abbrev pub number_at : List ℕ → ℕ → Option ℕ → ℕ
+number_at s at off = on_place off 0 (λ n. le24 s (at + n))
 
 -- "and channel, one byte"
-abbrev pub channel_at : List ℕ → ℕ → ℕ → ℕ
-channel_at s at off = if_eq off 0 0 (get_or s (at + off) 0)
+abbrev pub channel_at : List ℕ → ℕ → Option ℕ → ℕ
+channel_at s at off = on_place off 0 (λ n. get_or s (at + n) 0)
 
 -- "for a piece count (32), id (16), index (32), big-endian"
 abbrev pub meta_at : Bool → List ℕ → ℕ → FragmentMeta
 meta_at piece s p = if_true piece (record { count = be32 s p; id = be16 s (p + 4); index = be32 s (p + 6) })
     (record { count = 0; id = 0; index = 0 })
+
+-- "piece count 1 to 1,024, index below it"
+abbrev pub piece_in_limits : FragmentMeta → Bool
+piece_in_limits m = leb 1 m.count && leb m.count max_frags && ltb m.index m.count
 
 -- the bytes that these take
 abbrev pub meta_size : ℕ

@@ -11,7 +11,8 @@ pub fn read_frames(p: Profile, s: &[u8], at: usize) -> FramesRead
 {
     let mut place = at;
     let mut count = 0;
-    // A `while`: how far a turn goes is what its frame says.
+    // As an iterator it would be no plainer: the answer is how many frames and where they end, of which a chain tells one, and a `for` over
+    // an iterator by reference, whose field then tells the other, is this loop with a type more.
     while let Some(span) = super::span_at(p, s, place) {
         place = span.next;
         count += 1;

@@ -1,11 +1,11 @@
-// Frames, as document 01's "Bytes" has them, read from a slice under a profile (document 02, 2/13); `frame_write` writes them.
+// Frames, as document 01's "Bytes" has them, read from a slice under a profile of document 02, 2/13; `frame_write` writes them.
 
 #![tactic(auto)]
 
 ghost use Rattle.std.specs.Prelude.{◌≡◌, ◌+◌, ◌<◌, ◌≤◌, length};
 ghost use Rattle.base.specs.Bytes.{be16, be32, le24};
 ghost use Rattle.reliability.specs.Kinds.{fields_of};
-ghost use Rattle.frame.specs.Read.{header_size, body_length, longest_body, span_of};
+ghost use Rattle.frame.specs.Read.{header_size, body_length, longest_body, span_of, piece_in_limits};
 
 use reliability::Profile;
 
@@ -21,6 +21,11 @@ const START_SIZE: usize = 3;
 // The bytes of a piece's count, id and index.
 const META_SIZE: usize = 10;
 
+// What a byte of flags is made of: the kind, in its top three bits, and whether the frame is a piece.
+pub const KIND_UNIT: u8 = 32;
+
+pub const PIECE_UNIT: u8 = 16;
+
 // Where a piece stands in its message. The Rust's field `size` is document 01's count.
 #[repr(C)]
 #[derive(Clone, Copy, Debug, Default, PartialEq, Eq)]
@@ -28,6 +33,15 @@ pub struct FragmentMeta {
     pub count: u32,
     pub id: u16,
     pub index: u32,
+}
+
+impl FragmentMeta {
+    // Is the count 1 to 1,024, and the index below it? (`&`: without a branch for each test.)
+    pub fn is_in_limits(&self) -> bool
+        ensures { result ≡ piece_in_limits self.now }
+    {
+        (1 <= self.count) & (self.count <= base::MAX_FRAGS) & (self.index < self.count)
+    }
 }
 
 // What a frame's header says; a field that the kind, or a frame that is no piece, lacks is 0.
@@ -54,20 +68,21 @@ pub struct Placed {
 }
 
 // How many frames were read, and the bytes left from the first that does not fit.
-#[derive(Clone, Copy, Debug, PartialEq, Eq)]
+#[derive(Clone, Copy, Debug, Default, PartialEq, Eq)]
 pub struct FramesRead {
     pub count: usize,
     pub left: usize,
 }
 
 // Where the body of a frame starts, and the place after the frame.
-#[derive(Clone, Copy)]
+#[derive(Clone, Copy, Debug, PartialEq, Eq)]
 struct Span {
     start: usize,
     next: usize,
 }
 
-// ---- numbers that are known to stand in the slice, read without a test
+// ---- numbers that are known to stand in the slice, read without a test for each byte: it is among what brought most
+// (docs/DECISIONS.md, 'Speed')
 
 #[tactic(auto, unfolding(base::specs::Bytes::be16))]
 fn read16(s: &[u8], at: usize) -> u16
@@ -95,7 +110,8 @@ fn read24(s: &[u8], at: usize) -> u32
 
 // ---- how far a frame reaches: flags and length alone say it
 
-// The header's bytes: those of the kind's row, and a piece's ten. (Bounds such as this say only that no sum wraps.)
+// The header's bytes: those of the kind's row, and a piece's ten; they go by the flag alone, so it is taken without its `FragmentMeta`.
+// (Bounds such as this say only that no sum wraps.)
 #[tactic(auto, using(crate::proofs::ReadCases::piece_size, crate::proofs::ReadCases::whole_size))]
 pub fn header_size(p: Profile, kind: u8, piece: bool) -> usize
     ensures is { result ≡ header_size piece (fields_of p kind).header }
@@ -115,7 +131,7 @@ fn span_at(p: Profile, s: &[u8], at: usize) -> Option<Span>
         return None;
     }
     let flags = s[at];
-    let start = at + header_size(p, flags / 32, flags / 16 % 2 == 1);
+    let start = at + header_size(p, flags / KIND_UNIT, flags / PIECE_UNIT % 2 == 1);
     let next = start + body_len(p, read16(s, at + 1));
     if next <= s.len() {
         return Some(Span { start, next });

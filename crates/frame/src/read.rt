@@ -8,6 +8,7 @@ use base::Refusal;
 use reliability::Profile;
 
 // The frame at `at` and the place after it, or Cut where it does not fit.
+#[tactic(auto, using(crate::proofs::ReadCases::reads))]
 pub fn read_frame(p: Profile, s: &[u8], at: usize) -> Result<(Placed, usize), Refusal>
     ensures { answer result ≡ read_frame_of p s.now at }
 {
@@ -21,40 +22,29 @@ pub fn read_frame(p: Profile, s: &[u8], at: usize) -> Result<(Placed, usize), Re
     Ok((placed, next))
 }
 
-// The header whose flags stand at `at`. It fits.
+// The header whose flags stand at `at`. It fits. A field that the kind lacks is 0.
+#[tactic(auto, using(crate::proofs::ReadCases::header_parts))]
 fn frame_at(p: Profile, s: &[u8], at: usize) -> Frame
     requires { (at < length s.now) × ((placed_at p s.now at).start ≤ length s.now) }
     ensures { result ≡ frame_at p s.now at }
 {
     let flags = s[at];
-    let kind = flags / 32;
-    let piece = flags / 16 % 2 == 1;
+    let kind = flags / super::KIND_UNIT;
+    let piece = flags / super::PIECE_UNIT % 2 == 1;
     let k = reliability::fields(p, kind);
     Frame {
         kind,
-        reliable: field(k.reliable, at, |i| super::read24(s, i)),
-        sequence: field(k.sequence, at, |i| super::read24(s, i)),
-        order: field(k.order, at, |i| super::read24(s, i)),
-        channel: field(k.channel, at, |i| s[i]),
+        reliable: k.reliable.map_or(0, |n| super::read24(s, at + n)),
+        sequence: k.sequence.map_or(0, |n| super::read24(s, at + n)),
+        order: k.order.map_or(0, |n| super::read24(s, at + n)),
+        channel: k.channel.map_or(0, |n| s[at + n]),
         piece,
         meta: meta_at(piece, s, at + k.header),
     }
 }
 
-// A field of the header that starts at `at`: 0 where the kind lacks it.
-fn field<T: Default, F: FnOnce(usize) -> T>(off: usize, at: usize, read: F) -> T
-    requires fits { at + off < 2 ^ 64 }
-    requires reads { F.pre read (at + off) }
-    ensures lacks { off ≡ 0 → T.is_default result }
-    ensures has { (off ≡ 0 → ⊥) → F.post read (at + off) result }
-{
-    if off == 0 {
-        return T::default();
-    }
-    read(at + off)
-}
-
-// Count, id and index of a piece, from `at` on.
+// Count, id and index of a piece, from `at` on. (No `Option`: `Frame` is laid out by other languages with the flag beside the three, so it
+// would be taken apart again where it is made.)
 #[tactic(auto, unfolding(base::specs::If::if_true))]
 fn meta_at(piece: bool, s: &[u8], at: usize) -> FragmentMeta
     requires { piece ≡ true → at + meta_size ≤ length s.now }

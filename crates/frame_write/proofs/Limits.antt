@@ -1,16 +1,18 @@
 -- What it means that a frame is within its limits, field by field.
 -- Assumes nothing.
-use mathlib.Core.Path.{◌≡◌, ◌∙◌, refl}
+use mathlib.Core.Path.{◌≡◌, ◌∙◌, sym, refl}
 use mathlib.Core.Bool.{Bool, true, false}
 use Prim.Native.Nat.{ℕ, ◌<◌, ◌≤◌}
 use native.Mathlib.Decide.{ℕ_discrete, dec_lt}
 use native.Mathlib.Omega.{arith}
 use lib.Dec.{ltb, eqb}
 use borrow.Author.Tests.{ltb-true, eqb-true}
+use Rattle.std.specs.Prelude.{Option, Some, None}
+use Rattle.std.proofs.lemmas.Option.{none-some}
 use Rattle.base.specs.If.{if_true, if_lt, if_eq}
 use Rattle.base.specs.Limits.{numbers24, max_ord_chans, max_frags, max_body}
 use Rattle.base.proofs.Ifs.{true-yes, true-no, lt_yes, lt_no, eq_yes, eq_no}
-use Rattle.reliability.specs.Kinds.{fields_of}
+use Rattle.reliability.specs.Kinds.{fields_of, on_place}
 use Rattle.reliability.specs.declared.Profile.{Profile}
 use Rattle.frame.specs.declared.FragmentMeta.{FragmentMeta}
 use Rattle.frame.specs.declared.Frame.{Frame}
@@ -39,21 +41,13 @@ eq-both m n b e = go (ℕ_discrete m n)
 
 -- ---- fields
 -- a field below its limit, and 0 where the kind lacks it
-pub record Carried (limit off x : ℕ) : Type 0 where
+pub record Carried (limit : ℕ) (off : Option ℕ) (x : ℕ) : Type 0 where
   pub below : x < limit
-  pub lacks : off ≡ 0 → x ≡ 0
+  pub lacks : off ≡ None → x ≡ 0
 
-carried : (limit off x : ℕ) → 0 < limit → if_eq off 0 (eqb x 0) (ltb x limit) ≡ true → Carried limit off x
-carried limit off x h e = go (ℕ_discrete off 0)
-  where
-    go : Dec (off ≡ 0) → Carried limit off x
-    go (yes z) =
-        let x0 : x ≡ 0 = eqb-true x 0 (eq_yes off 0 (eqb x 0) (eqb x 0) (ltb x limit) z refl ∙ e) in
-        record { below = omega arith; lacks = λ _. x0 }
-    go (no n) = record {
-      below = ltb-true x limit (eq_no off 0 (ltb x limit) (eqb x 0) (ltb x limit) n refl ∙ e);
-      lacks = λ z. absurd (n z);
-    }
+carried : (limit : ℕ) (off : Option ℕ) (x : ℕ) → 0 < limit → on_place off (eqb x 0) (λ _. ltb x limit) ≡ true → Carried limit off x
+carried limit None x h e = let x0 : x ≡ 0 = eqb-true x 0 e in record { below = omega arith; lacks = λ _. x0 }
+carried limit (Some n) x h e = record { below = ltb-true x limit e; lacks = λ z. absurd (none-some n (sym z)) }
 
 -- count, id and index of a piece within their limits, or all 0
 pub record MetaFits (piece : Bool) (m : FragmentMeta) : Type 0 where

@@ -11,12 +11,12 @@ use lib.Dec.{eqb}
 use lib.ListN.{length, get_or, take, drop, length-take}
 use lib.Seq.{get_or-take, get_or-drop}
 use borrow.Author.Tests.{eq-eqb, ne_eqb}
+use Rattle.std.specs.Prelude.{Option, Some, None}
 use Rattle.base.specs.Answer.{gives}
-use Rattle.base.specs.Bytes.{be16, be32, le24, be16_bytes, be32_bytes, le24_bytes, Bytes}
-use Rattle.base.specs.If.{if_true, if_eq}
+use Rattle.base.specs.Bytes.{be16, be32, be16_bytes, be32_bytes, le24_bytes, Bytes}
+use Rattle.base.specs.If.{if_true}
 use Rattle.base.specs.Put.{put, and_then}
-use Rattle.base.proofs.Ifs.{eq_yes, eq_no}
-use Rattle.reliability.specs.Kinds.{fields_of}
+use Rattle.reliability.specs.Kinds.{fields_of, on_place}
 use Rattle.reliability.specs.declared.KindFields.{KindFields}
 use Rattle.reliability.specs.declared.Profile.{Profile}
 use Rattle.reliability.specs.declared.Profile.TheVariants.{Console, Cpp}
@@ -44,22 +44,19 @@ flags-again flags z = go (ℕ_discrete (flags / 16 % 2) 1)
 none-stands : (s : List ℕ) (q : ℕ) → Stands s q []
 none-stands s q = record { each = λ i h. absurd (not-suc-le-zero h) }
 
-field-again : (s : List ℕ) (q off v : ℕ) (bytes : ℕ → List ℕ) → ((off ≡ 0 → ⊥) → Stands s q (bytes v))
-    → Stands s q (if_eq off 0 [] (bytes (if_eq off 0 0 v)))
-field-again s q off v bytes h = go (ℕ_discrete off 0)
-  where
-    go : Dec (off ≡ 0) → Stands s q (if_eq off 0 [] (bytes (if_eq off 0 0 v)))
-    go (yes z) = rw (← eq_yes off 0 [] [] (bytes (if_eq off 0 0 v)) z refl) (none-stands s q)
-    go (no n) = rw (← eq_no off 0 v 0 v n refl) (rw (← eq_no off 0 (bytes v) [] (bytes v) n refl) (h n))
+field-again : (s : List ℕ) (q : ℕ) (off : Option ℕ) (f : ℕ → ℕ) (bytes : ℕ → List ℕ)
+    → ((n : ℕ) → off ≡ Some n → Stands s q (bytes (f n))) → Stands s q (on_place off [] (λ _. bytes (on_place off 0 f)))
+field-again s q None f bytes h = none-stands s q
+field-again s q (Some n) f bytes h = h n refl
 
-module _ (s : List ℕ) (by : Bytes s) (at q off : ℕ) (place : (off ≡ 0 → ⊥) → at + off ≡ q) where
+module _ (s : List ℕ) (by : Bytes s) (at q : ℕ) (off : Option ℕ) (place : (n : ℕ) → off ≡ Some n → at + n ≡ q) where
   number-again : Stands s q (number_bytes off (number_at s at off))
   unfolding number_bytes
-  number-again = field-again s q off (le24 s (at + off)) le24_bytes (λ n. rw (place n) (le24-again s by q))
+  number-again = field-again s q off _ le24_bytes (λ n i. rw (place n i) (le24-again s by q))
 
   channel-again : Stands s q (channel_bytes off (channel_at s at off))
   unfolding channel_bytes
-  channel-again = field-again s q off (get_or s (at + off) 0) (λ x. x ∷ []) (λ n. rw (place n) (stands_one s q (get_or s q 0) refl))
+  channel-again = field-again s q off _ (λ x. x ∷ []) (λ n i. rw (place n i) (stands_one s q (get_or s q 0) refl))
 
 meta-again : (s : List ℕ) → Bytes s → (p : ℕ) (b : Bool) → Stands s p (meta_bytes b (meta_at b s p))
 unfolding meta_bytes be32_bytes be16_bytes and_then if_true
@@ -89,12 +86,12 @@ module _ (p : Profile) (s : List ℕ) (by : Bytes s) (at : ℕ) where
       let ws = number-wide k.sequence (number_at s at k.sequence) in
       let wo = number-wide k.order (number_at s at k.order) in
       stands-both s (at + 3) nr (and_then ns (and_then no ch))
-      (number-again s by at (at + 3) k.reliable (λ n. omega (arith, o.reliable n)))
+      (number-again s by at (at + 3) k.reliable (λ n i. omega (arith, o.reliable n i)))
       (stands-both s (at + 3 + length nr) ns (and_then no ch)
-      (number-again s by at (at + 3 + length nr) k.sequence (λ n. omega (arith, o.sequence n)))
+      (number-again s by at (at + 3 + length nr) k.sequence (λ n i. omega (arith, o.sequence n i)))
       (stands-both s (at + 3 + length nr + length ns) no ch
-      (number-again s by at (at + 3 + length nr + length ns) k.order (λ n. omega (arith, o.order n)))
-      (channel-again s by at (at + 3 + length nr + length ns + length no) k.channel (λ n. omega (arith, o.channel n)))))
+      (number-again s by at (at + 3 + length nr + length ns) k.order (λ n i. omega (arith, o.order n i)))
+      (channel-again s by at (at + 3 + length nr + length ns + length no) k.channel (λ n i. omega (arith, o.channel n i)))))
 
   module _ (bits : get_or s at 0 % 16 ≡ 0) (eights : be16 s (at + 1) % 8 ≡ 0) where
     start-again : Stands s at (start_bytes (frame_at p s at).kind (frame_at p s at).piece (body_length p (be16 s (at + 1))))

@@ -1,17 +1,18 @@
 -- The fields of a header stand one after the other: each at the place that its kind's row gives.
 -- Assumes nothing.
-use mathlib.Core.Path.{◌≡◌, ◌∙◌, sym, refl}
+use mathlib.Core.Path.{◌≡◌, ◌∙◌, refl}
 use mathlib.Core.Bool.{Bool, true, false}
 use mathlib.Core.List.{List, [], ◌∷◌}
-use Prim.Native.Nat.{ℕ, ◌+◌, ◌%◌, ◌<◌}
-use native.Mathlib.Decide.{ℕ_discrete}
+use Prim.Native.Nat.{ℕ, ◌+◌, ◌%◌}
 use native.Mathlib.Omega.{arith}
 use lib.ListN.{length, length-append}
+use Rattle.std.specs.Prelude.{Option, Some, None}
+use Rattle.std.proofs.lemmas.Option.{none-some}
 use Rattle.base.specs.Bytes.{be16_bytes, be32_bytes, le24_bytes}
-use Rattle.base.specs.If.{if_true, if_eq}
+use Rattle.base.specs.If.{if_true}
 use Rattle.base.specs.Put.{and_then}
-use Rattle.base.proofs.Ifs.{eq_yes, eq_no}
-use Rattle.reliability.specs.Kinds.{when, has_reliable, has_sequence, has_order, after_reliable, after_sequence, row_of, fields_of}
+use Rattle.reliability.specs.Kinds.{when, place_when, on_place, has_reliable, has_sequence, has_order}
+use Rattle.reliability.specs.Kinds.{after_reliable, after_sequence, row_of, fields_of}
 use Rattle.reliability.specs.declared.KindFields.{KindFields}
 use Rattle.reliability.specs.declared.Profile.{Profile}
 use Rattle.frame.specs.declared.FragmentMeta.{FragmentMeta}
@@ -21,30 +22,30 @@ use Rattle.frame_write.specs.Write.{start_bytes, number_bytes, channel_bytes, fi
 use Rattle.frame_write.specs.Valid.{size_of}
 
 -- the bytes that a field of w bytes takes in a header whose row has it at place off
-unfoldable pub wide : ℕ → ℕ → ℕ
-wide off w = if_eq off 0 0 w
+unfoldable pub wide : Option ℕ → ℕ → ℕ
+wide off w = on_place off 0 (λ _. w)
 
 -- a field that is there stands where the one before it ends, and the header ends with the last
 pub record InOrder (k : KindFields) : Type 0 where
-  pub reliable : (k.reliable ≡ 0 → ⊥) → k.reliable ≡ 3
-  pub sequence : (k.sequence ≡ 0 → ⊥) → k.sequence ≡ 3 + wide k.reliable 3
-  pub order : (k.order ≡ 0 → ⊥) → k.order ≡ 3 + wide k.reliable 3 + wide k.sequence 3
-  pub channel : (k.channel ≡ 0 → ⊥) → k.channel ≡ 3 + wide k.reliable 3 + wide k.sequence 3 + wide k.order 3
+  pub reliable : (n : ℕ) → k.reliable ≡ Some n → n ≡ 3
+  pub sequence : (n : ℕ) → k.sequence ≡ Some n → n ≡ 3 + wide k.reliable 3
+  pub order : (n : ℕ) → k.order ≡ Some n → n ≡ 3 + wide k.reliable 3 + wide k.sequence 3
+  pub channel : (n : ℕ) → k.channel ≡ Some n → n ≡ 3 + wide k.reliable 3 + wide k.sequence 3 + wide k.order 3
   pub header : k.header ≡ 3 + wide k.reliable 3 + wide k.sequence 3 + wide k.order 3 + wide k.channel 1
 
-there : (b : Bool) (p : ℕ) → (when b p ≡ 0 → ⊥) → when b p ≡ p
-there true p n = refl
-there false p n = absurd (n refl)
+there : (b : Bool) (p n : ℕ) → place_when b p ≡ Some n → n ≡ p
+there true p n e = cc
+there false p n e = absurd (none-some n e)
 
 -- the channel is there with the order number, behind it
-behind : (b : Bool) (p : ℕ) → (when b (p + 3) ≡ 0 → ⊥) → when b (p + 3) ≡ p + when b 3
-behind true p n = refl
-behind false p n = absurd (n refl)
+behind : (b : Bool) (p n : ℕ) → place_when b (p + 3) ≡ Some n → n ≡ p + when b 3
+behind true p n e = cc
+behind false p n e = absurd (none-some n e)
 
-wide-when : (b : Bool) (p w : ℕ) → 0 < p → wide (when b p) w ≡ when b w
+wide-when : (b : Bool) (p w : ℕ) → wide (place_when b p) w ≡ when b w
 unfolding wide
-wide-when true p w h = sym (eq_no _ _ _ _ _ (λ e. omega arith) refl)
-wide-when false p w h = sym (eq_yes _ _ _ _ _ refl refl)
+wide-when true p w = refl
+wide-when false p w = refl
 
 when-sum : (b : Bool) → when b 4 ≡ when b 3 + when b 1
 when-sum true = refl
@@ -52,15 +53,15 @@ when-sum false = refl
 
 in_order : (p : Profile) (k : ℕ) → InOrder (row_of p k)
 in_order p k =
-    let r : wide (row_of p k).reliable 3 ≡ when (has_reliable k) 3 = wide-when (has_reliable k) 3 3 (omega arith) in
-    let s : wide (row_of p k).sequence 3 ≡ when (has_sequence k) 3 = wide-when (has_sequence k) (after_reliable k) 3 (omega arith) in
-    let o : wide (row_of p k).order 3 ≡ when (has_order p k) 3 = wide-when (has_order p k) (after_sequence k) 3 (omega arith) in
-    let c : wide (row_of p k).channel 1 ≡ when (has_order p k) 1 = wide-when (has_order p k) (after_sequence k + 3) 1 (omega arith) in
+    let r : wide (row_of p k).reliable 3 ≡ when (has_reliable k) 3 = wide-when (has_reliable k) 3 3 in
+    let s : wide (row_of p k).sequence 3 ≡ when (has_sequence k) 3 = wide-when (has_sequence k) (after_reliable k) 3 in
+    let o : wide (row_of p k).order 3 ≡ when (has_order p k) 3 = wide-when (has_order p k) (after_sequence k) 3 in
+    let c : wide (row_of p k).channel 1 ≡ when (has_order p k) 1 = wide-when (has_order p k) (after_sequence k + 3) 1 in
     record {
       reliable = there (has_reliable k) 3;
-      sequence = λ n. there (has_sequence k) (after_reliable k) n ∙ rw r;
-      order = λ n. there (has_order p k) (after_sequence k) n ∙ rw (r, s);
-      channel = λ n. behind (has_order p k) (after_sequence k) n ∙ rw (r, s, o);
+      sequence = λ n i. there (has_sequence k) (after_reliable k) n i ∙ rw r;
+      order = λ n i. there (has_order p k) (after_sequence k) n i ∙ rw (r, s);
+      channel = λ n i. behind (has_order p k) (after_sequence k) n i ∙ rw (r, s, o);
       header = omega (arith, when-sum (has_order p k));
     }
 
@@ -70,15 +71,12 @@ unfolding fields_of
 row-in-order p k = in_order p (k % 8)
 
 -- ---- how many bytes each part of a frame takes
-field-wide : (off w : ℕ) (xs : List ℕ) → length xs ≡ w → length (if_eq off 0 [] xs) ≡ wide off w
+field-wide : (off : Option ℕ) (w : ℕ) (xs : List ℕ) → length xs ≡ w → length (on_place off [] (λ _. xs)) ≡ wide off w
 unfolding wide
-field-wide off w xs h = go (ℕ_discrete off 0)
-  where
-    go : Dec (off ≡ 0) → length (if_eq off 0 [] xs) ≡ if_eq off 0 0 w
-    go (yes e) = rw (← eq_yes off 0 [] [] xs e refl) (eq_yes off 0 0 0 w e refl)
-    go (no n) = rw (← eq_no off 0 xs [] xs n refl) (eq_no off 0 (length xs) 0 w n h)
+field-wide None w xs h = refl
+field-wide (Some n) w xs h = h
 
-module _ (off x : ℕ) where
+module _ (off : Option ℕ) (x : ℕ) where
   pub number-wide : length (number_bytes off x) ≡ wide off 3
   unfolding number_bytes le24_bytes
   number-wide = field-wide off 3 (le24_bytes x) refl

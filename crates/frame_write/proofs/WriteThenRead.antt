@@ -5,18 +5,20 @@ use mathlib.Core.Bool.{Bool, true, false}
 use mathlib.Core.List.{List, [], ◌∷◌}
 use Prim.Native.Nat.{ℕ, ◌+◌, ◌*◌, ◌/◌, ◌%◌, ◌<◌, ◌≤◌}
 use native.Mathlib.Nat.{add_assoc}
-use native.Mathlib.Decide.{ℕ_discrete, dec_lt}
+use native.Mathlib.Decide.{dec_lt}
 use native.Mathlib.Omega.{arith}
 use lib.ListN.{length, get_or}
 use borrow.Author.Tests.{eq-eqb, ne_eqb}
+use Rattle.std.specs.Prelude.{Option, Some, None}
+use Rattle.std.proofs.lemmas.Option.{none-some}
 use Rattle.base.specs.Answer.{refused, gives}
-use Rattle.base.specs.Bytes.{be16, le24, be16_bytes, be32_bytes, le24_bytes}
-use Rattle.base.specs.If.{if_true, if_eq}
+use Rattle.base.specs.Bytes.{be16, be16_bytes, be32_bytes, le24_bytes}
+use Rattle.base.specs.If.{if_true}
 use Rattle.base.specs.Limits.{numbers24, max_ord_chans}
 use Rattle.base.specs.Put.{put, and_then}
-use Rattle.base.proofs.Ifs.{lt_no, eq_yes, eq_no}
+use Rattle.base.proofs.Ifs.{lt_no}
 use Rattle.base.proofs.Puts.{length-put}
-use Rattle.reliability.specs.Kinds.{fields_of}
+use Rattle.reliability.specs.Kinds.{fields_of, on_place}
 use Rattle.reliability.specs.declared.KindFields.{KindFields}
 use Rattle.reliability.specs.declared.Profile.{Profile}
 use Rattle.reliability.specs.declared.Profile.TheVariants.{Console, Cpp}
@@ -46,27 +48,26 @@ module _ (k : ℕ) where
   piece_back false = ne_eqb (k * 32 / 16 % 2) 1 (λ e. omega arith)
 
 -- ---- a field that the kind has, or lacks
-field_back : (off v x : ℕ) → (off ≡ 0 → x ≡ 0) → ((off ≡ 0 → ⊥) → v ≡ x) → if_eq off 0 0 v ≡ x
-field_back off v x l h = go (ℕ_discrete off 0)
-  where
-    go : Dec (off ≡ 0) → if_eq off 0 0 v ≡ x
-    go (yes z) = sym (eq_yes off 0 0 0 v z refl) ∙ sym (l z)
-    go (no n) = sym (eq_no off 0 v 0 v n refl) ∙ h n
+field_back : (off : Option ℕ) (f : ℕ → ℕ) (x : ℕ) → (off ≡ None → x ≡ 0) → ((n : ℕ) → off ≡ Some n → f n ≡ x) → on_place off 0 f ≡ x
+field_back None f x l h = sym (l refl)
+field_back (Some n) f x l h = h n refl
 
-field-there : (s : List ℕ) (q off : ℕ) (xs : List ℕ) → Stands s q (if_eq off 0 [] xs) → (off ≡ 0 → ⊥) → Stands s q xs
-field-there s q off xs a n = rw (← eq_no off 0 xs [] xs n refl) at a
+field-there : (s : List ℕ) (q : ℕ) (off : Option ℕ) (xs : List ℕ) → Stands s q (on_place off [] (λ _. xs)) → (n : ℕ) → off ≡ Some n
+    → Stands s q xs
+field-there s q None xs a n i = absurd (none-some n i)
+field-there s q (Some m) xs a n i = a
 
-module _ (s : List ℕ) (at q off x : ℕ) (place : (off ≡ 0 → ⊥) → at + off ≡ q) where
+module _ (s : List ℕ) (at q : ℕ) (off : Option ℕ) (x : ℕ) (place : (n : ℕ) → off ≡ Some n → at + n ≡ q) where
   number-back : Carried numbers24 off x → Stands s q (number_bytes off x) → number_at s at off ≡ x
   unfolding number_bytes
   number-back c a =
-      field_back off (le24 s (at + off)) x c.lacks (λ n. rw (place n)
-      (le24-stands s q x c.below (field-there s q off (le24_bytes x) a n)))
+      field_back off _ x c.lacks
+      (λ n i. rw (place n i) (le24-stands s q x c.below (field-there s q off (le24_bytes x) a n i)))
 
   channel-back : Carried max_ord_chans off x → Stands s q (channel_bytes off x) → channel_at s at off ≡ x
   unfolding channel_bytes
   channel-back c a =
-      field_back off (get_or s (at + off) 0) x c.lacks (λ n. rw (place n) (one-stands s q x (field-there s q off (x ∷ []) a n)))
+      field_back off _ x c.lacks (λ n i. rw (place n i) (one-stands s q x (field-there s q off (x ∷ []) a n i)))
 
 -- ---- count, id and index
 meta-eq : (l m : FragmentMeta) → l.count ≡ m.count → l.id ≡ m.id → l.index ≡ m.index → l ≡ m
@@ -138,11 +139,11 @@ module _ (p : Profile) (s : List ℕ) (at : ℕ) (f : Frame) (n : ℕ) (w : With
       let b2 = stands-next s (at + 3) nr (and_then ns (and_then no ch)) b in
       let b3 = stands-next s (at + 3 + length nr) ns (and_then no ch) b2 in
       let b4 = stands-next s (at + 3 + length nr + length ns) no ch b3 in (
-        number-back s at (at + 3) k.reliable f.reliable (λ n. omega (arith, o.reliable n)) r (stands-first s (at + 3) nr _ b),
-        number-back s at (at + 3 + length nr) k.sequence f.sequence (λ n. omega (arith, o.sequence n)) s' (stands-first s _ ns _ b2),
-        number-back s at (at + 3 + length nr + length ns) k.order f.order (λ n. omega (arith, o.order n)) o'
+        number-back s at (at + 3) k.reliable f.reliable (λ n i. omega (arith, o.reliable n i)) r (stands-first s (at + 3) nr _ b),
+        number-back s at (at + 3 + length nr) k.sequence f.sequence (λ n i. omega (arith, o.sequence n i)) s' (stands-first s _ ns _ b2),
+        number-back s at (at + 3 + length nr + length ns) k.order f.order (λ n i. omega (arith, o.order n i)) o'
             (stands-first s _ no _ b3),
-        channel-back s at (at + 3 + length nr + length ns + length no) k.channel f.channel (λ n. omega (arith, o.channel n)) c b4,
+        channel-back s at (at + 3 + length nr + length ns + length no) k.channel f.channel (λ n i. omega (arith, o.channel n i)) c b4,
       )
 
   header-back : f.meta.id < 65536 → frame_at p s at ≡ f

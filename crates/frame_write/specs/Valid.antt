@@ -1,11 +1,11 @@
 -- Document 01's call "Write frame": "15 kind, number, channel, piece field or body over its limit (body 8,191), or an uncarried field not
 -- 0; 12." Which fields a kind carries goes by the profile (document 02, request 2).
-use Rattle.std.specs.Prelude.{ℕ, ◌+◌, Bool, false, List, length, ltb, eqb}
+use Rattle.std.specs.Prelude.{ℕ, ◌+◌, Bool, false, List, length, ltb, eqb, Option}
 use Rattle.base.specs.Answer.{Answer, refused, gives}
 use Rattle.base.specs.If.{if_true, if_lt, if_eq}
 use Rattle.base.specs.Limits.{numbers24, max_ord_chans, max_frags, max_body}
 use Rattle.base.specs.Put.{put}
-use Rattle.reliability.specs.Kinds.{fields_of}
+use Rattle.reliability.specs.Kinds.{fields_of, on_place}
 use Rattle.reliability.specs.declared.KindFields.{KindFields}
 use Rattle.reliability.specs.declared.Profile.{Profile}
 use Rattle.frame.specs.declared.FragmentMeta.{FragmentMeta}
@@ -13,13 +13,13 @@ use Rattle.frame.specs.declared.Frame.{Frame}
 use Rattle.frame.specs.Read.{max_kind, header_size}
 use Rattle.frame_write.specs.Write.{frame_bytes}
 
--- a number below 2^24; one that the kind lacks (place 0) is 0
-unfoldable pub number_ok : ℕ → ℕ → Bool
-number_ok off x = if_eq off 0 (eqb x 0) (ltb x numbers24)
+-- a number below 2^24; one that the kind lacks is 0
+unfoldable pub number_ok : Option ℕ → ℕ → Bool
+number_ok off x = on_place off (eqb x 0) (λ _. ltb x numbers24)
 
 -- "channel 0 to 31"
-unfoldable pub channel_ok : ℕ → ℕ → Bool
-channel_ok off x = if_eq off 0 (eqb x 0) (ltb x max_ord_chans)
+unfoldable pub channel_ok : Option ℕ → ℕ → Bool
+channel_ok off x = on_place off (eqb x 0) (λ _. ltb x max_ord_chans)
 
 unfoldable pub fields_ok : KindFields → Frame → Bool
 fields_ok k f =

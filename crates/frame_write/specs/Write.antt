@@ -1,9 +1,9 @@
 -- A frame's bytes, written: document 01, "Bytes", paragraph "Frame"; under a profile (document 02, request 2).
-use Rattle.std.specs.Prelude.{ℕ, ◌+◌, ◌*◌, Bool, List, [], ◌∷◌, length}
+use Rattle.std.specs.Prelude.{ℕ, ◌+◌, ◌*◌, Bool, List, [], ◌∷◌, length, Option}
 use Rattle.base.specs.Bytes.{be16_bytes, be32_bytes, le24_bytes}
-use Rattle.base.specs.If.{if_true, if_eq}
+use Rattle.base.specs.If.{if_true}
 use Rattle.base.specs.Put.{and_then}
-use Rattle.reliability.specs.Kinds.{fields_of}
+use Rattle.reliability.specs.Kinds.{fields_of, on_place}
 use Rattle.reliability.specs.declared.KindFields.{KindFields}
 use Rattle.reliability.specs.declared.Profile.{Profile}
 use Rattle.frame.specs.declared.FragmentMeta.{FragmentMeta}
@@ -18,12 +18,12 @@ unfoldable pub start_bytes : ℕ → Bool → ℕ → List ℕ
 start_bytes kind piece n = and_then (flags_of kind piece ∷ []) (be16_bytes (n * 8))
 
 -- a number, "24 bits little-endian", where the kind has it
-unfoldable pub number_bytes : ℕ → ℕ → List ℕ
-number_bytes off x = if_eq off 0 [] (le24_bytes x)
+unfoldable pub number_bytes : Option ℕ → ℕ → List ℕ
+number_bytes off x = on_place off [] (λ _. le24_bytes x)
 
 -- "and channel, one byte"
-unfoldable pub channel_bytes : ℕ → ℕ → List ℕ
-channel_bytes off x = if_eq off 0 [] (x ∷ [])
+unfoldable pub channel_bytes : Option ℕ → ℕ → List ℕ
+channel_bytes off x = on_place off [] (λ _. x ∷ [])
 
 -- "then as the kind has them reliable, sequence and order number .. and channel"
 unfoldable pub field_bytes : KindFields → Frame → List ℕ

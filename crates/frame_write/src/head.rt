@@ -1,4 +1,4 @@
-// A datagram's head.
+// A datagram's head: the shortest datagram is no more.
 ghost use Rattle.std.specs.Prelude.{◌≡◌, length};
 ghost use Rattle.base.specs.Refusals.{answer};
 ghost use Rattle.frame_write.specs.Head.{write_head_of, head_written_of};
@@ -6,8 +6,6 @@ ghost use Rattle.frame_write.specs.Head.{write_head_of, head_written_of};
 use base::Refusal;
 
 const HEAD_ID: u8 = 0x84;
-
-const HEAD_SIZE: usize = 4;
 
 // Writes 84 and the number at the start of the output.
 pub fn write_head(out: &mut [u8], number: u32) -> Result<(), Refusal>
@@ -17,7 +15,7 @@ pub fn write_head(out: &mut [u8], number: u32) -> Result<(), Refusal>
     if base::NUMBERS_24 <= number {
         return Err(Refusal::TooLarge);
     }
-    if out.len() < HEAD_SIZE {
+    if out.len() < base::MIN_DATAGRAM {
         return Err(Refusal::NoRoom);
     }
     let p = base::put(out, 0, HEAD_ID);

@@ -1,4 +1,4 @@
-// Frames, as document 01's "Bytes" has them, written into a slice under a profile (document 02, 2/13); and a datagram's head.
+// Frames, as document 01's "Bytes" has them, written into a slice under a profile of document 02, 2/13; and a datagram's head.
 
 #![tactic(auto)]
 

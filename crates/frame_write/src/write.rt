@@ -1,21 +1,19 @@
 // A frame written into the unwritten rest of the lent output.
 ghost use Rattle.std.specs.Prelude.{◌≡◌, ◌<◌, ◌≤◌, ◌+◌, length, [], eqb, ltb};
-ghost use Rattle.base.specs.If.{if_eq};
 ghost use Rattle.base.specs.Limits.{max_body};
 ghost use Rattle.base.specs.Put.{Run};
 ghost use Rattle.base.specs.Refusals.{answer};
+ghost use Rattle.reliability.specs.Kinds.{on_place};
 ghost use Rattle.frame.specs.Read.{max_kind};
 ghost use Rattle.frame_write.specs.Write.{flags_of, start_bytes, field_bytes, meta_bytes, header_bytes, frame_bytes};
 ghost use Rattle.frame_write.specs.Valid.{fields_ok, meta_ok, within_limits, size_of, write_frame_of, frame_written_of};
 
 use base::Refusal;
 use frame::{FragmentMeta, Frame};
-use reliability::{KindFields, Profile};
-
-// The last kind.
-const MAX_KIND: u8 = 7;
+use reliability::{KindFields, Profile, Reliability};
 
 // Writes a frame into the output from `at` on, and returns the place after it.
+#[tactic(auto, using(crate::proofs::WriteCases::writes))]
 pub fn write_frame(
     p: Profile,
     out: &mut [u8],
@@ -39,11 +37,10 @@ pub fn write_frame(
 }
 
 // A field is below its limit, and 0 where the kind lacks it.
-#[tactic(auto, unfolding(base::specs::If::if_eq, base::specs::If::if_true))]
-fn field_ok(off: usize, x: u32, limit: u32) -> bool
-    ensures { result ≡ if_eq off 0 (eqb x 0) (ltb x limit) }
+fn field_ok(place: Option<usize>, x: u32, limit: u32) -> bool
+    ensures { result ≡ on_place place (eqb x 0) (λ _. ltb x limit) }
 {
-    if off == 0 { x == 0 } else { x < limit }
+    if place.is_some() { x < limit } else { x == 0 }
 }
 
 #[tactic(auto, using(crate::proofs::WriteCases::fields_all), unfolding(crate::specs::Valid::number_ok, crate::specs::Valid::channel_ok))]
@@ -60,12 +57,14 @@ fn fields_ok(k: KindFields, frame: Frame) -> bool
         )
 }
 
-// A piece's count and index are within their limits; a frame that is no piece has none of the three.
+// A piece's count and index are within their limits; a frame that is no piece has none of the three. (Flag and value, and no
+// `Option`: of such a frame the value is tested too.)
+#[tactic(auto, using(crate::proofs::WriteCases::metas))]
 fn meta_ok(piece: bool, meta: FragmentMeta) -> bool
     ensures { result ≡ meta_ok piece meta }
 {
     if piece {
-        return (1..=base::MAX_FRAGS).contains(&meta.count) && meta.index < meta.count;
+        return meta.is_in_limits();
     }
     meta == FragmentMeta::default()
 }
@@ -74,7 +73,7 @@ fn meta_ok(piece: bool, meta: FragmentMeta) -> bool
 fn within_limits(p: Profile, frame: Frame, n: usize) -> bool
     ensures { result ≡ within_limits p frame n }
 {
-    (frame.kind <= MAX_KIND)
+    Reliability::try_from(frame.kind).is_ok()
         & (n <= base::MAX_BODY)
         & fields_ok(reliability::fields(p, frame.kind), frame)
         & meta_ok(frame.piece, frame.meta)
@@ -85,10 +84,15 @@ fn flags_of(kind: u8, piece: bool) -> u8
     requires { kind ≤ max_kind }
     ensures { result ≡ flags_of kind piece }
 {
-    if piece { kind * 32 + 16 } else { kind * 32 }
+    let flags = kind * frame::KIND_UNIT;
+    if piece {
+        flags + frame::PIECE_UNIT
+    } else {
+        flags
+    }
 }
 
-// Flags, and the length of a body of n bytes.
+// Flags, and the length of a body of n bytes. (The flag alone: of a piece's three numbers nothing stands here.)
 fn put_start(out: &mut [u8], to: usize, kind: u8, piece: bool, n: u32) -> usize
     requires { (kind ≤ max_kind) × (n ≤ max_body) }
     ensures { Run to (start_bytes kind piece n) out.old result out.new }
@@ -97,14 +101,14 @@ fn put_start(out: &mut [u8], to: usize, kind: u8, piece: bool, n: u32) -> usize
     base::put16(out, a, n * 8)
 }
 
-// A field's bytes, where the kind has it.
-fn put_field(out: &mut [u8], to: usize, off: usize, bytes: &[u8]) -> usize
-    ensures { Run to (if_eq off 0 [] bytes.now) out.old result out.new }
+// A field's bytes, where the kind has it. (By `put_all`: one function for the numbers' three bytes and the channel's one.)
+fn put_field(out: &mut [u8], to: usize, place: Option<usize>, bytes: &[u8]) -> usize
+    ensures { Run to (on_place place [] (λ _. bytes.now)) out.old result out.new }
 {
-    if off == 0 {
-        return to;
+    match place {
+        Some(_) => base::put_all(out, to, bytes),
+        None => to,
     }
-    base::put_all(out, to, bytes)
 }
 
 // The numbers and the channel that the kind has.
@@ -117,7 +121,7 @@ fn put_fields(out: &mut [u8], to: usize, k: KindFields, frame: Frame) -> usize
     put_field(out, c, k.channel, &[frame.channel])
 }
 
-// Count, id and index of a piece.
+// Count, id and index of a piece. (Flag and value, as `Frame` has them for other languages.)
 fn put_meta(out: &mut [u8], to: usize, piece: bool, meta: FragmentMeta) -> usize
     ensures { Run to (meta_bytes piece meta) out.old result out.new }
 {

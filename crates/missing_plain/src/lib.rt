@@ -26,6 +26,7 @@ pub fn missing_in(low: u32, bits: &[u8], list: &mut [u32]) -> usize
     }
     let end = highest(low, bits).min(base::NUMBERS_24 - low);
     let mut p = 0;
+    // A loop: a fold over the missing numbers would carry the same place, and lend the list to a closure.
     for k in 0..end {
         let n = low + k;
         if !window::accepted_in(low, bits, n) {
@@ -40,6 +41,7 @@ fn highest(low: u32, bits: &[u8]) -> u32
     requires { low < numbers24 }
     ensures { result ≡ Missing.highest (window_of low bits.now) window_places }
 {
+    // A loop, where `find` would do: std has lemmas for a range taken forwards and a slice backwards, but for no range backwards.
     for k in (1..=base::WINDOW_PLACES).rev() {
         if window::place_set(bits, low + k) {
             return k;

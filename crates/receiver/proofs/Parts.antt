@@ -1,19 +1,13 @@
 -- Lists of numbers from a place on, and their first numbers: what loops over the unsent numbers need.
 -- Assumes nothing.
-use mathlib.Core.Path.{◌≡◌, sym, ap}
+use mathlib.Core.Path.{◌≡◌, sym}
 use mathlib.Core.List.{List, [], ◌∷◌}
-use Prim.Native.Nat.{ℕ, zero, suc, ◌+◌, ◌-◌, ◌<◌, min}
-use native.Mathlib.Nat.{sub-zero, zero-min, min-zero, suc-min-suc}
+use Prim.Native.Nat.{ℕ, zero, suc, ◌+◌, ◌-◌, ◌<◌}
+use native.Mathlib.Nat.{sub-zero}
 use native.Mathlib.Numerals.{add-one}
 use native.Mathlib.Omega.{arith}
 use lib.ListN.{length, get_or, take, drop, length-drop}
 use lib.Seq.{drop-cons, take_all, take-nil}
-
--- the first c, as far as there are so many
-pub take_min : (c : ℕ) (l : List ℕ) → take (min c (length l)) l ≡ take c l
-take_min zero l = rw zero-min
-take_min (suc c) [] = rw min-zero
-take_min (suc c) (a ∷ l) = rw suc-min-suc (ap (λ (t : List ℕ). a ∷ t) (take_min c l))
 
 pub from-here : (l : List ℕ) (i : ℕ) → i < length l → drop i l ≡ get_or l i 0 ∷ drop (i + 1) l
 from-here l i h = rw add-one (drop-cons l i 0 h)

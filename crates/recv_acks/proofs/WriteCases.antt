@@ -96,9 +96,9 @@ module _ (q : RecvQueue) (out : List ℕ) where
   unfolding write_unsent_of
   unsent-unsound r is = let (unsound, e) = told_err q r is in rw (e, write-unsound q (emptied q) false (sorted (unsent_of q)) out unsound)
 
-  pub missing-unsound : (r : Refusal) → Err r ≡ queue_sound_of q → wrote (Err r) q out ≡ write_missing_of q out
+  pub missing_unsound : (r : Refusal) → Err r ≡ queue_sound_of q → wrote (Err r) q out ≡ write_missing_of q out
   unfolding write_missing_of
-  missing-unsound r is = let (unsound, e) = told_err q r is in rw (e, write-unsound q q true (missing q.datagrams) out unsound)
+  missing_unsound r is = let (unsound, e) = told_err q r is in rw (e, write-unsound q q true (missing q.datagrams) out unsound)
 
   module _ (rising : Bool) (is : Ok rising ≡ queue_sound_of q) where
     abbrev good : sound_queue q ≡ true
@@ -132,3 +132,5 @@ module _ (q : RecvQueue) (out : List ℕ) where
         ≡ write_unsent_of q out
     unfolding write_unsent_of unsent_of emptied
     unsent-given n a x b = write-sound q (emptied q) false (sorted (unsent_of q)) out good (Ok n) a x b
+
+pub ruleset unsents = (pending_few, unsent_rising, unsent-unsound, unsent-refused, unsent-given)

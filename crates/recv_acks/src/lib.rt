@@ -1,4 +1,5 @@
-// ACK and NACK written from the receiver: document 01, "Write ACK or NACK". Refusals: 9, 12.
+// ACK and NACK written from the receiver: document 01, "Write ACK or NACK". Refused are `NotSound` (9) and
+// `NoRoom` (12).
 
 #![tactic(auto)]
 
@@ -13,7 +14,7 @@ use base::Refusal;
 use receiver::RecvQueue;
 
 // The unsent as ACK. "Sending the unsent empties them." (`as usize`, here and below: u32 has no From to it.)
-#[tactic(auto, using(crate::proofs::WriteCases::pending_few, crate::proofs::WriteCases::unsent_rising))]
+#[tactic(auto, using(crate::proofs::WriteCases::unsents))]
 pub fn write_unsent(queue: &mut RecvQueue, out: &mut [u8]) -> Result<usize, Refusal>
     ensures { wrote result queue.new out.new ≡ write_unsent_of queue.old out.old }
 {
@@ -24,10 +25,12 @@ pub fn write_unsent(queue: &mut RecvQueue, out: &mut [u8]) -> Result<usize, Refu
 }
 
 // The missing as NACK.
+#[tactic(auto, using(crate::proofs::WriteCases::missing_unsound))]
 pub fn write_missing(queue: &RecvQueue, out: &mut [u8]) -> Result<usize, Refusal>
     ensures { wrote result queue.now out.new ≡ write_missing_of queue.now out.old }
 {
     sound_queue::sound_queue(queue)?;
+    // (An array, as there is no heap: a window has no more places.)
     let mut list = [0u32; base::MAX_LIST];
     let m = queue.datagrams.missing(&mut list);
     ack::write_list(out, true, &list[..m])
@@ -48,7 +51,8 @@ fn write_numbers(out: &mut [u8], numbers: &[u32], rising: bool) -> Result<usize,
     }
 }
 
-// The numbers, sorted in a copy, as ACK. The array is made here alone, so that a call which needs no copy makes none.
+// The numbers, sorted in a copy, as ACK. The copy is an array, as there is no heap; it is made here alone, so that a call which needs none
+// makes none.
 #[inline(never)]
 fn write_sorted(out: &mut [u8], numbers: &[u32]) -> Result<usize, Refusal>
     requires { length numbers.now ≤ max_unsent }

@@ -1,5 +1,5 @@
 // The receiver's answers in document 01's numbers: a refusal's, or 0 and the values, which are all 0 beside a refusal. The exported calls
-// and the programs tell them alike; what a writing answers is told by `exports::AckWritten`.
+// tell them; what a writing answers is told by `exports::AckWritten`.
 
 #![tactic(auto)]
 
@@ -12,11 +12,11 @@ ghost use Rattle.recv_answers.specs.Told.{receive_told, take_told};
 
 use base::Refusal;
 use recv_steps::Received;
-use recv_take::Taken;
+use recv_take::{Body, Taken};
 
 // C lays these structs out: a number, 0 or the refusal's, and a flag stand beside the values, in place of a `Result` and an enum.
 #[repr(C)]
-#[derive(Clone, Copy, Default)]
+#[derive(Clone, Copy, Debug, Default, PartialEq, Eq)]
 pub struct QueueReceived {
     pub number: u32,
     pub ready: u32,
@@ -46,7 +46,7 @@ impl From<Result<Received, Refusal>> for QueueReceived {
 
 // The message's bytes are the first `len` of the joining buffer where it is joined, else `len` of the store from `start` on.
 #[repr(C)]
-#[derive(Clone, Copy, Default)]
+#[derive(Clone, Copy, Debug, Default, PartialEq, Eq)]
 pub struct QueueTaken {
     pub number: u32,
     pub kind: u8,
@@ -63,39 +63,21 @@ impl From<Result<Taken, Refusal>> for QueueTaken {
     #[tactic(auto, unfolding(recv_take::specs::Outcome::handed_of))]
     fn from(r: Result<Taken, Refusal>) -> QueueTaken {
         match r {
-            Ok(
-                Taken::InStore {
-                    kind,
-                    channel,
-                    order,
+            Ok(t) => {
+                let (joined, start, len) = match t.body {
+                    Body::InStore { start, len } => (false, start, len),
+                    Body::Joined { len } => (true, 0, len),
+                };
+                QueueTaken {
+                    number: 0,
+                    kind: t.kind,
+                    channel: t.channel,
+                    order: t.order,
+                    joined,
                     start,
                     len,
-                },
-            ) => QueueTaken {
-                number: 0,
-                kind,
-                channel,
-                order,
-                joined: false,
-                start,
-                len,
-            },
-            Ok(
-                Taken::Joined {
-                    kind,
-                    channel,
-                    order,
-                    len,
-                },
-            ) => QueueTaken {
-                number: 0,
-                kind,
-                channel,
-                order,
-                joined: true,
-                start: 0,
-                len,
-            },
+                }
+            }
             Err(e) => QueueTaken {
                 number: e.into(),
                 ..QueueTaken::default()
@@ -104,9 +86,9 @@ impl From<Result<Taken, Refusal>> for QueueTaken {
     }
 }
 
-// What make new answers, which gives no values: for C, a number alone.
+// What make new answers, which gives no values: for C, a number alone. (Beside `exports::number_of`, as an open function keeps its name.)
 pub fn new_number(made: Result<(), Refusal>) -> u32
     ensures { result ≡ number_of (answer made) }
 {
-    made.err().map_or(0, u32::from)
+    exports::number_of(made)
 }

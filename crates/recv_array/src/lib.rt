@@ -20,7 +20,8 @@ use recv_queue::{CellRecord, Profile, Received, RecvQueue, Taken};
 // How many records a program holds, in use or not.
 pub const HELD: usize = 256;
 
-#[derive(Clone, Copy)]
+// The records are an array and `cells` says how many are in use: there is no heap, and a program may use fewer than there are.
+#[derive(Clone, Copy, Debug, PartialEq, Eq)]
 pub struct Receiver {
     pub queue: RecvQueue,
     pub records: [CellRecord; HELD],
@@ -28,7 +29,8 @@ pub struct Receiver {
 }
 
 impl Receiver {
-    // Make new for a profile, over so many unused records; the receiver is handed out beside a refusal too.
+    // Make new for a profile, over so many unused records. (A pair: `Result<Receiver, _>` would promise less, as the receiver beside a
+    // refusal is determined too.)
     #[tactic(auto, unfolding(crate::specs::Held::unused_cells, cells::specs::Cell::empty_cell))]
     pub fn new(cells: usize, store: &[u8], profile: Profile) -> (Receiver, Result<(), Refusal>)
         ensures made { made_new result.1 result.0.queue (in_use result.0)
@@ -80,7 +82,8 @@ impl Receiver {
     }
 }
 
-// ---- over the first n records, or all of them
+// ---- over the first n records, or all of them (functions of their own: a proof knows how long the array is only where it is lent; each
+// cuts them itself, as of a function that lends the front of a slice the proof that the rest stays did not close)
 
 fn make_first(
     queue: &mut RecvQueue,

@@ -10,6 +10,7 @@ ghost use Rattle.recv_channel.specs.Advance.{advanced_all};
 
 use receiver::{Channel, Nexts, RecvQueue};
 
+// The copy. (A `From` could stand only in `receiver`, away from `advance_all`, which takes the copy back: the two are read together.)
 #[tactic(auto, unfolding(receiver::specs::Parts::nexts_of, receiver::specs::Queue::profile_in))]
 pub fn nexts_of(queue: &RecvQueue) -> Nexts
     ensures { result ≡ nexts_of queue.now }
@@ -37,9 +38,13 @@ fn advanced(mut channel: Channel, next: u32, newest: u32) -> Channel
     channel
 }
 
-// Every record is moved to the numbers of the one at its place.
+// Every record is moved to the numbers of the one at its place: each where it stands, as document 01 asks, so the array is not copied. (The
+// numbers are read by their place: of `iter_mut().zip(..)` a proof learns nothing of the records.)
 #[tactic(auto, using(crate::proofs::Laws::one_more))]
-fn advance_each(channels: &mut [Channel; 32], numbers: &[Channel; 32])
+fn advance_each(
+    channels: &mut [Channel; base::MAX_ORD_CHANS as usize],
+    numbers: &[Channel; base::MAX_ORD_CHANS as usize],
+)
     ensures { channels.new ≡ numbers.now }
 {
     for (c, channel) in channels.iter_mut().enumerate() {

@@ -11,7 +11,7 @@ ghost use Rattle.recv_lent.specs.Settled.{next_pending, with_number};
 use receiver::{Nexts, RecvQueue};
 use window::ReliableWindow;
 
-// One more number is unsent; no more than 1,024 are.
+// One more number is unsent; no more than 1,024 are. (`join_number` asks the same: each of the two promises what it leaves for any count.)
 #[tactic(auto, unfolding(crate::specs::Settled::next_pending, base::specs::If::if_lt, base::specs::If::if_true))]
 fn next_pending(k: u32) -> u32
     ensures { result ≡ next_pending k }
@@ -19,8 +19,8 @@ fn next_pending(k: u32) -> u32
     if k < base::MAX_UNSENT { k + 1 } else { k }
 }
 
-// The reliable numbers' window as the frames left it, and the datagram's number among the accepted and the unsent. Receive has found that
-// the number is neither old nor beyond reach.
+// The reliable numbers' window as the frames left it, and the datagram's number among the accepted and the unsent. (Receive has found
+// before the frames that the number is neither old nor beyond reach, so the insertion's own answer tells nothing more.)
 #[tactic(auto, unfolding(crate::specs::Settled::with_number))]
 fn accept(queue: &mut RecvQueue, reliables: &ReliableWindow, number: u32, ascending: bool)
     ensures { queue.new ≡ with_number queue.old reliables.now number ascending }

@@ -1,9 +1,16 @@
 -- A sequence number remembered: request 1, "each channel remembers the highest sequence number it made ready by kind 1".
 use Rattle.std.specs.Prelude.{ℕ, ◌+◌}
 use Rattle.base.specs.If.{if_lt}
-use Rattle.base.specs.Limits.{numbers24}
+use Rattle.base.specs.Limits.{numbers24, max_ord_chans}
 use Rattle.receiver.specs.declared.Nexts.{Nexts}
 use Rattle.receiver.specs.Parts.{with_newest}
+use Rattle.recv_memory.specs.declared.Memory.{Memory}
+use Rattle.recv_memory.specs.declared.Memory.TheVariants.{Of, Own}
+
+-- a memory's number: the channels' come first, the receiver's own is the next
+abbrev pub memory_number : Memory → ℕ
+memory_number (Of c) = c
+memory_number Own = max_ord_chans
 
 -- memory m is the number s; one of 2^24 or more is no sequence number
 unfoldable pub remembered : ℕ → ℕ → Nexts → Nexts

@@ -1,14 +1,24 @@
-// The memories of newest sequence numbers among the nexts (request 1). Each is the newest number plus 1, and 0 for none.
+// The memories of newest sequence numbers among the nexts, by which step 4 drops a sequenced message that comes late (docs/DIFFERENCES.md's
+// request 1). Each is the newest number plus 1, and 0 for none: a number and no `Option`, since the channels' are copied from the receiver,
+// which other languages lay out, and the definitions count the receiver's own in the same way.
 
 #![tactic(auto)]
 
 ghost use Rattle.std.specs.Prelude.{◌≡◌};
 ghost use Rattle.bare.specs.Bare.{memory_of, older};
 ghost use Rattle.receiver.specs.Parts.{newest_at, with_newest};
-ghost use Rattle.recv_memory.specs.Remembered.{remembered};
+ghost use Rattle.recv_memory.specs.Remembered.{memory_number, remembered};
 
-use receiver::Nexts;
-use reliability::Profile;
+use receiver::{Channel, Nexts};
+use reliability::{Profile, Reliability};
+
+// A channel's memory, or the receiver's own. (The definitions count the memories: the receiver's own is number 32. The open functions take
+// any channel, so a channel 32, which no frame has, names it too: `Own | Of(MAX_ORD_CHANS)`.)
+#[derive(Clone, Copy, Debug, PartialEq, Eq)]
+enum Memory {
+    Of(u8),
+    Own,
+}
 
 // "at or below it": is the sequence number no newer than what its memory holds?
 #[tactic(auto, unfolding(bare::specs::Bare::older))]
@@ -29,39 +39,44 @@ pub fn remember(nexts: &mut Nexts, kind: u8, channel: u8, sequence: u32)
     }
 }
 
-// Kind 1 goes by its channel's memory, kind 4 by the receiver's own, or in the C++ profile by its channel's.
+// Kind 1 goes by its channel's memory, kind 4 by the receiver's own, or in the C++ profile by its channel's. (The kind is a frame's number:
+// the open functions answer for any kind, and a `Reliability` would ask more of their callers.)
 #[tactic(auto, unfolding(bare::specs::Bare::memory_of))]
-fn memory_of(nexts: &Nexts, kind: u8, channel: u8) -> u8
-    ensures { result ≡ memory_of nexts.now.profile kind channel }
+fn memory_of(nexts: &Nexts, kind: u8, channel: u8) -> Memory
+    ensures { memory_number result ≡ memory_of nexts.now.profile kind channel }
 {
-    if kind == 1 {
-        return channel;
+    if kind == u8::from(Reliability::UnreliableSeq) {
+        return Memory::Of(channel);
     }
     match nexts.profile {
-        Profile::Console => base::MAX_ORD_CHANS,
-        Profile::Cpp => channel,
+        Profile::Console => Memory::Own,
+        Profile::Cpp => Memory::Of(channel),
     }
 }
 
-// The receiver's own memory stands after the channels'; past it there is none.
+// The newest number plus 1; 0 where the memory is not there. (`channels` as a slice tells the proof how many they are.)
 #[tactic(auto, using(crate::proofs::Laws::newest_channel, crate::proofs::Laws::newest_own, crate::proofs::Laws::newest_none))]
-fn newest_at(nexts: &Nexts, memory: u8) -> u32
-    ensures { result ≡ newest_at nexts.now memory }
+fn newest_at(nexts: &Nexts, memory: Memory) -> u32
+    ensures { result ≡ newest_at nexts.now (memory_number memory) }
 {
-    match nexts.channels.get(usize::from(memory)) {
-        Some(channel) => channel.newest,
-        None if memory == base::MAX_ORD_CHANS => nexts.newest,
-        None => 0,
+    let channels: &[Channel] = &nexts.channels;
+    match memory {
+        Memory::Own | Memory::Of(base::MAX_ORD_CHANS) => nexts.newest,
+        Memory::Of(c) => channels
+            .get(usize::from(c))
+            .map_or(0, |channel| channel.newest),
     }
 }
 
 #[tactic(auto, unfolding(receiver::specs::Parts::with_newest))]
-fn set_newest(nexts: &mut Nexts, memory: u8, newest: u32)
-    ensures { nexts.new ≡ with_newest memory newest nexts.old }
+fn set_newest(nexts: &mut Nexts, memory: Memory, newest: u32)
+    ensures { nexts.new ≡ with_newest (memory_number memory) newest nexts.old }
 {
-    if memory < base::MAX_ORD_CHANS {
-        nexts.channels[usize::from(memory)].newest = newest;
-    } else if memory == base::MAX_ORD_CHANS {
-        nexts.newest = newest;
+    match memory {
+        Memory::Own | Memory::Of(base::MAX_ORD_CHANS) => nexts.newest = newest,
+        Memory::Of(c) if c < base::MAX_ORD_CHANS => {
+            nexts.channels[usize::from(c)].newest = newest;
+        }
+        Memory::Of(_) => {}
     }
 }

@@ -22,7 +22,7 @@ module _ (p : Profile) (q : RecvQueue) (rs : List Cell) (st : List ℕ) {b : Boo
   unfolding made_new make_new_of
   makes_none e = true-no _ _ _ _ (sym fit ∙ e) refl
 
-  pub makes-some : b ≡ true → (made : RecvQueue) → made ≡ new_queue p → (cleared : List Cell) → cleared ≡ replicate (length rs) blank
+  pub makes_some : b ≡ true → (made : RecvQueue) → made ≡ new_queue p → (cleared : List Cell) → cleared ≡ replicate (length rs) blank
       → made_new (Ok tt) made cleared ≡ make_new_of p q rs st
   unfolding made_new make_new_of empty_cell
-  makes-some e made f cleared g = rw (f, g) (true-yes _ _ _ _ (sym fit ∙ e) refl)
+  makes_some e made f cleared g = rw (f, g) (true-yes _ _ _ _ (sym fit ∙ e) refl)

@@ -13,7 +13,8 @@ use receiver::{Channel, RecvQueue};
 use reliability::Profile;
 use window::ReliableWindow;
 
-// "old records aren't looked at, all become unused". Refusal: 9.
+// "old records aren't looked at, all become unused". Refusal: 9 (NotSound).
+#[tactic(auto, using(crate::proofs::Cases::makes_none, crate::proofs::Cases::makes_some))]
 pub fn make_new(
     queue: &mut RecvQueue,
     records: &mut [CellRecord],
@@ -31,7 +32,7 @@ pub fn make_new(
     Ok(())
 }
 
-// "At first each next is 0 and all else is empty." A caller has such a receiver to lend.
+// "At first each next is 0 and all else is empty." A caller has such a receiver to lend. (`as usize`: a const can call no From.)
 #[tactic(auto, unfolding(receiver::specs::Queue::new_queue))]
 pub fn new_queue(profile: Profile) -> RecvQueue
     ensures { result ≡ new_queue profile }
@@ -39,27 +40,17 @@ pub fn new_queue(profile: Profile) -> RecvQueue
     RecvQueue {
         datagrams: ReliableWindow::new(),
         reliables: ReliableWindow::new(),
-        channels: [Channel { next: 0, newest: 0 }; 32],
-        unsent: [0u32; 1024],
+        channels: [Channel::default(); base::MAX_ORD_CHANS as usize],
+        unsent: [0; base::MAX_UNSENT as usize],
         pending: 0,
         newest: 0,
         profile: u32::from(profile),
     }
 }
 
+// The record of an unused cell: all its numbers are 0. (Beside `default`, as the name says what they mean: callers fill an array with it.)
 pub fn unused() -> CellRecord
     ensures { result ≡ blank }
 {
-    CellRecord {
-        used: cells::UNUSED,
-        kind: 0,
-        channel: 0,
-        id: 0,
-        index: 0,
-        count: 0,
-        length: 0,
-        sequence: 0,
-        order: 0,
-        turn: 0,
-    }
+    CellRecord::default()
 }

@@ -2,10 +2,9 @@
 use mathlib.Core.Path.{◌≡◌, refl, sym, ◌∙◌, ap}
 use Rattle.std.specs.Prelude.{Result, Ok, Err}
 use Prim.Native.Nat.{ℕ, ◌+◌, ◌*◌, ◌≤◌, min}
-use native.Mathlib.Omega.{arith}
 use mathlib.Core.Bool.{Bool, true, false}
-use mathlib.Core.List.{List, [], ◌++◌, map, append-nil}
-use lib.ListN.{length, take, drop, length-map, take-append-drop}
+use mathlib.Core.List.{List, ◌++◌, map}
+use lib.ListN.{length, take, drop, take-append-drop}
 use lib.Seq.{length-take-le, take_all}
 use Rattle.std.proofs.lemmas.List.{drop_all}
 use Rattle.base.specs.Answer.{Answer, refused, gives}
@@ -20,9 +19,8 @@ use Rattle.frame.specs.Frames.{read_frames_of}
 use Rattle.cells.specs.Cell.{Cell}
 use Rattle.cells.specs.Sound.{lengths}
 use Rattle.rows.specs.declared.Row.{Row}
-use Rattle.rows.specs.Rows.{cell_of, stored_row}
-use Rattle.row_slots.specs.First.{first_cells}
-use Rattle.row_slots.proofs.First.{first-cells-of, stored-cells}
+use Rattle.rows.specs.Rows.{cell_of, stored_row, cells_in}
+use Rattle.row_slots.proofs.First.{stored-cells}
 use Rattle.receiver.specs.declared.RecvQueue.{RecvQueue}
 use Rattle.receiver.specs.Queue.{profile_in}
 use Rattle.receiver.specs.Receive.{Report, Received, refused_result, accepted_result, receive_of}
@@ -33,7 +31,8 @@ use Rattle.recv_prefix.proofs.Enough.{receive-enough}
 use Rattle.recv_prefix.proofs.Used.{last_within}
 use Rattle.recv_prefix.proofs.Needs.{room-read, receive-few}
 use Rattle.recv_steps.specs.declared.Received as Code
-use Rattle.recv_steps.specs.Outcome.{RowsReceived, report_of, received_rows, rows_left, receive_rows_of}
+use Rattle.recv_steps.specs.Outcome.{RowsReceived, report_of, received_rows, rows_left, rows_outcome, receive_rows_of}
+use Rattle.recv_queue.specs.Records.{Converted}
 use Rattle.recv_queue.specs.Answers.{received}
 
 -- how many records a call works on
@@ -84,21 +83,20 @@ first-leaves q n cs st d =
 -- ---- the call's promise, of what the calls in its body return and leave: the core gets the first k records as the rows ls, answers r and
 -- leaves the receiver h, the rows ws and the store s
 module _ (q : RecvQueue) (rs : List Cell) (st d : List ℕ) (ls ws : List Row) (h : RecvQueue) (s : List ℕ) (k : ℕ) (is : Enough q rs st d k)
-    (load : ls ≡ map stored_row (take k rs)) where
+    (loaded : Converted (λ c r. r ≡ stored_row c) (take k rs) ls) where
+  load : ls ≡ map stored_row (take k rs)
+  load = loaded stored_row (λ c r e. e)
+
   -- the first k records decide
   abbrev first : Received
   first = receive_first q (length rs) (take k rs) st d
 
-  said : (r : Result Code.Received Refusal) → received_rows r h ws s ≡ receive_rows_of q k (length rs) ls st d → received_rows r h ws s
+  said : (r : Result Code.Received Refusal) → received_rows r h ws s ≡ receive_rows_of q (length rs) ls st d → received_rows r h ws s
       ≡ record { answer = first.answer; queue = first.queue; rows = rows_left first.answer ls first.records; store = first.store }
-  unfolding receive_rows_of
+  unfolding receive_rows_of rows_outcome cells_in
   said r core =
-      let few = length-take-le k rs (rw is (needs_within (profile_in q) rs (length st) d)) in
-      let long : length ls ≡ k = ap length load ∙ length-map (take k rs) stored_row ∙ few in
-      let whole : take k ls ≡ ls = take_all k ls (omega arith) in
-      let none : drop k ls ≡ [] = drop_all k ls (omega arith) in
-      let cells : first_cells k ls ≡ take k rs = first-cells-of k ls ∙ ap (map cell_of) (whole ∙ load) ∙ stored-cells (take k rs) in
-      core ∙ rw (cells, whole, none, append-nil)
+      let cells : cells_in ls ≡ take k rs = ap (map cell_of) load ∙ stored-cells (take k rs) in
+      core ∙ rw cells
 
   received-of : (r : Result Code.Received Refusal) (zs : List Cell) → zs ≡ first.records ++ drop k rs → answer_by report_of r ≡ first.answer
       → h ≡ first.queue → s ≡ first.store → received r h zs s ≡ receive_of q rs st d
@@ -106,7 +104,7 @@ module _ (q : RecvQueue) (rs : List Cell) (st d : List ℕ) (ls ws : List Row) (
   received-of r zs e answer queue store = rw (e, answer, queue, store) (sym (receive-enough q rs st d k is))
 
   -- it refuses
-  pub received_err : (e : Refusal) → received_rows (Err e) h ws s ≡ receive_rows_of q k (length rs) ls st d
+  pub received_err : (e : Refusal) → received_rows (Err e) h ws s ≡ receive_rows_of q (length rs) ls st d
       → received (Err e) h rs s ≡ receive_of q rs st d
   unfolding received_rows
   received_err e core =
@@ -117,7 +115,7 @@ module _ (q : RecvQueue) (rs : List Cell) (st d : List ℕ) (ls ws : List Row) (
       answer (ap (λ (x : RowsReceived). x.queue) o) (ap (λ (x : RowsReceived). x.store) o)
 
   -- it accepts
-  pub received_ok : (x : Code.Received) (zs : List Cell) → received_rows (Ok x) h ws s ≡ receive_rows_of q k (length rs) ls st d
+  pub received_ok : (x : Code.Received) (zs : List Cell) → received_rows (Ok x) h ws s ≡ receive_rows_of q (length rs) ls st d
       → zs ≡ map cell_of ws → received (Ok x) h (zs ++ drop k rs) s ≡ receive_of q rs st d
   unfolding received_rows rows_left
   received_ok x zs core save =

@@ -5,7 +5,7 @@ use Prim.Native.Nat.{ℕ, ◌≤◌, max}
 use native.Mathlib.Omega.{arith}
 use mathlib.Core.Bool.{Bool, true, false}
 use mathlib.Core.List.{List, ◌++◌, map}
-use lib.ListN.{length, take, drop, length-map, take-append-drop}
+use lib.ListN.{length, take, drop, take-append-drop}
 use lib.Seq.{length-take-le, take_all}
 use Rattle.base.specs.declared.refusal.Refusal.{Refusal}
 use Rattle.base.specs.Refusals.{answer_by}
@@ -16,9 +16,8 @@ use Rattle.cells.specs.Cell.{Cell}
 use Rattle.cells.specs.Records.{change_cells}
 use Rattle.cells.specs.Sound.{lengths}
 use Rattle.rows.specs.declared.Row.{Row}
-use Rattle.rows.specs.Rows.{cell_of, stored_row}
-use Rattle.row_slots.specs.First.{first_cells}
-use Rattle.row_slots.proofs.First.{first-cells-of, stored-cells}
+use Rattle.rows.specs.Rows.{cell_of, cells_in, stored_row}
+use Rattle.row_slots.proofs.First.{stored-cells}
 use Rattle.receiver.specs.declared.RecvQueue.{RecvQueue}
 use Rattle.receiver.specs.Take.{take_of}
 use Rattle.recv_prefix.specs.Needs.{last_used, take_needs}
@@ -29,7 +28,7 @@ use Rattle.recv_prefix.proofs.Needs.{take-few}
 use Rattle.recv_take.specs.declared.TakenRows.{TakenRows}
 use Rattle.recv_take.specs.Outcome.{handed_of, take_result, without_turn, turn_given, taken_rows, take_rows_of, records_left}
 use Rattle.recv_take.proofs.First.{whole_take}
-use Rattle.recv_queue.specs.Records.{record_left_by}
+use Rattle.recv_queue.specs.Records.{Converted, record_left_by}
 
 -- how many records a call works on
 abbrev Enough : List Cell → List ℕ → ℕ → Type 0
@@ -60,24 +59,24 @@ module _ (rs : List Cell) (n : ℕ) where
 -- ---- the call's promise, of what the calls in its body return and leave: the core gets the first k records as the rows ls, answers r and
 -- leaves the joining buffer u
 module _ (q : RecvQueue) (rs : List Cell) (st j : List ℕ) (ls : List Row) (u : List ℕ) (k : ℕ) (is : Enough rs st k)
-    (load : ls ≡ map stored_row (take k rs)) where
-  said : (r : Result TakenRows Refusal) → taken_rows r u ≡ take_rows_of q k (length rs) ls st j
+    (loaded : Converted (λ c r. r ≡ stored_row c) (take k rs) ls) where
+  load : ls ≡ map stored_row (take k rs)
+  load = loaded stored_row (λ c r e. e)
+
+  said : (r : Result TakenRows Refusal) → taken_rows r u ≡ take_rows_of q (length rs) ls st j
       → take_result (without_turn r) (records_left (answer_by handed_of (without_turn r)) (turn_given r) (take k rs) ++ drop k rs) u
       ≡ take_of q rs st j
   unfolding take_result beside_taken
   said r core =
-      let few = length-take-le k rs (rw is (needs_within rs (length st))) in
-      let long : length ls ≡ k = ap length load ∙ length-map (take k rs) stored_row ∙ few in
-      let cells : first_cells k ls ≡ take k rs = first-cells-of k ls ∙ ap (map cell_of) (take_all k ls (omega arith) ∙ load)
-      ∙ stored-cells (take k rs) in
-      ap (beside_taken (drop k rs)) (rw cells at (whole_take q k (length rs) ls st j r u core)) ∙ sym (take-enough q rs st j k is)
+      let cells : cells_in ls ≡ take k rs = unfold cells_in in ap (map cell_of) load ∙ stored-cells (take k rs) in
+      ap (beside_taken (drop k rs)) (rw cells at (whole_take q (length rs) ls st j r u core)) ∙ sym (take-enough q rs st j k is)
 
   -- it refuses
-  pub taken_err : (r : Refusal) → taken_rows (Err r) u ≡ take_rows_of q k (length rs) ls st j → take_result (Err r) rs u ≡ take_of q rs st j
+  pub taken_err : (r : Refusal) → taken_rows (Err r) u ≡ take_rows_of q (length rs) ls st j → take_result (Err r) rs u ≡ take_of q rs st j
   taken_err r core = ap (λ (cs : List Cell). take_result (Err r) cs u) (sym (take-append-drop k rs)) ∙ said (Err r) core
 
   -- it gives a message
-  pub taken_ok : (t : TakenRows) (zs : List Cell) → taken_rows (Ok t) u ≡ take_rows_of q k (length rs) ls st j
+  pub taken_ok : (t : TakenRows) (zs : List Cell) → taken_rows (Ok t) u ≡ take_rows_of q (length rs) ls st j
       → zs ≡ map (record_left_by t.turn) (take k rs) → take_result (Ok t.taken) (zs ++ drop k rs) u ≡ take_of q rs st j
   unfolding change_cells record_left_by
   taken_ok t zs core free = ap (λ (cs : List Cell). take_result (Ok t.taken) (cs ++ drop k rs) u) free ∙ said (Ok t) core

@@ -1,6 +1,10 @@
--- What a take leaves of the records.
-use Rattle.std.specs.Prelude.{ℕ, cond}
+-- The records as rows and back, and what a take leaves of the records.
+use Rattle.std.specs.Prelude.{ℕ, cond, List, map, ◌≡◌}
 use Rattle.cells.specs.Cell.{Cell, bears, ready_as, empty_cell}
+
+-- each of ys is what R gives of the one at its place of xs: they are f's values of these, where R gives f's values
+abbrev pub Converted : {A B : Type 0} → (A → B → Type 0) → List A → List B → Type 0
+Converted {A} {B} R xs ys = (f : A → B) → ((a : A) (b : B) → R a b → b ≡ f a) → ys ≡ map f xs
 
 -- what a take of the ready message of that turn leaves of a record
 unfoldable pub record_left_by : ℕ → Cell → Cell

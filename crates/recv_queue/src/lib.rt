@@ -1,16 +1,16 @@
 // "One record stands beside each cell, in a lent slice of structs": receive and take over such a slice, and the few functions that touch
 // it; the other calls are offered here too. The cores of receive and take work on rows.
+// (The calls are functions and no methods: a must-fail edit costs a check of its crate, so each call has a crate of its own, and a method
+// stands in its struct's. The queue, the records and the store are lent one by one, as other languages hold them apart.)
 
 #![tactic(auto)]
 
 ghost use Rattle.std.specs.Prelude.{◌≡◌, ◌<◌, ◌≤◌, ◌-◌, ◌⊎◌, false, length, map, drop};
 ghost use Rattle.base.specs.Limits.{max_cells};
 ghost use Rattle.base.specs.Lists.{every};
-ghost use Rattle.cells.specs.Cell.{bears, ready_as};
-ghost use Rattle.rows.specs.Rows.{cell_of, stored_row};
 ghost use Rattle.recv_prefix.specs.First.{is_unused};
 ghost use Rattle.recv_prefix.specs.Needs.{last_used};
-ghost use Rattle.recv_queue.specs.Records.{record_left_by};
+ghost use Rattle.recv_queue.specs.Records.{Converted, record_left_by};
 
 use rows::Row;
 
@@ -25,7 +25,7 @@ pub use recv_acks::{write_missing, write_unsent};
 pub use recv_body::body;
 pub use recv_new::{make_new, new_queue, unused};
 pub use recv_steps::Received;
-pub use recv_take::Taken;
+pub use recv_take::{Body, Taken};
 pub use reliability::Profile;
 pub use taking::take;
 
@@ -41,35 +41,18 @@ const MANY_CELLS: usize = 1024;
 
 // ---- the records as rows, and back
 
+// Each of `to` is made of the one at its place. (By the place: of `iter_mut().zip(..)` a proof learns nothing of the elements.)
 #[tactic(auto, using(crate::proofs::Copied::copied_more, crate::proofs::Copied::copied_all))]
-fn load(records: &[CellRecord], rows: &mut [Row])
-    requires { length rows.old ≡ length records.now }
-    ensures { rows.new ≡ map stored_row records.now }
+fn convert<A: Copy, B: Copy + From<A>>(from: &[A], to: &mut [B])
+    requires { length to.old ≡ length from.now }
+    ensures { Converted B.from_gives from.now to.new }
 {
-    for (i, r) in records.iter().enumerate() {
-        rows[i] = (*r).into();
-    }
-}
-
-#[tactic(auto, using(crate::proofs::Copied::copied_more, crate::proofs::Copied::copied_all))]
-fn save(records: &mut [CellRecord], rows: &[Row])
-    requires { length rows.now ≡ length records.old }
-    ensures { records.new ≡ map cell_of rows.now }
-{
-    for (i, row) in rows.iter().enumerate() {
-        records[i] = (*row).into();
+    for (i, x) in from.iter().enumerate() {
+        to[i] = (*x).into();
     }
 }
 
 // ---- which are in use
-
-// Is it of the ready message of that turn?
-#[tactic(auto, unfolding(cells::specs::Cell::bears))]
-fn is_taken(r: CellRecord, turn: u32) -> bool
-    ensures { result ≡ bears (ready_as turn) r }
-{
-    (r.used == cells::READY) & (r.turn == turn)
-}
 
 // "A taken message frees its cells": those of the records that are its own.
 #[tactic(auto, using(crate::proofs::Freed::freed_here, crate::proofs::Freed::freed_left))]
@@ -77,7 +60,7 @@ fn free_turn(records: &mut [CellRecord], turn: u32)
     ensures { records.new ≡ map (record_left_by turn) records.old }
 {
     for r in records.iter_mut() {
-        if is_taken(*r, turn) {
+        if row_tests::is_ready(r, turn) {
             *r = recv_new::unused();
         }
     }
@@ -121,25 +104,26 @@ fn last_used(records: &[CellRecord]) -> usize
 
 // ---- rows to work on
 
-// (Of `Row::default()`, an array is written twice: as zeros, and row by row.)
+// (Of `Row::default()`, an array of 256 rows or more is written twice: as zeros, and row by row.)
 const BLANK: Row = Row {
-    used: 0,
-    kind: 0,
-    channel: 0,
-    id: 0,
-    index: 0,
-    count: 0,
-    length: 0,
-    sequence: 0,
-    order: 0,
-    turn: 0,
+    cell: CellRecord {
+        used: 0,
+        kind: 0,
+        channel: 0,
+        id: 0,
+        index: 0,
+        count: 0,
+        length: 0,
+        sequence: 0,
+        order: 0,
+        turn: 0,
+    },
     place: 0,
 };
 
-// f on the first k of so many blank rows. It is a function of its own for each size, so that a large array stays out of the frame of every
-// call.
-#[inline(never)]
-fn on_zeros<const CELLS: usize, R, F: FnMut(&mut [Row]) -> R>(k: usize, f: &mut F) -> R
+// f on the first k of so many blank rows. (f is lent, here and below: of an `FnMut` or `FnOnce` by value, the proof of what it leaves of
+// the caller's slices did not close.)
+fn on_blank_rows<const CELLS: usize, R, F: FnMut(&mut [Row]) -> R>(k: usize, f: &mut F) -> R
     requires size { CELLS ≤ max_cells }
     requires few { k ≤ CELLS }
     requires callable { (rows : _) → length rows.now ≡ k → F.pre f.old rows }
@@ -149,6 +133,18 @@ fn on_zeros<const CELLS: usize, R, F: FnMut(&mut [Row]) -> R>(k: usize, f: &mut 
     f(&mut rows[..k])
 }
 
+// The same, never inlined, so that a large array stays out of the frame of every call. What f holds and what it gives then go through
+// memory, which takes a call 15 ns more: few rows lie in the caller's frame.
+#[inline(never)]
+fn on_many_rows<const CELLS: usize, R, F: FnMut(&mut [Row]) -> R>(k: usize, f: &mut F) -> R
+    requires size { CELLS ≤ max_cells }
+    requires few { k ≤ CELLS }
+    requires callable { (rows : _) → length rows.now ≡ k → F.pre f.old rows }
+    ensures { (rows : _) × (left : _) × (length rows.now ≡ k) × F.step f.old rows result left f.new }
+{
+    on_blank_rows::<CELLS, R, F>(k, f)
+}
+
 // f on rows for k records.
 fn with_rows<R, F: FnMut(&mut [Row]) -> R>(k: usize, f: &mut F) -> R
     requires few { k ≤ max_cells }
@@ -156,10 +152,10 @@ fn with_rows<R, F: FnMut(&mut [Row]) -> R>(k: usize, f: &mut F) -> R
     ensures { (rows : _) × (left : _) × (length rows.now ≡ k) × F.step f.old rows result left f.new }
 {
     match k {
-        ..=FEW_CELLS => on_zeros::<FEW_CELLS, R, F>(k, f),
-        ..=SMALL_CELLS => on_zeros::<SMALL_CELLS, R, F>(k, f),
-        ..=MIDDLE_CELLS => on_zeros::<MIDDLE_CELLS, R, F>(k, f),
-        ..=MANY_CELLS => on_zeros::<MANY_CELLS, R, F>(k, f),
-        _ => on_zeros::<{ base::MAX_CELLS }, R, F>(k, f),
+        ..=FEW_CELLS => on_blank_rows::<FEW_CELLS, R, F>(k, f),
+        ..=SMALL_CELLS => on_blank_rows::<SMALL_CELLS, R, F>(k, f),
+        ..=MIDDLE_CELLS => on_many_rows::<MIDDLE_CELLS, R, F>(k, f),
+        ..=MANY_CELLS => on_many_rows::<MANY_CELLS, R, F>(k, f),
+        _ => on_many_rows::<{ base::MAX_CELLS }, R, F>(k, f),
     }
 }

@@ -11,7 +11,7 @@ use receiver::RecvQueue;
 use recv_steps::Received;
 use rows::Row;
 
-// How many records a call works on.
+// How many records a call works on: none where the lengths do not fit, which the core, an open function, tests and refuses by itself.
 #[tactic(auto, using(crate::proofs::Receives::enough_read, crate::proofs::Receives::enough_none))]
 fn needed(queue: &RecvQueue, records: &[CellRecord], store: &[u8], datagram: &[u8]) -> usize
     ensures { result ≡ receive_needs (profile_in queue.now) (last_used records.now) (length records.now)
@@ -49,9 +49,9 @@ fn receive_in(
         ≡ receive_of queue.old records.old store.old datagram.now }
 {
     let k = rows.len();
-    super::load(&records[..k], rows);
-    let received = recv_steps::receive_rows(queue, rows, k, records.len(), store, datagram)?;
-    super::save(&mut records[..k], rows);
+    super::convert(&records[..k], rows);
+    let received = recv_steps::receive_rows(queue, rows, records.len(), store, datagram)?;
+    super::convert(rows, &mut records[..k]);
     Ok(received)
 }
 

@@ -10,7 +10,7 @@ use receiver::RecvQueue;
 use recv_take::Taken;
 use rows::Row;
 
-// How many records a call works on.
+// How many records a call works on: none where the lengths do not fit, which the core, an open function, tests and refuses by itself.
 #[tactic(auto, using(crate::proofs::Takes::enough_fit, crate::proofs::Takes::enough_none))]
 fn needed(records: &[CellRecord], store: &[u8]) -> usize
     ensures { result ≡ take_needs (last_used records.now) (length records.now) (length store.now) }
@@ -36,8 +36,8 @@ fn take_in(
         ≡ take_of queue.now records.old store.now joined.old }
 {
     let k = rows.len();
-    super::load(&records[..k], rows);
-    let given = recv_take::take_rows(queue, rows, k, records.len(), store, joined)?;
+    super::convert(&records[..k], rows);
+    let given = recv_take::take_rows(queue, rows, records.len(), store, joined)?;
     super::free_turn(&mut records[..k], given.turn);
     Ok(given.taken)
 }

@@ -9,7 +9,7 @@ use native.Mathlib.Omega.{arith}
 use lib.Dec.{eqb, leb}
 use lib.ListN.{length, length-map}
 use borrow.Author.Tests.{leb-true}
-use Rattle.base.specs.Limits.{max_cells}
+use Rattle.base.specs.Limits.{max_cells, max_ord_chans}
 use Rattle.base.specs.Lists.{count_of}
 use Rattle.base.proofs.Choices.{and_left, and_right}
 use Rattle.base.proofs.Counts.{count-length}
@@ -26,7 +26,7 @@ use Rattle.cells.proofs.SoundCascade.{Sound}
 use Rattle.cells.proofs.SoundRest.{begin-sound}
 use Rattle.cells.proofs.SoundTest.{sound-rest}
 use Rattle.rows.specs.declared.Row.{Row}
-use Rattle.rows.specs.Rows.{cell_of, stored_row, cells_in, mark_row}
+use Rattle.rows.specs.Rows.{cell_of, cells_in, mark_row}
 use Rattle.rows.proofs.Rows.{cells-length}
 use Rattle.row_ranks.specs.Renumber.{renumbered}
 use Rattle.row_ranks.proofs.Renumbering.{renumbered-is}
@@ -49,12 +49,12 @@ use Rattle.recv_steps.specs.Receives.{Numbered, ranked_rows, begun_rows}
 -- ---- places cleared
 
 stored_cells : (rs : List Row) → map cell_of (map stored rs) ≡ map cell_of rs
-unfolding stored stored_row cell_of
+unfolding stored
 stored_cells [] = refl
 stored_cells (r ∷ rs) = ap (λ (cs : List Cell). cell_of r ∷ cs) (stored_cells rs)
 
 stored-places : (rs : List Row) (r : Row) → Memᴰ r (map stored rs) → r.place ≡ 0
-unfolding stored stored_row
+unfolding stored
 stored-places rs r m = let a = Memᴰ.of_map stored rs m in sym (ap (λ (x : Row). x.place) a.2)
 
 -- ---- what `begin` leaves
@@ -91,9 +91,9 @@ module _ (q : RecvQueue) (rs : List Row) (st d : List ℕ) where
 
   -- ---- what the frames require
 
-  module _ {ascends : Bool} (n : Numbered q rs st d ascends) where
+  module _ {ascends : Bool} {number : ℕ} (n : Numbered q rs st d ascends number) where
     abbrev sound : sound_call q (cells_in rs) st ≡ true
-    sound = n.head.judged.sound
+    sound = n.sound
 
     pub few_rows : length rs ≤ max_cells
     few_rows = omega (arith, few, cells-length rs)
@@ -109,7 +109,7 @@ module _ (q : RecvQueue) (rs : List Row) (st d : List ℕ) where
       few_rows,
       length-map rs stored,
       changed-length (λ c. eqb c.used 3)
-          (λ r. mark_row 3 (count_of (before_cell r.turn) (map cell_of (map stored rs))) r) (map stored rs),
+          (λ r. mark_row 3 (count_of (before_cell r.cell.turn) (map cell_of (map stored rs))) r) (map stored rs),
     )
 
     begun-sound : (store : List ℕ) → Sound (next_at (nexts_of q)) (slots_in (begun_rows rs) store d) (count_of first_cell (cells_in rs))
@@ -125,12 +125,12 @@ module _ (q : RecvQueue) (rs : List Row) (st d : List ℕ) where
         (rw (stored_cells rs) (bodies-short q (map cell_of rs) st sound)))
 
     -- as the code finds them: it works on copies of the window and of the nexts
-    pub may_begin : {w : ReliableWindow} {ns : Nexts} {turn : ℕ} {rs' : List Row} → ns ≡ nexts_of q
+    pub may_begin : {w : ReliableWindow} {ns : Nexts} {turn : ℕ} {rs' : List Row} → length q.channels ≡ max_ord_chans → ns ≡ nexts_of q
         → turn ≡ count_of first_cell (cells_in rs) → rs' ≡ begun_rows rs → Begun w ns rs' turn d
-    may_begin en et er = rw (et, er, en) (record {
-      short = n.head.short;
+    may_begin channels en et er = rw (et, er, en) (record {
+      short = n.short;
       few = begun-few;
-      nexts = unfold nexts_of in n.head.judged.channels;
+      nexts = unfold nexts_of in channels;
       sound = begun-sound;
       fits = begun-fits;
       first = turn_few rs few_rows refl;

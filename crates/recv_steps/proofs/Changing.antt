@@ -1,11 +1,11 @@
 -- Changes of the rows, as the code makes them, as changes of the slots.
 -- Assumes nothing.
 use Prim.Native.Nat.{ℕ, suc, ◌≤◌, ◌<◌}
-use mathlib.Core.Path.{◌≡◌, refl, sym, ◌∙◌, ap, subst}
-use mathlib.Core.Bool.{false, true≢false}
+use mathlib.Core.Path.{◌≡◌, refl, sym, ◌∙◌, ap}
+use mathlib.Core.Bool.{true, false, true≢false}
 use mathlib.Core.List.{List, [], ◌∷◌, map}
 use native.Mathlib.Omega.{arith}
-use lib.Dec.{ltb}
+use borrow.Author.Tests.{lt-ltb, le-ltb}
 use Rattle.std.proofs.lemmas.List.{set_past}
 use lib.ListN.{length, take, drop, set, length-take, length-drop}
 use Rattle.base.specs.Lists.{any}
@@ -37,7 +37,7 @@ module _ (d : List ℕ) (p : Placed) (s : Stands d p) where
 
   -- The row of a frame has the record of the frame's slot.
   pub row-cell : (u t : ℕ) → cell_of (row_for p u t) ≡ (slot_of (frame_in d p) u t).cell
-  unfolding cell_of row_for slot_of
+  unfolding row_for slot_of
   row-cell u t = rw body-long (unfold frame_in in refl)
 
   row-place : (u t : ℕ) → (row_for p u t).place ≡ suc p.start
@@ -59,14 +59,15 @@ module _ (d : List ℕ) (p : Placed) (s : Stands d p) where
       short = let w = ok.within in rw body-long (omega arith)
 
 -- As the code finds it: the row is put where there is one.
-module _ (rs : List Row) (p : Placed) (u t : ℕ) {r : Row} {i : ℕ} (ok : ReadablePlaced p) (pos : 0 < u) (er : r ≡ row_for p u t)
-    (ei : i ≡ unused_at (cells_in rs)) where
-  pub frame_put : (d : List ℕ) → Stands d p → Changes d (put_slot (slot_of (frame_in d p) u t)) rs (set rs i r)
+module _ (rs : List Row) (p : Placed) (u t : ℕ) (ok : ReadablePlaced p) (pos : 0 < u) where
+  pub frame_put : {r : Row} {i : ℕ} → r ≡ row_for p u t → i ≡ unused_at (cells_in rs) → (d : List ℕ) → Stands d p
+      → Changes d (put_slot (slot_of (frame_in d p) u t)) rs (set rs i r)
   unfolding cells_in
-  frame_put d s = put-changes d p s rs (set rs i r) u t ok pos (rw (er, ei))
+  frame_put {r} {i} er ei d s = put-changes d p s rs (set rs i r) u t ok pos (rw (er, ei))
 
-  pub frame_left : length rs ≤ i → (d : List ℕ) → Stands d p → Changes d (put_slot (slot_of (frame_in d p) u t)) rs rs
-  frame_left ge d s = subst (Changes d (put_slot (slot_of (frame_in d p) u t)) rs) (set_past rs i r ge) (frame_put d s)
+  pub frame_left : unused_at (cells_in rs) ≡ length rs → (d : List ℕ) → Stands d p → Changes d (put_slot (slot_of (frame_in d p) u t)) rs rs
+  unfolding cells_in
+  frame_left e d s = put-changes d p s rs rs u t ok pos (sym (set_past rs _ (row_for p u t) (omega arith)))
 
 -- ---- the rows of a message
 
@@ -87,7 +88,14 @@ put-none x (s ∷ l) e = cases (is_free s) (λ t. absurd (true≢false (rw t at 
     (λ t. rw t (ap (λ (m : List Slot). s ∷ m) (put-none x l (rw t at e))))
 
 -- There is an unused slot exactly if the lowest-numbered unused row is one of the rows.
-pub room_is : (rs : List Row) (i : ℕ) → i ≡ unused_at (cells_in rs) → (store d : List ℕ)
-    → ltb i (length rs) ≡ any is_free (slots_in rs store d)
-unfolding cells_in
-room_is rs i e store d = rw e (sym (room-below rs store d))
+module _ (rs : List Row) where
+  pub room_there : {i : ℕ} → i < length rs → i ≡ unused_at (cells_in rs) → (store d : List ℕ) → true ≡ any is_free (slots_in rs store d)
+  unfolding cells_in
+  room_there lt e store d = sym (rw (← e) (lt-ltb _ _ lt)) ∙ sym (room-below rs store d)
+
+  pub room_none : unused_at (cells_in rs) ≡ length rs → (store d : List ℕ) → false ≡ any is_free (slots_in rs store d)
+  unfolding cells_in
+  room_none e store d = sym (le-ltb _ _ (omega arith)) ∙ sym (room-below rs store d)
+
+-- what `put_frame` needs
+pub ruleset puts = (frame_put, frame_left, room_there, room_none)

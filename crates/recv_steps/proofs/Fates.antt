@@ -2,12 +2,19 @@
 -- code finds them.
 -- Assumes nothing.
 use Prim.Native.Nat.{ℕ, ◌≤◌, ◌<◌}
-use mathlib.Core.Path.{◌≡◌, sym, ◌∙◌}
+use mathlib.Core.Path.{◌≡◌, refl, sym, ◌∙◌}
 use mathlib.Core.Bool.{Bool, true, false}
 use mathlib.Core.Logic.{◌⊎◌, inl, inr}
 use mathlib.Core.List.{List}
 use borrow.Author.Tests.{lt-ltb, le-ltb, eq-eqb, ne_eqb}
+use native.Mathlib.Omega.{arith}
+use Rattle.base.specs.Answer.{refused, gives}
 use Rattle.base.specs.Lists.{any}
+use Rattle.reliability.specs.declared.Reliability.{Reliability}
+use Rattle.reliability.specs.declared.Reliability.TheVariants.{Unreliable, UnreliableSeq, Reliable, ReliableOrd}
+use Rattle.reliability.specs.declared.Reliability.TheVariants.{ReliableSeq, UnreliableAck, ReliableAck, ReliableOrdAck}
+use Rattle.reliability.specs.Kinds.{kind_number, kind_named}
+use Rattle.reliability.proofs.Named.{kind_told, none_told}
 use Rattle.frame.specs.declared.Placed.{Placed}
 use Rattle.bare.specs.Frame.{ordered, sequenced}
 use Rattle.bare.specs.Bare.{memory_of, older}
@@ -24,28 +31,65 @@ use Rattle.recv_steps.specs.declared.Tally.{Tally}
 use Rattle.recv_steps.specs.declared.Course.TheVariants.{Late, Early, Due, Newer, Free}
 use Rattle.recv_steps.specs.Work.{work_of, fate_is}
 
--- ---- a frame's kind, as the code matches it
-pub kind-ordered : (k : ℕ) → (k ≡ 3) ⊎ (k ≡ 7) → ordered k ≡ true
-unfolding ordered
-kind-ordered k (inl e) = rw e
-kind-ordered k (inr e) = rw e
+-- ---- a frame's kind, as the code reads it
 
-module _ (k : ℕ) (e : (k ≡ 1) ⊎ (k ≡ 4)) where
-  pub kind-not_ordered : ordered k ≡ false
+module _ (k : ℕ) (kind : Reliability) (e : gives kind ≡ kind_named k) where
+  told : k ≡ kind_number kind
+  told = kind_told kind k e
+
+  pub kind-ordered : (kind ≡ ReliableOrd) ⊎ (kind ≡ ReliableOrdAck) → ordered k ≡ true
   unfolding ordered
-  kind-not_ordered = elim e [ inl q ↦ rw q | inr q ↦ rw q ]
+  kind-ordered = elim [ inl q ↦ rw (told, q) | inr q ↦ rw (told, q) ]
 
-  pub kind-sequenced : sequenced k ≡ true
+  module _ (s : (kind ≡ UnreliableSeq) ⊎ (kind ≡ ReliableSeq)) where
+    pub kind-not_ordered : ordered k ≡ false
+    unfolding ordered
+    kind-not_ordered = elim s [ inl q ↦ rw (told, q) | inr q ↦ rw (told, q) ]
+
+    pub kind-sequenced : sequenced k ≡ true
+    unfolding sequenced
+    kind-sequenced = elim s [ inl q ↦ rw (told, q) | inr q ↦ rw (told, q) ]
+
+  pub kind-other_3_7 : (kind ≡ ReliableOrd → ⊥) → (kind ≡ ReliableOrdAck → ⊥) → ordered k ≡ false
+  unfolding ordered
+  kind-other_3_7 m n = rw told (by kind m n)
+    where
+      by : (i : Reliability) → (i ≡ ReliableOrd → ⊥) → (i ≡ ReliableOrdAck → ⊥) → ordered (kind_number i) ≡ false
+      by Unreliable m n = refl
+      by UnreliableSeq m n = refl
+      by Reliable m n = refl
+      by ReliableOrd m n = absurd (m refl)
+      by ReliableSeq m n = refl
+      by UnreliableAck m n = refl
+      by ReliableAck m n = refl
+      by ReliableOrdAck m n = absurd (n refl)
+
+  pub kind-other_1_4 : (kind ≡ UnreliableSeq → ⊥) → (kind ≡ ReliableSeq → ⊥) → sequenced k ≡ false
   unfolding sequenced
-  kind-sequenced = elim e [ inl q ↦ rw q | inr q ↦ rw q ]
+  kind-other_1_4 m n = rw told (by kind m n)
+    where
+      by : (i : Reliability) → (i ≡ UnreliableSeq → ⊥) → (i ≡ ReliableSeq → ⊥) → sequenced (kind_number i) ≡ false
+      by Unreliable m n = refl
+      by UnreliableSeq m n = absurd (m refl)
+      by Reliable m n = refl
+      by ReliableOrd m n = refl
+      by ReliableSeq m n = absurd (n refl)
+      by UnreliableAck m n = refl
+      by ReliableAck m n = refl
+      by ReliableOrdAck m n = refl
 
-pub kind-not_3_7 : (k : ℕ) → ((k ≡ 3) ⊎ (k ≡ 7) → ⊥) → ordered k ≡ false
-unfolding ordered
-kind-not_3_7 k h = rw (ne_eqb k 3 (λ e. h (inl e)), ne_eqb k 7 (λ e. h (inr e)))
+-- A number that is no kind's is neither.
+module _ (k m : ℕ) (e : refused m ≡ kind_named k) where
+  large : 8 ≤ k
+  large = none_told k m e
 
-pub kind-not_1_4 : (k : ℕ) → ((k ≡ 1) ⊎ (k ≡ 4) → ⊥) → sequenced k ≡ false
-unfolding sequenced
-kind-not_1_4 k h = rw (ne_eqb k 1 (λ e. h (inl e)), ne_eqb k 4 (λ e. h (inr e)))
+  pub none-ordered : ordered k ≡ false
+  unfolding ordered
+  none-ordered = rw (ne_eqb k 3 (λ q. let h = large in omega arith), ne_eqb k 7 (λ q. let h = large in omega arith))
+
+  pub none-sequenced : sequenced k ≡ false
+  unfolding sequenced
+  none-sequenced = rw (ne_eqb k 1 (λ q. let h = large in omega arith), ne_eqb k 4 (λ q. let h = large in omega arith))
 
 -- ---- the cases
 module _ (rs : List Row) (ns : Nexts) (p : Placed) where
@@ -93,3 +137,21 @@ module _ (rs : List Row) (ns : Nexts) (p : Placed) where
           ≡ fate_of (frame_in d p) (work_of a x ns rs store d)
       unfolding fate_is fate_of frame_in fate work_of
       fate-early y q x a store d = rw (t, ← en, le-ltb p.frame.order n ge, held store d ∙ y, ne_eqb p.frame.order n q)
+
+-- what `fate_of` needs
+pub ruleset fates = (
+  kind-ordered,
+  kind-not_ordered,
+  kind-sequenced,
+  kind-other_3_7,
+  kind-other_1_4,
+  none-ordered,
+  none-sequenced,
+  fate-free,
+  fate-older,
+  fate-newer,
+  fate-behind,
+  fate-held,
+  fate-due,
+  fate-early,
+)

@@ -16,7 +16,7 @@ use Rattle.base.proofs.Choices.{cases}
 use Rattle.base.specs.Limits.{cell_bytes}
 use Rattle.cells.specs.Store.{cell_size}
 use Rattle.rows.specs.declared.Row.{Row}
-use Rattle.rows.specs.Rows.{cell_of, stored_row, blank_row, change_row}
+use Rattle.rows.specs.Rows.{blank_row, change_row}
 use Rattle.row_slots.specs.Slots.{is_placed, flushed, flushed_to, Fits, AllFit}
 use Rattle.row_slots.proofs.Copying.{flush-begins, flush-puts, flush-unused, flush-stored}
 use Rattle.row_slots.proofs.Fitting.{placed-is}
@@ -26,47 +26,13 @@ use Rattle.recv_steps.specs.Flush.{flushed_row, stored, settled, settled_rows}
 -- ---- a row afterwards
 
 module _ (r : Row) where
-  -- A row with place 0 stays as it is.
-  pub stored_same : r.place ≡ 0 → r ≡ stored r
-  unfolding stored stored_row cell_of
-  stored_same e = λ k. record {
-    used = r.used;
-    kind = r.kind;
-    channel = r.channel;
-    id = r.id;
-    index = r.index;
-    count = r.count;
-    length = r.length;
-    sequence = r.sequence;
-    order = r.order;
-    turn = r.turn;
-    place = e k;
-  }
+  pub settled_late : {q : Row} → r.cell.used ≡ 4 → q ≡ blank_row → q ≡ settled r
+  unfolding settled stored change_row blank_row
+  settled_late t e = e ∙ (let u = eq-eqb r.cell.used 4 t in rw u)
 
-  -- Any row is stored at place 0.
-  pub stored_anew : record {
-    used = r.used;
-    kind = r.kind;
-    channel = r.channel;
-    id = r.id;
-    index = r.index;
-    count = r.count;
-    length = r.length;
-    sequence = r.sequence;
-    order = r.order;
-    turn = r.turn;
-    place = 0;
-  } ≡ stored r
-  unfolding stored stored_row cell_of
-  stored_anew = refl
-
-  pub settled_late : {q : Row} → r.used ≡ 4 → q ≡ blank_row → q ≡ settled r
-  unfolding settled stored stored_row cell_of change_row blank_row
-  settled_late t e = e ∙ (let u = eq-eqb r.used 4 t in rw u)
-
-  pub settled_kept : {q : Row} → (r.used ≡ 4 → ⊥) → q ≡ stored r → q ≡ settled r
-  unfolding settled cell_of change_row
-  settled_kept t e = e ∙ (let u = ne_eqb r.used 4 t in rw u)
+  pub settled_kept : {q : Row} → (r.cell.used ≡ 4 → ⊥) → q ≡ stored r → q ≡ settled r
+  unfolding settled change_row
+  settled_kept t e = e ∙ (let u = ne_eqb r.cell.used 4 t in rw u)
 
 -- ---- one row
 
@@ -75,9 +41,9 @@ unfolding flushed_row
 row_kept i r st d t = rw t
 
 pub row_copied : (i : ℕ) (r : Row) (st d : List ℕ) {st' : List ℕ} → is_placed r ≡ true
-    → st' ≡ put st (i * cell_bytes) (take (r.place - 1 + r.length - (r.place - 1)) (drop (r.place - 1) d)) → st' ≡ flushed_row i r st d
+    → st' ≡ put st (i * cell_bytes) (take (r.place - 1 + r.cell.length - (r.place - 1)) (drop (r.place - 1) d)) → st' ≡ flushed_row i r st d
 unfolding flushed_row cell_size
-row_copied i r st d t e = let n : r.place - 1 + r.length - (r.place - 1) ≡ r.length = omega arith in e ∙ rw (t, n)
+row_copied i r st d t e = let n : r.place - 1 + r.cell.length - (r.place - 1) ≡ r.cell.length = omega arith in e ∙ rw (t, n)
 
 -- what the code asks before it copies
 pub placed_there : (r : Row) → is_placed r ≡ true → 1 ≤ r.place
@@ -88,11 +54,11 @@ placed_there r t = let p : (r.place ≡ 0 → ⊥) = eqb-false r.place 0 (placed
 flush-next : (d : List ℕ) (x : Row) (i : ℕ) (rs : List Row) (st : List ℕ) → AllFit d rs → length rs * cell_size ≤ length st → i < length rs
     → flushed_to (suc i) rs st d ≡ flushed_row i (get_or rs i x) (flushed_to i rs st d) d
 unfolding flushed_row is_placed
-flush-next d x i rs st v le lt = cases (eqb (get_or rs i x).used 0)
-    (λ t. flush-unused d x i rs st lt (eqb-true (get_or rs i x).used 0 t) ∙ rw t)
+flush-next d x i rs st v le lt = cases (eqb (get_or rs i x).cell.used 0)
+    (λ t. flush-unused d x i rs st lt (eqb-true (get_or rs i x).cell.used 0 t) ∙ rw t)
     (λ t. cases (eqb (get_or rs i x).place 0)
     (λ u. flush-stored d x i rs st lt (eqb-true (get_or rs i x).place 0 u) ∙ rw (t, u))
-    (λ u. flush-puts d x i rs st v le lt (eqb-false (get_or rs i x).used 0 t) (eqb-false (get_or rs i x).place 0 u) ∙ rw (t, u)))
+    (λ u. flush-puts d x i rs st v le lt (eqb-false (get_or rs i x).cell.used 0 t) (eqb-false (get_or rs i x).place 0 u) ∙ rw (t, u)))
 
 -- The rows below i are made by f; the others are as they were. (x stands for row i where there is none.)
 module _ (f : Row → Row) (old now : List Row) (i : ℕ) (lt : i < length old) (e : now ≡ map f (take i old) ++ drop i old) where

@@ -83,12 +83,12 @@ module _ (c left₀ : ℕ) (x₀ : Tally) (ns₀ : Nexts) (rs₀ : List Row) (le
   unfolding work_of cells_in
   held n en b eb a store d = rw (← en) (held_rows rs store d c n ∙ sym eb)
 
-  pub following-goes : 0 < left → c < max_ord_chans → (n : ℕ) → n ≡ next_at ns c → (b : Bool) → b ≡ any (bears (held_as c n)) (cells_in rs)
-      → b ≡ true → (y : Tally) (ns' : Nexts) (rs' : List Row)
-      → length rs' ≡ length rs → rs' ≡ change_rows (bears (held_as c n)) (mark_row 3 x.turn) rs → ns' ≡ risen c ns → y
+  pub following-goes : 0 < left → c < max_ord_chans → (n : ℕ) → n ≡ next_at ns c → {k : ℕ} → k ≡ c
+      → (b : Bool) → b ≡ any (bears (held_as k n)) (cells_in rs) → b ≡ true → (y : Tally) (ns' : Nexts) (rs' : List Row)
+      → length rs' ≡ length rs → rs' ≡ change_rows (bears (held_as k n)) (mark_row 3 x.turn) rs → ns' ≡ risen c ns → y
       ≡ made_one x → (less : ℕ) → less ≡ left - 1 → Following c left₀ x₀ ns₀ rs₀ less y ns' rs'
   unfolding cascade
-  following-goes pos lt n en b eb t y ns' rs' long e em ey less el = rw el (record {
+  following-goes pos lt n en ek b eb t y ns' rs' long e em ey less el = rw el (record {
     counts = rw ey (counts-made x (left - 1) (counts-fewer x (left - 1 + 1) left (omega arith) f.counts));
     rises = rw em (rises-risen ns (left - 1) c lt (rises_fewer ns (left - 1 + 1) left (omega arith) f.rises));
     long = long ∙ f.long;
@@ -97,7 +97,7 @@ module _ (c left₀ : ℕ) (x₀ : Tally) (ns₀ : Nexts) (rs₀ : List Row) (le
   })
     where
       m : (d : List ℕ) → Moves d (go_on c) x ns rs y ns' rs'
-      m = goes_on rs rs' x y ns ns' c n f.rises.long lt en e em ey
+      m = goes_on rs rs' x y ns ns' c n f.rises.long lt en (rw ek at e) em ey
 
       step : (a : ℕ → Bool) (store d : List ℕ) (k : ℕ) → 0 < k → cascade k c (work_of a x ns rs store d)
           ≡ cascade left₀ c (work_of a x₀ ns₀ rs₀ store d) → cascade (k - 1) c (work_of a y ns' rs' store d)
@@ -106,7 +106,7 @@ module _ (c left₀ : ℕ) (x₀ : Tally) (ns₀ : Nexts) (rs₀ : List Row) (le
       step a store d (suc k) pos e = let q : suc k - 1 ≡ k = omega arith in
           rw q (ap (cascade k c) ((m d).is a store)
           ∙ (sym (ap (λ (z : Bool). cond z (cascade k c (go_on c (work_of a x ns rs store d))) (work_of a x ns rs store d))
-          (held n en b eb a store d ∙ t)) ∙ e))
+          (held n en b (rw ek at eb) a store d ∙ t)) ∙ e))
 
   -- No held message follows, or as many followed as there are rows.
   following-ends : (n : ℕ) → n ≡ next_at ns c → (b : Bool) → b ≡ any (bears (held_as c n)) (cells_in rs) → b ≡ false
@@ -144,14 +144,14 @@ module _ (c : ℕ) (x y : Tally) (ns ns₀ ns' : Nexts) (rs rs' : List Row) (lt 
   same : length ns'.channels ≡ length ns.channels
   same = f.rises.long ∙ sym v.long
 
-  pub follows-stops : (n : ℕ) → n ≡ next_at ns' c → (b : Bool) → b ≡ any (bears (held_as c n)) (cells_in rs') → b ≡ false
-      → (rs'' : List Row) → rs'' ≡ change_rows (bears (held_as c n)) (mark_row 3 y.turn) rs'
+  pub follows-stops : (n : ℕ) → n ≡ next_at ns' c → {k : ℕ} → k ≡ c → (b : Bool) → b ≡ any (bears (held_as k n)) (cells_in rs')
+      → b ≡ false → (rs'' : List Row) → rs'' ≡ change_rows (bears (held_as k n)) (mark_row 3 y.turn) rs'
       → (d : List ℕ) → Moves d (follows c) x ns rs y ns' rs''
   unfolding cells_in
-  follows-stops n en b eb t rs'' e d =
-      rw (e, none-turned (bears (held_as c n)) (mark_row 3 y.turn) rs' (sym eb ∙ t))
+  follows-stops n en {k} ek b eb t rs'' e d =
+      rw (e, none-turned (bears (held_as k n)) (mark_row 3 y.turn) rs' (sym eb ∙ t))
       (record {
-        is = λ a store. following-ends c (length rs) x ns₀ rs left y ns' rs' f n en b eb t a store d ∙ begun a store d;
+        is = λ a store. following-ends c (length rs) x ns₀ rs left y ns' rs' f n en b (rw ek at eb) t a store d ∙ begun a store d;
         fits = f.fits d;
         long = same;
       })

@@ -72,12 +72,12 @@ module _ (x : Tally) (ns : Nexts) (rs rs' : List Row) (p : Placed) (r : Course) 
         (moves-then d (remember_in (frame_in d p)) (turn_ready p.frame.meta.id) x x y ns ns' ns' rs rs rs'
         (rw en (moves-remember d x ns rs p rises.long lt fit.sequence)) (turned ns' d))
 
-    pub joins-due : r ≡ Due → {channel : ℕ} → channel ≡ p.frame.channel → (z : Tally) (ns' : Nexts) (rs'' : List Row)
-        → ((d : List ℕ) → Moves d (follows channel) y ns rs' z ns' rs'') → (d : List ℕ) → Moves d (by_fate joins (frame_in d p)) x
+    pub joins-due : r ≡ Due → (z : Tally) (ns' : Nexts) (rs'' : List Row)
+        → ((d : List ℕ) → Moves d (follows p.frame.channel) y ns rs' z ns' rs'') → (d : List ℕ) → Moves d (by_fate joins (frame_in d p)) x
         ns rs z ns' rs''
     unfolding joins fate_is turn_ready frame_in
-    joins-due e ec z ns' rs'' f d = found-by x ns rs p r h joins Due e z ns' rs'' d
-        (moves-then d (turn_ready p.frame.meta.id) (follows p.frame.channel) x y z ns ns ns' rs rs' rs'' (turned ns d) (rw ec at (f d)))
+    joins-due e z ns' rs'' f d = found-by x ns rs p r h joins Due e z ns' rs'' d
+        (moves-then d (turn_ready p.frame.meta.id) (follows p.frame.channel) x y z ns ns ns' rs rs' rs'' (turned ns d) (f d))
 
 -- An open message's slots become a ready one's.
 pub ready_turned : (x y : Tally) (rs rs' : List Row) (id : ℕ) → rs' ≡ change_rows (bears (open_as id)) (mark_row 3 x.turn) rs → y

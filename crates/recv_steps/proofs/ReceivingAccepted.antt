@@ -14,7 +14,7 @@ use Rattle.base.specs.Answer.{gives}
 use Rattle.base.specs.Bytes.{le24}
 use Rattle.base.specs.declared.refusal.Refusal.{Refusal}
 use Rattle.base.specs.declared.refusal.Refusal.TheVariants.{CellsFull, ReliableBeyond}
-use Rattle.base.specs.Limits.{numbers24}
+use Rattle.base.specs.Limits.{numbers24, max_ord_chans}
 use Rattle.base.specs.Lists.{count_of}
 use Rattle.window.specs.Window as Window
 use Rattle.window.specs.declared.ReliableWindow.{ReliableWindow}
@@ -42,9 +42,10 @@ use Rattle.recv_steps.specs.declared.Received.{Received}
 use Rattle.recv_steps.specs.Work.{work_of}
 use Rattle.recv_steps.specs.Flush.{stored, settled, settled_rows}
 use Rattle.recv_steps.specs.Frames.{begun_tally, Passes, Ran}
-use Rattle.recv_steps.specs.Outcome.{report_of, received_rows, found_in_frames, rows_left}
-use Rattle.recv_steps.specs.Receives.{rows_outcome, Receives, Numbered, begun_rows}
+use Rattle.recv_steps.specs.Outcome.{report_of, received_rows, found_in_frames, rows_left, rows_outcome}
+use Rattle.recv_steps.specs.Receives.{Receives, begun_rows}
 use Rattle.recv_steps.proofs.Beginning.{begun-work}
+use Rattle.recv_steps.specs.Receives.{Numbered}
 use Rattle.recv_steps.proofs.Receiving.{accepted-is, refused-7, refused-8, refuses-worked}
 
 -- The rows afterwards are those of the records that the definition leaves.
@@ -67,8 +68,8 @@ abbrev pub acceptance : Framed → Received
 acceptance f = record { ready = f.counts.ready; dropped = f.counts.dropped; left = f.left }
 
 -- ns: the nexts that the frames begin with
-module _ (q : RecvQueue) (rows : List Row) (st d : List ℕ) {ascends : Bool} (n : Numbered q rows st d ascends) {ns : Nexts}
-    (own : ns ≡ nexts_of q) where
+module _ (q : RecvQueue) (rows : List Row) (st d : List ℕ) {ascends : Bool} {number : ℕ} (n : Numbered q rows st d ascends number)
+    {ns : Nexts} (own : ns ≡ nexts_of q) where
   profile-is : ns.profile ≡ profile_in q
   unfolding nexts_of
   profile-is = ap (λ (x : Nexts). x.profile) own
@@ -82,10 +83,10 @@ module _ (q : RecvQueue) (rows : List Row) (st d : List ℕ) {ascends : Bool} (n
     where
       by : Ran q.reliables ns rs turn d (Err a) v ns₁ rs₁ → Receives q rows st d (Err a) q rs₂ st
       by x = rw x.0 (refuses-worked q rows st d ReliableBeyond (unfold found_in_frames in refl)
-          (refused-7 q rows st d n (rw (sym profile-is) x.1)) rs₁ many z)
+          (n.goes ∙ refused-7 q (cells_in rows) st d (rw (sym profile-is) x.1)) rs₁ many z)
 
   store_long : length rows * cell_size ≤ length st
-  store_long = omega (arith, rw (cells-length rows) at (store_is q (cells_in rows) st n.head.judged.sound))
+  store_long = omega (arith, rw (cells-length rows) at (store_is q (cells_in rows) st n.sound))
 
   module _ (turn : ℕ) (rs : List Row) (et : turn ≡ count_of first_cell (cells_in rows)) (er : rs ≡ begun_rows rows)
       (r : Result Framed Refusal) (v : ReliableWindow) (ns₁ : Nexts) (rs₁ : List Row)
@@ -119,7 +120,7 @@ module _ (q : RecvQueue) (rows : List Row) (st d : List ℕ) {ascends : Bool} (n
         → Receives q rows st d (Err CellsFull) q rs₂ st
     unfolding work
     ran_out t many z = refuses-worked q rows st d CellsFull (unfold found_in_frames in refl)
-        (refused-8 q rows st d n v reaches (sym full_is ∙ t)) rs₁ many z
+        (n.goes ∙ refused-8 q (cells_in rows) st d v reaches (sym full_is ∙ t)) rs₁ many z
 
     pub all-fit : AllFit d rs₁
     all-fit = ran.fits
@@ -129,9 +130,9 @@ module _ (q : RecvQueue) (rows : List Row) (st d : List ℕ) {ascends : Bool} (n
       store-left = rw many store_long
 
       -- what the code writes back
-      module _ (small : datagram_number d < numbers24) (unsent : length q.unsent ≡ 1024)
-          {rs₂ : List Row} (er₂ : rs₂ ≡ settled_rows rs₁) {st₂ : List ℕ} (es₂ : st₂ ≡ flushed rs₁ st d) {number : ℕ}
-          (en : number ≡ datagram_number d) {q' : RecvQueue} (eq : q' ≡ with_number (advanced_all q ns₁) v number ascends) where
+      module _ (small : datagram_number d < numbers24) (channels : length q.channels ≡ max_ord_chans) (unsent : length q.unsent ≡ 1024)
+          {rs₂ : List Row} (er₂ : rs₂ ≡ settled_rows rs₁) {st₂ : List ℕ} (es₂ : st₂ ≡ flushed rs₁ st d) {q' : RecvQueue}
+          (eq : q' ≡ with_number (advanced_all q ns₁) v number ascends) where
         rows_are : rs₂ ≡ map stored_row (cells_of (end after).slots)
         rows_are = er₂ ∙ (settled-rows rs₁ ∙ ap (map stored_row) (sym (accepted-records rs₁ st d after (unfold work_of in refl))))
 
@@ -139,9 +140,9 @@ module _ (q : RecvQueue) (rows : List Row) (st d : List ℕ) {ascends : Bool} (n
         store-is-flushed = es₂ ∙ sym (accepted-store rs₁ st d after (unfold work_of in refl) ran.fits store-left)
 
         queue-is : q' ≡ queue_after q (datagram_number d) v (next_at ns₁) (newest_at ns₁)
-        queue-is = eq ∙ (ap (λ (m : ℕ). with_number (advanced_all q ns₁) v m ascends) en
-            ∙ core-settled q n.head.judged.channels unsent (datagram_number d) small n.fresh n.near n.room v ns₁
-            ran.nexts ascends n.head.judged.rising)
+        queue-is = eq ∙ (ap (λ (m : ℕ). with_number (advanced_all q ns₁) v m ascends) n.is
+            ∙ core-settled q channels unsent (datagram_number d) small n.fresh n.near n.room v ns₁
+            ran.nexts ascends n.rising)
 
         left_is : fr.left ≡ bytes_left (profile_in q) d
         left_is = ran.end ∙ ap (λ p. bytes_left p d) profile-is
@@ -158,5 +159,5 @@ module _ (q : RecvQueue) (rows : List Row) (st d : List ℕ) {ascends : Bool} (n
         is-accepted ne = record { is = rw defined result-is }
           where
             defined : receive_of q (cells_in rows) st d ≡ accepted_result q st d v after
-            defined = accepted-is q rows st d n v reaches (unfold work in sym full_is ∙ ne)
+            defined = n.goes ∙ accepted-is q (cells_in rows) st d v reaches (unfold work in sym full_is ∙ ne)
                 ∙ (unfold work in rw done)

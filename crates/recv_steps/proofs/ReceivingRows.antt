@@ -1,6 +1,6 @@
--- A receive on the first rows and their part of the store: what it does to these is what it does to all rows and the whole store.
+-- A receive on rows and their part of the store: what it does to these is what it does to the rows and the whole store.
 -- Assumes nothing.
-use Prim.Native.Nat.{ℕ, ◌*◌, ◌≤◌, ◌<◌, min}
+use Prim.Native.Nat.{ℕ, ◌*◌, ◌≤◌, ◌<◌}
 use mathlib.Core.Path.{◌≡◌, refl, sym, ◌∙◌, ap}
 use mathlib.Core.Bool.{Bool, true, false, ◌&&◌}
 use mathlib.Core.List.{List, ◌++◌}
@@ -12,7 +12,6 @@ use lib.ListN.{length, take, drop, take-append-drop}
 use lib.Seq.{length-take-le}
 use borrow.Author.Tests.{leb-true, eqb-true, eq-eqb, le-leb}
 use Rattle.std.specs.Prelude.{Result, Err}
-use Rattle.std.proofs.lemmas.List.{take_min, drop_min}
 use Rattle.base.specs.declared.refusal.Refusal.{Refusal}
 use Rattle.base.specs.declared.refusal.Refusal.TheVariants.{NotSound}
 use Rattle.base.specs.Limits.{max_cells, cell_bytes}
@@ -21,15 +20,14 @@ use Rattle.base.proofs.Ifs.{true-yes, true-no, le_yes, le-no}
 use Rattle.cells.specs.Sound.{lengths}
 use Rattle.rows.specs.declared.Row.{Row}
 use Rattle.rows.specs.Rows.{cells_in}
-use Rattle.row_slots.specs.First.{first_cells}
-use Rattle.row_slots.proofs.First.{first-length}
+use Rattle.rows.proofs.Rows.{cells-length}
 use Rattle.receiver.specs.declared.RecvQueue.{RecvQueue}
 use Rattle.receiver.specs.Receive as Definition
 use Rattle.receiver.specs.Receive.{refused_result, sound_call, receive_of}
 use Rattle.recv_prefix.specs.Receiving.{with_rest, receive_first}
 use Rattle.recv_steps.specs.declared.Received.{Received}
-use Rattle.recv_steps.specs.Outcome.{RowsReceived, received_rows, found_in_frames, rows_left, receive_rows_of}
-use Rattle.recv_steps.specs.Receives.{rows_outcome, Receives}
+use Rattle.recv_steps.specs.Outcome.{RowsReceived, received_rows, found_in_frames, rows_left, rows_outcome, receive_rows_of}
+use Rattle.recv_steps.specs.Receives.{Receives}
 use Rattle.recv_steps.proofs.Receiving.{refused-9}
 
 -- ---- what the tests tell of lengths
@@ -61,69 +59,48 @@ module _ (cells bytes : ℕ) (fit : lengths cells bytes ≡ true) where
       eq-eqb (cell_bytes * m) (cell_bytes * m) refl,
     )
 
-module _ (q : RecvQueue) (k cells : ℕ) (rows : List Row) (st d : List ℕ) where
+module _ (q : RecvQueue) (cells : ℕ) (rows : List Row) (st d : List ℕ) where
   -- ---- refused
 
   abbrev Nine : Type 0
-  Nine = received_rows (Err NotSound) q rows st ≡ receive_rows_of q k cells rows st d
+  Nine = received_rows (Err NotSound) q rows st ≡ receive_rows_of q cells rows st d
 
-  nine : receive_first q cells (first_cells k rows) st d ≡ refused_result q (first_cells k rows) st 9 → Nine
-  nine e = unfold received_rows receive_rows_of in rw e
-      (unfold refused_result rows_left found_in_frames in rw (take-append-drop k rows))
+  nine : receive_first q cells (cells_in rows) st d ≡ refused_result q (cells_in rows) st 9 → Nine
+  nine e = unfold received_rows receive_rows_of rows_outcome in rw e (unfold refused_result rows_left found_in_frames in refl)
 
   pub lengths_not : {l : Bool} → l ≡ lengths cells (length st) → l ≡ false → Nine
   lengths_not el f = nine (unfold receive_first in sym (true-no _ _ _ _ (sym el ∙ f) refl))
 
-  module _ {l : Bool} (el : l ≡ lengths cells (length st)) (t : l ≡ true) {m : ℕ} (em : m ≡ min k (length rows)) where
+  module _ {l : Bool} (el : l ≡ lengths cells (length st)) (t : l ≡ true) where
     fit : lengths cells (length st) ≡ true
     fit = sym el ∙ t
 
-    many : length (first_cells k rows) ≡ m
-    many = first-length k rows ∙ sym em
+    -- what receive comes to over these rows and their part of the store
+    abbrev part : Definition.Received
+    part = receive_of q (cells_in rows) (take (cell_bytes * length rows) st) d
+
+    within-is : length rows ≤ cells → receive_first q cells (cells_in rows) st d ≡ with_rest (drop (cell_bytes * length rows) st) part
+    within-is h = unfold receive_first in sym (true-yes _ _ _ _ fit (le_yes _ _ _ _ _ (omega (arith, cells-length rows))
+        (rw (cells-length rows))))
 
     -- No rows make no sound call.
-    pub no_row : m ≡ 0 → Nine
-    no_row z = nine (unfold receive_first in sym (true-yes _ _ _ _ fit (le_yes _ _ _ _ _ (omega (arith, many)) (sym inner))))
+    pub no_row : length rows ≡ 0 → Nine
+    no_row z = nine (within-is (omega arith) ∙ rw (refused-9 q (cells_in rows) (take (cell_bytes * length rows) st) d none)
+        (unfold with_rest refused_result in rw (take-append-drop (cell_bytes * length rows) st)))
       where
-        none : sound_call q (first_cells k rows) (take (cell_bytes * length (first_cells k rows)) st) ≡ false
-        none = unfold sound_call lengths in rw (many ∙ z)
+        none : sound_call q (cells_in rows) (take (cell_bytes * length rows) st) ≡ false
+        none = unfold sound_call lengths in rw (cells-length rows, z)
 
-        inner : with_rest (drop (cell_bytes * length (first_cells k rows)) st)
-            (receive_of q (first_cells k rows) (take (cell_bytes * length (first_cells k rows)) st) d)
-            ≡ refused_result q (first_cells k rows) st 9
-        inner = rw (refused-9 q (first_cells k rows) (take (cell_bytes * length (first_cells k rows)) st) d none)
-            (unfold with_rest refused_result in rw (take-append-drop (cell_bytes * length (first_cells k rows)) st))
+    pub too_many : cells < length rows → Nine
+    too_many h = nine (unfold receive_first in sym (true-yes _ _ _ _ fit (le-no _ _ _ _ _ (omega (arith, cells-length rows)) refl)))
 
-    pub too_many : cells < m → Nine
-    too_many h = nine (unfold receive_first in sym (true-yes _ _ _ _ fit (le-no _ _ _ _ _ (omega (arith, many)) refl)))
+    -- ---- received: the store's other bytes stay
 
-    -- ---- received
+    abbrev extend : RowsReceived → RowsReceived
+    extend x = record { answer = x.answer; queue = x.queue; rows = x.rows; store = x.store ++ drop (cell_bytes * length rows) st }
 
-    module _ (within : m ≤ cells) where
-      -- what the part comes to
-      abbrev part : Definition.Received
-      part = receive_of q (cells_in (take m rows)) (take (cell_bytes * m) st) d
-
-      taken : take k rows ≡ take m rows
-      taken = sym (take_min k rows) ∙ ap (λ n. take n rows) (sym em)
-
-      left : drop k rows ≡ drop m rows
-      left = sym (drop_min k rows) ∙ ap (λ n. drop n rows) (sym em)
-
-      first-is : receive_first q cells (first_cells k rows) st d ≡ with_rest (drop (cell_bytes * m) st) part
-      first-is = unfold receive_first in sym (true-yes _ _ _ _ fit (le_yes _ _ _ _ _ (omega (arith, many)) (sym inner)))
-        where
-          inner : with_rest (drop (cell_bytes * length (first_cells k rows)) st)
-              (receive_of q (first_cells k rows) (take (cell_bytes * length (first_cells k rows)) st) d)
-              ≡ with_rest (drop (cell_bytes * m) st) part
-          inner = unfold first_cells in rw (many, taken)
-
-      -- the rows after them, and the store's other bytes
-      abbrev extend : RowsReceived → RowsReceived
-      extend x = record { answer = x.answer; queue = x.queue; rows = x.rows ++ drop m rows; store = x.store ++ drop (cell_bytes * m) st }
-
-      pub received : {r : Result Received Refusal} {q' : RecvQueue} {rows' : List Row} {st' : List ℕ}
-          → Receives q (take m rows) (take (cell_bytes * m) st) d r q' rows' st'
-          → received_rows r q' (rows' ++ drop m rows) (st' ++ drop (cell_bytes * m) st) ≡ receive_rows_of q k cells rows st d
-      unfolding received_rows receive_rows_of rows_outcome with_rest
-      received v = ap extend v.is ∙ rw (first-is, taken, left)
+    pub received : length rows ≤ cells → {r : Result Received Refusal} {q' : RecvQueue} {rows' : List Row} {st' : List ℕ}
+        → Receives q rows (take (cell_bytes * length rows) st) d r q' rows' st'
+        → received_rows r q' rows' (st' ++ drop (cell_bytes * length rows) st) ≡ receive_rows_of q cells rows st d
+    unfolding received_rows receive_rows_of rows_outcome with_rest
+    received h v = ap extend v.is ∙ rw (within-is h)

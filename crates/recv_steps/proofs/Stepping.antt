@@ -31,27 +31,29 @@ module _ (p : Placed) (b : Bool) (e : (d : List ℕ) → b ≡ in_limits (frame_
   unfolding in_limits frame_in
   limits-channel t = ltb-true p.frame.channel max_ord_chans (and_left (ltb p.frame.channel max_ord_chans) _ (sym (e []) ∙ t))
 
-  module _ (x y : Tally) (ns ns' : Nexts) (rs rs' : List Row) where
-    pub limited-piece : b ≡ true → p.frame.piece ≡ true → ((d : List ℕ) → Stands d p → Sane d rs → Moves d (piece (frame_in d p)) x ns rs y
-        ns' rs')
-        → (d : List ℕ) → Stands d p → Sane d rs → Moves d (limited (frame_in d p)) x ns rs y ns' rs'
-    unfolding limited keep_in frame_in
-    limited-piece t q m d s v =
-        let n = m d s v in record { is = λ a store. n.is a store ∙ rw (limits-kept t d, q); fits = n.fits; long = n.long }
+  pub limits-over : b ≡ false → (d : List ℕ) → in_limits (frame_in d p) ≡ false
+  limits-over t d = sym (e d) ∙ t
 
-    pub limited-whole : b ≡ true → p.frame.piece ≡ false → ((d : List ℕ) → Stands d p → Moves d (by_fate whole (frame_in d p)) x ns rs y ns'
-        rs')
-        → (d : List ℕ) → Stands d p → Sane d rs → Moves d (limited (frame_in d p)) x ns rs y ns' rs'
-    unfolding limited keep_in frame_in by_fate
-    limited-whole t q m d s v =
-        let n = m d s in record { is = λ a store. n.is a store ∙ rw (limits-kept t d, q); fits = n.fits; long = n.long }
+-- what `in_limits` needs
+pub ruleset limits = (limits-kept, limits-channel, limits-over)
 
-  pub limited-drops : b ≡ false → (x y : Tally) (ns : Nexts) (rs : List Row) → y ≡ dropped_one x → (d : List ℕ) → Stands d p → Sane d rs
-      → Moves d (limited (frame_in d p)) x ns rs y ns rs
-  unfolding limited
-  limited-drops t x y ns rs ey d s v =
-      rw ey (record { is = λ a store. (moves-drop d x ns rs).is a store ∙ rw (sym (e d) ∙ t); fits = λ z. z; long = refl })
+-- k: the frame p, known to be within the limits
+module _ (p k : Placed) (ek : k ≡ p) (lim : Limited k) (x y : Tally) (ns ns' : Nexts) (rs rs' : List Row) where
+  pub limited-piece : k.frame.piece ≡ true → ((d : List ℕ) → Stands d k → Sane d rs → Moves d (piece (frame_in d k)) x ns rs y ns' rs')
+      → (d : List ℕ) → Stands d p → Sane d rs → Moves d (limited (frame_in d p)) x ns rs y ns' rs'
+  unfolding limited keep_in frame_in
+  limited-piece q m = rw (← ek) (λ d s v. let n = m d s v in
+      record { is = λ a store. n.is a store ∙ rw (lim d, q); fits = n.fits; long = n.long })
 
--- The same of a frame that is known to be within the limits.
-pub limited-channel : (p : Placed) → Limited p → p.frame.channel < max_ord_chans
-limited-channel p h = limits-channel p true (λ d. sym (h d)) refl
+  pub limited-whole : k.frame.piece ≡ false → ((d : List ℕ) → Stands d k → Moves d (by_fate whole (frame_in d k)) x ns rs y ns' rs')
+      → (d : List ℕ) → Stands d p → Sane d rs → Moves d (limited (frame_in d p)) x ns rs y ns' rs'
+  unfolding limited keep_in frame_in by_fate
+  limited-whole q m = rw (← ek) (λ d s v. let n = m d s in
+      record { is = λ a store. n.is a store ∙ rw (lim d, q); fits = n.fits; long = n.long })
+
+pub limited-drops : (p : Placed) → ((d : List ℕ) → in_limits (frame_in d p) ≡ false)
+    → (x y : Tally) (ns : Nexts) (rs : List Row) → y ≡ dropped_one x → (d : List ℕ) → Stands d p → Sane d rs
+    → Moves d (limited (frame_in d p)) x ns rs y ns rs
+unfolding limited
+limited-drops p e x y ns rs ey d s v =
+    rw ey (record { is = λ a store. (moves-drop d x ns rs).is a store ∙ rw (e d); fits = λ z. z; long = refl })

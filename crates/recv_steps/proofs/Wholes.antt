@@ -79,15 +79,15 @@ module _ (x : Tally) (rs rs' : List Row) (p : Placed) (b : Bool) (h : (store d :
     free-put t y e ns d s = rw e (moves-roomy d x ns rs (λ w. made (put_slot (slot_of (frame_in d p) 3 w.turn) w.state.slots) w) b h t
         (made_one x) ns rs' (ready-put ns d s))
 
-    pub due-put : b ≡ true → (y z : Tally) → y ≡ made_one x → {channel : ℕ} → channel ≡ p.frame.channel
-        → (ns ns' : Nexts) (rs'' : List Row) → ((d : List ℕ) → Moves d (follows channel) y ns rs' z ns' rs'')
+    pub due-put : b ≡ true → (y z : Tally) → y ≡ made_one x
+        → (ns ns' : Nexts) (rs'' : List Row) → ((d : List ℕ) → Moves d (follows p.frame.channel) y ns rs' z ns' rs'')
         → (d : List ℕ) → Stands d p → Moves d (whole due (frame_in d p)) x ns rs z ns' rs''
     unfolding whole frame_in
-    due-put t y z e ec ns ns' rs'' f d s =
+    due-put t y z e ns ns' rs'' f d s =
         moves-roomy d x ns rs (λ w. follows (frame_in d p).channel (made (put_slot (slot_of (frame_in d p) 3 w.turn) w.state.slots) w))
         b h t z ns' rs''
         (moves-then d (λ w. made (put_slot (slot_of (frame_in d p) 3 w.turn) w.state.slots) w) (follows (frame_in d p).channel) x
-        (made_one x) z ns ns ns' rs rs' rs'' (ready-put ns d s) (rw (e, ec) at (f d)))
+        (made_one x) z ns ns ns' rs rs' rs'' (ready-put ns d s) (rw e at (f d)))
 
 -- ---- what step 4 found
 

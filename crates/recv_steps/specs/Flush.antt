@@ -10,7 +10,7 @@ use Rattle.cells.specs.Cell.{released_use}
 
 -- the store once the body of row i was copied, if the row has one in the datagram
 unfoldable pub flushed_row : ℕ → Row → List ℕ → List ℕ → List ℕ
-flushed_row i r store d = cond (is_placed r) (put store (i * cell_size) (take r.length (drop (r.place - 1) d))) store
+flushed_row i r store d = cond (is_placed r) (put store (i * cell_size) (take r.cell.length (drop (r.place - 1) d))) store
 
 -- a row whose body stands in the store
 unfoldable pub stored : Row → Row

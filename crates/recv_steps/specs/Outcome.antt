@@ -1,14 +1,14 @@
 -- What a receive on rows comes to: its answer, and what the call leaves of all that it was lent.
-use Rattle.std.specs.Prelude.{ℕ, Bool, cond, ◌||◌, List, ◌++◌, map, eqb, length, take, drop, replicate, Result}
+use Rattle.std.specs.Prelude.{ℕ, Bool, cond, ◌||◌, List, map, eqb, length, replicate, Result}
 use Rattle.base.specs.Answer.{Answer, refused, gives}
 use Rattle.base.specs.declared.refusal.Refusal.{Refusal}
 use Rattle.base.specs.Refusals.{answer_by}
 use Rattle.cells.specs.Cell.{Cell}
 use Rattle.rows.specs.declared.Row.{Row}
-use Rattle.rows.specs.Rows.{stored_row, blank_row}
-use Rattle.row_slots.specs.First.{first_cells}
+use Rattle.rows.specs.Rows.{cells_in, stored_row, blank_row}
 use Rattle.receiver.specs.declared.RecvQueue.{RecvQueue}
 use Rattle.receiver.specs.Receive.{Report}
+use Rattle.receiver.specs.Receive as Definition
 use Rattle.recv_prefix.specs.Receiving.{receive_first}
 use Rattle.recv_steps.specs.declared.Received.{Received}
 
@@ -37,14 +37,10 @@ unfoldable pub rows_left : Answer Report → List Row → List Cell → List Row
 rows_left (gives report) rows cs = map stored_row cs
 rows_left (refused number) rows cs = cond (found_in_frames number) (replicate (length rows) blank_row) rows
 
--- Receive on the first k rows, which stand for the first of so many records: answer, receiver and store are those of the definition; the
--- rows after them stay.
-unfoldable pub receive_rows_of : RecvQueue → ℕ → ℕ → List Row → List ℕ → List ℕ → RowsReceived
-receive_rows_of q k cells rows st d =
-    let x = receive_first q cells (first_cells k rows) st d in
-    record {
-      answer = x.answer;
-      queue = x.queue;
-      rows = rows_left x.answer (take k rows) x.records ++ drop k rows;
-      store = x.store;
-    }
+-- what a receive over these rows leaves that comes to x
+unfoldable pub rows_outcome : List Row → Definition.Received → RowsReceived
+rows_outcome rows x = record { answer = x.answer; queue = x.queue; rows = rows_left x.answer rows x.records; store = x.store }
+
+-- Receive on rows that stand for the first of so many records: answer, receiver and store are those of the definition.
+unfoldable pub receive_rows_of : RecvQueue → ℕ → List Row → List ℕ → List ℕ → RowsReceived
+receive_rows_of q cells rows st d = rows_outcome rows (receive_first q cells (cells_in rows) st d)

@@ -10,16 +10,19 @@ use Rattle.receiver.specs.Receive.{frame_in}
 unfoldable pub row_for : Placed → ℕ → ℕ → Row
 row_for p used turn =
     record {
-      used = used;
-      kind = p.frame.kind;
-      channel = p.frame.channel;
-      id = p.frame.meta.id;
-      index = cond p.frame.piece p.frame.meta.index 0;
-      count = cond p.frame.piece p.frame.meta.count 1;
-      length = p.len;
-      sequence = p.frame.sequence;
-      order = p.frame.order;
-      turn = turn;
+      cell =
+          record {
+            used = used;
+            kind = p.frame.kind;
+            channel = p.frame.channel;
+            id = p.frame.meta.id;
+            index = cond p.frame.piece p.frame.meta.index 0;
+            count = cond p.frame.piece p.frame.meta.count 1;
+            length = p.len;
+            sequence = p.frame.sequence;
+            order = p.frame.order;
+            turn = turn;
+          };
       place = p.start + 1;
     }
 

@@ -3,7 +3,7 @@
 
 #![tactic(auto)]
 
-ghost use Rattle.std.specs.Prelude.{◌≡◌, Bool, ◌+◌, ◌<◌, ◌^◌, ℕ, List};
+ghost use Rattle.std.specs.Prelude.{◌≡◌, Bool, false, MatchOption, ◌+◌, ◌<◌, ◌^◌, ℕ, List};
 ghost use Rattle.base.specs.Limits.{max_ord_chans};
 ghost use Rattle.recv_steps.specs.declared.Tally.{Tally};
 ghost use Rattle.recv_steps.specs.Work.{work_of, fate_is};
@@ -15,11 +15,13 @@ ghost use Rattle.cells.specs.Datagram.{fate_of};
 ghost use Rattle.row_slots.specs.Slots.{slots_in};
 ghost use Rattle.receiver.specs.Receive.{frame_in};
 ghost use Rattle.receiver.specs.Parts.{next_at};
-ghost use Rattle.recv_steps.specs.Placing.{row_for, Stands, ReadablePlaced};
+ghost use Rattle.recv_steps.specs.Placing.{row_for, Stands, ReadablePlaced, Limited};
 ghost use Rattle.recv_steps.specs.Moves.{Changes};
 
+use cells::CellRecord;
 use frame::Placed;
 use receiver::Nexts;
+use reliability::Reliability;
 use rows::Row;
 
 mod steps;
@@ -34,8 +36,9 @@ pub struct Received {
     pub left: usize,
 }
 
-// What a datagram's frames count. turn: that of the next message made ready. full: a body found no cell.
-#[derive(Clone, Copy)]
+// What a datagram's frames count. turn: that of the next message made ready. full: a body found no cell. (A flag, and no refusal at once: a
+// later frame's reliable number beyond reach is refused before the cells that are full.)
+#[derive(Clone, Copy, Debug, PartialEq, Eq)]
 struct Tally {
     turn: u32,
     ready: u32,
@@ -75,8 +78,17 @@ impl Tally {
     }
 }
 
+// A frame that was read and is within step 2's limits: steps 3 and 4 keep it.
+#[derive(Clone, Copy, Debug, PartialEq, Eq)]
+struct KeptFrame {
+    placed: Placed,
+    ghost readable: { ReadablePlaced placed },
+    ghost limited: { Limited placed },
+    ghost channel: { placed.frame.channel < max_ord_chans },
+}
+
 // What the frames come to, all worked on: the counts and the bytes left.
-#[derive(Clone, Copy)]
+#[derive(Clone, Copy, Debug, PartialEq, Eq)]
 struct Framed {
     counts: Tally,
     left: usize,
@@ -84,7 +96,7 @@ struct Framed {
 
 // What step 4 does with a message: drop it, hold it, make it ready with the held ones that follow, make it ready and remember its sequence
 // number, or make it ready.
-#[derive(Clone, Copy)]
+#[derive(Clone, Copy, Debug, PartialEq, Eq)]
 enum Course {
     Late,
     Early,
@@ -93,100 +105,108 @@ enum Course {
     Free,
 }
 
-// ---- nexts (`as usize`: u32 has no From to it)
+// ---- the nexts, of the frame's channel
 
 #[tactic(auto, unfolding(receiver::specs::Parts::next_at, receiver::specs::Queue::next_in))]
-fn next_of(nexts: &Nexts, channel: u32) -> u32
-    requires { channel < max_ord_chans }
-    ensures { result ≡ next_at nexts.now channel }
+fn next_of(nexts: &Nexts, kept: KeptFrame) -> u32
+    ensures { result ≡ next_at nexts.now kept.placed.frame.channel }
 {
-    nexts.channels[channel as usize].next
+    nexts.channels[usize::from(kept.placed.frame.channel)].next
 }
 
 #[tactic(auto, unfolding(receiver::specs::Parts::next_at, receiver::specs::Parts::with_next, receiver::specs::Queue::next_in))]
-fn rise(nexts: &mut Nexts, channel: u32)
-    requires channel_lt_max_ord_chans { channel < max_ord_chans }
-    requires channel_bound { next_at nexts.old channel + 1 < 2 ^ 32 }
-    ensures { nexts.new ≡ risen channel nexts.old }
+fn rise(nexts: &mut Nexts, kept: KeptFrame)
+    requires { next_at nexts.old kept.placed.frame.channel + 1 < 2 ^ 32 }
+    ensures { nexts.new ≡ risen kept.placed.frame.channel nexts.old }
 {
-    nexts.channels[channel as usize].next += 1;
+    nexts.channels[usize::from(kept.placed.frame.channel)].next += 1;
 }
 
 // ---- a frame
 
 #[tactic(auto, unfolding(bare::specs::Frame::in_limits, receiver::specs::Receive::frame_in))]
-fn in_limits(placed: Placed) -> bool
+fn is_in_limits(placed: Placed) -> bool
     ensures { (d : List ℕ) → result ≡ in_limits (frame_in d placed) }
 {
     let f = placed.frame;
-    let m = f.meta;
-    let few = (1 <= m.count) & (m.count <= base::MAX_FRAGS) & (m.index < m.count);
-    (f.channel < base::MAX_ORD_CHANS) & (!f.piece | few)
+    (f.channel < base::MAX_ORD_CHANS) & (!f.piece | f.meta.is_in_limits())
+}
+
+// Step 2: the frame, where it is within the limits.
+#[tactic(auto, using(crate::proofs::Stepping::limits))]
+fn in_limits(placed: Placed) -> Option<KeptFrame>
+    requires { ReadablePlaced placed }
+    ensures { MatchOption result ((d : List ℕ) → in_limits (frame_in d placed) ≡ false) (λ kept. kept.placed ≡ placed) }
+{
+    if is_in_limits(placed) {
+        return Some(KeptFrame { placed });
+    }
+    None
 }
 
 // The frame's row. (`as u32`: a datagram has at most 1,500 bytes.)
 #[tactic(auto, unfolding(crate::specs::Placing::row_for))]
-fn row_of(placed: Placed, used: u32, turn: u32) -> Row
-    requires { ReadablePlaced placed }
-    ensures { result ≡ row_for placed used turn }
+fn row_of(kept: KeptFrame, used: u32, turn: u32) -> Row
+    ensures { result ≡ row_for kept.placed used turn }
 {
-    let f = placed.frame;
+    let f = kept.placed.frame;
     let (index, count) = if f.piece {
         (f.meta.index, f.meta.count)
     } else {
         (0, 1)
     };
-    Row {
+    let cell = CellRecord {
         used,
         kind: f.kind.into(),
         channel: f.channel.into(),
         id: f.meta.id.into(),
         index,
         count,
-        length: placed.len as u32,
+        length: kept.placed.len as u32,
         sequence: f.sequence,
         order: f.order,
         turn,
-        place: placed.start as u32 + 1,
+    };
+    Row {
+        cell,
+        place: kept.placed.start as u32 + 1,
     }
 }
 
 // ---- the rows
 
 // The frame's row takes the place of the lowest-numbered unused one; false where there is none.
-#[tactic(auto, using(crate::proofs::Changing::frame_put, crate::proofs::Changing::frame_left, crate::proofs::Changing::room_is))]
-fn put_frame(rows: &mut [Row], placed: Placed, used: u32, turn: u32) -> bool
-    requires readable_placed { ReadablePlaced placed }
-    requires used_nonzero { 0 < used }
+#[tactic(auto, using(crate::proofs::Changing::puts))]
+fn put_frame(rows: &mut [Row], kept: KeptFrame, used: u32, turn: u32) -> bool
+    requires { 0 < used }
     ensures room { (store d : List ℕ) → result ≡ any is_free (slots_in rows.old store d) }
-    ensures put { (d : List ℕ) → Stands d placed → Changes d (put_slot (slot_of (frame_in d placed) used turn))
+    ensures put { (d : List ℕ) → Stands d kept.placed → Changes d (put_slot (slot_of (frame_in d kept.placed) used turn))
         rows.old rows.new }
 {
-    let row = row_of(placed, used, turn);
-    let i = row_scans::first_unused(rows);
-    let room = i < rows.len();
-    if room {
-        rows[i] = row;
+    if let Some(i) = row_scans::first_unused(rows) {
+        rows[i] = row_of(kept, used, turn);
+        return true;
     }
-    room
+    false
 }
 
 // Step 4: what is to be done with the frame's message.
-fn fate_of(rows: &[Row], nexts: &Nexts, placed: Placed) -> Course
-    requires { placed.frame.channel < max_ord_chans }
+#[tactic(auto, using(crate::proofs::Fates::fates), unfolding(crate::specs::Work::fate_is))]
+fn fate_of(rows: &[Row], nexts: &Nexts, kept: KeptFrame) -> Course
     ensures { (x : Tally) (a : ℕ → Bool) (store d : List ℕ) → fate_is result
-        ≡ fate_of (frame_in d placed) (work_of a x nexts.now rows.now store d) }
+        ≡ fate_of (frame_in d kept.placed) (work_of a x nexts.now rows.now store d) }
 {
-    let f = placed.frame;
-    match f.kind {
-        // ordered
-        3 | 7 => {
-            let channel = f.channel.into();
-            let next = next_of(nexts, channel);
+    let f = kept.placed.frame;
+    let Ok(kind) = Reliability::try_from(f.kind) else {
+        return Course::Free;
+    };
+    match kind {
+        Reliability::ReliableOrd | Reliability::ReliableOrdAck => {
+            let next = next_of(nexts, kept);
             if f.order < next {
                 return Course::Late;
             }
-            if row_scans::any_held(rows, channel, f.order) {
+            if row_scans::any_held(rows, f.channel.into(), f.order) {
                 return Course::Late;
             }
             if f.order == next {
@@ -194,8 +214,7 @@ fn fate_of(rows: &[Row], nexts: &Nexts, placed: Placed) -> Course
             }
             Course::Early
         }
-        // sequenced
-        1 | 4 => {
+        Reliability::UnreliableSeq | Reliability::ReliableSeq => {
             if recv_memory::is_older(nexts, f.kind, f.channel, f.sequence) {
                 return Course::Late;
             }

@@ -1,101 +1,99 @@
 // Step 4: whole frames, and the held messages that follow. Step 3: pieces, and messages joined from them.
+// (Rows and nexts are lent and the counts go by value; what is asked of the three, `MayStep`, and that the rows are at most 4,096, stands
+// at each function. Tried: a struct that borrows them. Each method then has to say, beside what it leaves, that the borrows are those that
+// came in, which is no plainer. Nor is a struct that owns nexts and counts: `hold`, `ready` and `turn_ready` have the counts alone, and
+// would each have to say that the nexts stay.)
 ghost use Rattle.std.specs.Prelude.{◌≡◌, List, ℕ, ◌+◌, ◌<◌, ◌≤◌, true, length};
-ghost use Rattle.base.specs.Limits.{max_ord_chans, max_cells};
+ghost use Rattle.base.specs.Limits.{max_cells};
 ghost use Rattle.cells.specs.Datagram.{early, due, free};
 ghost use Rattle.receiver.specs.declared.Nexts.{Nexts};
 ghost use Rattle.receiver.specs.Receive.{frame_in};
 ghost use Rattle.recv_steps.specs.CountChanges.{made_one, CanCount, Rises};
-ghost use Rattle.recv_steps.specs.Placing.{Stands, ReadablePlaced, Limited};
+ghost use Rattle.recv_steps.specs.Placing.{Stands, ReadablePlaced};
 ghost use Rattle.recv_steps.specs.Moves.{MayStep, Moves, by_fate, Counted, Sane, Beside, put_piece, turn_ready, limited};
 ghost use Rattle.cells.specs.Datagram as Datagram;
 
-use super::{Course, Tally};
+use crate::{Course, KeptFrame, Tally};
 use frame::Placed;
 use receiver::Nexts;
 use rows::Row;
 
 pub mod datagram;
 
-// The channel's next rises by one, and the held messages follow. The sweep that makes one ready finds whether it is held.
-fn follows(rows: &mut [Row], nexts: &mut Nexts, s: Tally, channel: u32) -> Tally
-    requires channel_lt_max_ord_chans { channel < max_ord_chans }
+// The channel's next rises by one, and the held messages follow. The sweep that makes one ready finds whether it is held. (`for`: no more
+// can follow than there are rows, which is how the proof knows that the turns end.)
+fn follows(rows: &mut [Row], nexts: &mut Nexts, s: Tally, kept: KeptFrame) -> Tally
     requires rows_bound { length rows.old ≤ max_cells }
     requires can_count { CanCount (max_cells + 1) s }
     requires rises { Rises (max_cells + 1) nexts.old }
-    ensures { (d : List ℕ) → Moves d (Datagram.follows channel) s nexts.old rows.old
+    ensures { (d : List ℕ) → Moves d (Datagram.follows kept.placed.frame.channel) s nexts.old rows.old
         result nexts.new rows.new }
 {
-    super::rise(nexts, channel);
+    super::rise(nexts, kept);
     let mut t = s;
     for _ in 0..rows.len() {
-        let next = super::next_of(nexts, channel);
-        if !row_sweeps::turn_held(rows, channel, next, t.turn) {
+        let next = super::next_of(nexts, kept);
+        if !row_sweeps::turn_held(rows, kept.placed.frame.channel.into(), next, t.turn) {
             return t;
         }
-        super::rise(nexts, channel);
+        super::rise(nexts, kept);
         t = t.make_one();
     }
     t
 }
 
 // A whole frame of an early message is held.
-fn hold(rows: &mut [Row], s: Tally, placed: Placed) -> Tally
-    requires { ReadablePlaced placed }
-    ensures { (ns : Nexts) (d : List ℕ) → Stands d placed → Moves d (Datagram.whole early (frame_in d placed)) s ns
+fn hold(rows: &mut [Row], s: Tally, kept: KeptFrame) -> Tally
+    ensures { (ns : Nexts) (d : List ℕ) → Stands d kept.placed → Moves d (Datagram.whole early (frame_in d kept.placed)) s ns
         rows.old result ns rows.new }
 {
-    if super::put_frame(rows, placed, cells::HELD, 0) {
+    if super::put_frame(rows, kept, cells::HELD, 0) {
         return s;
     }
     s.fill_up()
 }
 
 // A whole frame is made ready that no other follows.
-fn ready(rows: &mut [Row], s: Tally, placed: Placed) -> Tally
-    requires readable_placed { ReadablePlaced placed }
-    requires can_count { CanCount 1 s }
-    ensures { (ns : Nexts) (d : List ℕ) → Stands d placed → Moves d (Datagram.whole free (frame_in d placed)) s ns
+fn ready(rows: &mut [Row], s: Tally, kept: KeptFrame) -> Tally
+    requires { CanCount 1 s }
+    ensures { (ns : Nexts) (d : List ℕ) → Stands d kept.placed → Moves d (Datagram.whole free (frame_in d kept.placed)) s ns
         rows.old result ns rows.new }
 {
-    if super::put_frame(rows, placed, cells::READY, s.turn) {
+    if super::put_frame(rows, kept, cells::READY, s.turn) {
         return s.make_one();
     }
     s.fill_up()
 }
 
 // A whole frame of the channel's next message is made ready, and the held ones follow.
-fn ready_due(rows: &mut [Row], nexts: &mut Nexts, s: Tally, placed: Placed) -> Tally
-    requires readable_placed { ReadablePlaced placed }
-    requires channel_lt_max_ord_chans { placed.frame.channel < max_ord_chans }
-    requires may_step { MayStep rows.old nexts.old s }
-    ensures { (d : List ℕ) → Stands d placed → Moves d (Datagram.whole due (frame_in d placed))
+fn ready_due(rows: &mut [Row], nexts: &mut Nexts, s: Tally, kept: KeptFrame) -> Tally
+    requires { MayStep rows.old nexts.old s }
+    ensures { (d : List ℕ) → Stands d kept.placed → Moves d (Datagram.whole due (frame_in d kept.placed))
         s nexts.old rows.old result nexts.new rows.new }
 {
-    if super::put_frame(rows, placed, cells::READY, s.turn) {
+    if super::put_frame(rows, kept, cells::READY, s.turn) {
         let t = s.make_one();
-        return follows(rows, nexts, t, placed.frame.channel.into());
+        return follows(rows, nexts, t, kept);
     }
     s.fill_up()
 }
 
 // A whole frame is a message at once.
-fn whole(rows: &mut [Row], nexts: &mut Nexts, s: Tally, placed: Placed) -> Tally
-    requires readable_placed { ReadablePlaced placed }
-    requires channel_lt_max_ord_chans { placed.frame.channel < max_ord_chans }
-    requires may_step { MayStep rows.old nexts.old s }
-    ensures { (d : List ℕ) → Stands d placed → Moves d (by_fate Datagram.whole (frame_in d placed))
+fn whole(rows: &mut [Row], nexts: &mut Nexts, s: Tally, kept: KeptFrame) -> Tally
+    requires { MayStep rows.old nexts.old s }
+    ensures { (d : List ℕ) → Stands d kept.placed → Moves d (by_fate Datagram.whole (frame_in d kept.placed))
         s nexts.old rows.old result nexts.new rows.new }
 {
-    match super::fate_of(rows, nexts, placed) {
+    match super::fate_of(rows, nexts, kept) {
         Course::Late => s.drop_one(),
-        Course::Early => hold(rows, s, placed),
-        Course::Due => ready_due(rows, nexts, s, placed),
+        Course::Early => hold(rows, s, kept),
+        Course::Due => ready_due(rows, nexts, s, kept),
         Course::Newer => {
-            let f = placed.frame;
+            let f = kept.placed.frame;
             recv_memory::remember(nexts, f.kind, f.channel, f.sequence);
-            ready(rows, s, placed)
+            ready(rows, s, kept)
         }
-        Course::Free => ready(rows, s, placed),
+        Course::Free => ready(rows, s, kept),
     }
 }
 
@@ -110,15 +108,13 @@ fn turn_ready(rows: &mut [Row], s: Tally, id: u32) -> Tally
 }
 
 // A joined message's cells are there already.
-fn joins(rows: &mut [Row], nexts: &mut Nexts, s: Tally, placed: Placed) -> Tally
-    requires readable_placed { ReadablePlaced placed }
-    requires channel_lt_max_ord_chans { placed.frame.channel < max_ord_chans }
-    requires may_step { MayStep rows.old nexts.old s }
-    ensures { (d : List ℕ) → Moves d (by_fate Datagram.joins (frame_in d placed)) s nexts.old rows.old
+fn joins(rows: &mut [Row], nexts: &mut Nexts, s: Tally, kept: KeptFrame) -> Tally
+    requires { MayStep rows.old nexts.old s }
+    ensures { (d : List ℕ) → Moves d (by_fate Datagram.joins (frame_in d kept.placed)) s nexts.old rows.old
         result nexts.new rows.new }
 {
-    let id = placed.frame.meta.id.into();
-    match super::fate_of(rows, nexts, placed) {
+    let id = kept.placed.frame.meta.id.into();
+    match super::fate_of(rows, nexts, kept) {
         Course::Late => {
             row_sweeps::turn_open(rows, id, cells::RELEASED, 0);
             s.drop_one()
@@ -129,10 +125,10 @@ fn joins(rows: &mut [Row], nexts: &mut Nexts, s: Tally, placed: Placed) -> Tally
         }
         Course::Due => {
             let t = turn_ready(rows, s, id);
-            follows(rows, nexts, t, placed.frame.channel.into())
+            follows(rows, nexts, t, kept)
         }
         Course::Newer => {
-            let f = placed.frame;
+            let f = kept.placed.frame;
             recv_memory::remember(nexts, f.kind, f.channel, f.sequence);
             turn_ready(rows, s, id)
         }
@@ -141,52 +137,45 @@ fn joins(rows: &mut [Row], nexts: &mut Nexts, s: Tally, placed: Placed) -> Tally
 }
 
 // A piece was kept: where all indices are there, they are one message. (`as usize`: u32 has no From to it.)
-fn kept(rows: &mut [Row], nexts: &mut Nexts, s: Tally, placed: Placed) -> Tally
-    requires readable_placed { ReadablePlaced placed }
-    requires channel_lt_max_ord_chans { placed.frame.channel < max_ord_chans }
-    requires may_step { MayStep rows.old nexts.old s }
-    ensures { (d : List ℕ) → Counted d placed rows.old → Moves d (Datagram.kept (frame_in d placed))
+fn piece_kept(rows: &mut [Row], nexts: &mut Nexts, s: Tally, kept: KeptFrame) -> Tally
+    requires { MayStep rows.old nexts.old s }
+    ensures { (d : List ℕ) → Counted d kept.placed rows.old → Moves d (Datagram.kept (frame_in d kept.placed))
         s nexts.old rows.old result nexts.new rows.new }
 {
-    let m = placed.frame.meta;
+    let m = kept.placed.frame.meta;
     let n = row_scans::count_open(rows, m.id.into());
     if n == m.count as usize {
-        return joins(rows, nexts, s, placed);
+        return joins(rows, nexts, s, kept);
     }
     s
 }
 
 // A piece that may be kept beside the open ones is put, where there is room.
-fn put_piece(rows: &mut [Row], nexts: &mut Nexts, s: Tally, placed: Placed) -> Tally
-    requires readable_placed { ReadablePlaced placed }
-    requires piece_value { placed.frame.piece ≡ true }
-    requires channel_lt_max_ord_chans { placed.frame.channel < max_ord_chans }
-    requires limited { Limited placed }
+fn put_piece(rows: &mut [Row], nexts: &mut Nexts, s: Tally, kept: KeptFrame) -> Tally
+    requires piece_value { kept.placed.frame.piece ≡ true }
     requires may_step { MayStep rows.old nexts.old s }
-    ensures { (d : List ℕ) → Stands d placed → Sane d rows.old → Beside d placed rows.old
-        → Moves d (put_piece (frame_in d placed)) s nexts.old rows.old
+    ensures { (d : List ℕ) → Stands d kept.placed → Sane d rows.old → Beside d kept.placed rows.old
+        → Moves d (put_piece (frame_in d kept.placed)) s nexts.old rows.old
         result nexts.new rows.new }
 {
-    if super::put_frame(rows, placed, cells::OPEN, 0) {
-        return kept(rows, nexts, s, placed);
+    if super::put_frame(rows, kept, cells::OPEN, 0) {
+        return piece_kept(rows, nexts, s, kept);
     }
     s.fill_up()
 }
 
 // Step 3, for a piece within the limits.
-fn piece(rows: &mut [Row], nexts: &mut Nexts, s: Tally, placed: Placed) -> Tally
-    requires readable_placed { ReadablePlaced placed }
-    requires piece_value { placed.frame.piece ≡ true }
-    requires limited { Limited placed }
+fn piece(rows: &mut [Row], nexts: &mut Nexts, s: Tally, kept: KeptFrame) -> Tally
+    requires piece_value { kept.placed.frame.piece ≡ true }
     requires may_step { MayStep rows.old nexts.old s }
-    ensures { (d : List ℕ) → Stands d placed → Sane d rows.old → Moves d (Datagram.piece (frame_in d placed))
+    ensures { (d : List ℕ) → Stands d kept.placed → Sane d rows.old → Moves d (Datagram.piece (frame_in d kept.placed))
         s nexts.old rows.old result nexts.new rows.new }
 {
-    let row = super::row_of(placed, cells::OPEN, 0);
+    let row = super::row_of(kept, cells::OPEN, 0);
     if row_scans::any_clash(rows, &row) {
         return s.drop_one();
     }
-    put_piece(rows, nexts, s, placed)
+    put_piece(rows, nexts, s, kept)
 }
 
 // Steps 2 to 4, for a frame whose reliable number was accepted.
@@ -196,11 +185,11 @@ fn keep_in(rows: &mut [Row], nexts: &mut Nexts, s: Tally, placed: Placed) -> Tal
     ensures { (d : List ℕ) → Stands d placed → Sane d rows.old → Moves d (limited (frame_in d placed))
         s nexts.old rows.old result nexts.new rows.new }
 {
-    if super::in_limits(placed) {
-        if placed.frame.piece {
-            return piece(rows, nexts, s, placed);
-        }
-        return whole(rows, nexts, s, placed);
+    let Some(kept) = super::in_limits(placed) else {
+        return s.drop_one();
+    };
+    if kept.placed.frame.piece {
+        return piece(rows, nexts, s, kept);
     }
-    s.drop_one()
+    whole(rows, nexts, s, kept)
 }

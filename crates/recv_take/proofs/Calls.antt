@@ -31,7 +31,7 @@ use Rattle.cells.proofs.SoundTest.{sound-rest}
 use Rattle.cells.proofs.Store.{cells-slots}
 use Rattle.cells.proofs.Takes.{earliest-below}
 use Rattle.cells.proofs.TurnOrder.{earliest-ready}
-use Rattle.rows.specs.Rows.{cells_in}
+use Rattle.rows.specs.Rows.{cell_of, cells_in}
 use Rattle.rows.proofs.Rows.{cells-length, row_here}
 use Rattle.rows.specs.declared.Row.{Row}
 use Rattle.row_scans.specs.Ready.{first_ready}
@@ -156,11 +156,10 @@ module _ (q : RecvQueue) (rows : List Row) (st buffer : List ℕ) where
   unfolding taken_rows outcome_at take_of
   took_9 f = ap (outcome_at (earliest_turn cs)) (true-no _ _ _ _ f refl)
 
-  -- i is where the scan ended.
-  module _ (sound : sound_call q cs st ≡ true) (i : ℕ) (found : i ≡ first_ready cs) where
-    pub took_20 : length rows ≤ i → taken_rows (Err NoneReady) buffer ≡ outcome_at (earliest_turn cs) (take_of q cs st buffer)
+  module _ (sound : sound_call q cs st ≡ true) where
+    pub took_20 : first_ready cs ≡ length rows → taken_rows (Err NoneReady) buffer ≡ outcome_at (earliest_turn cs) (take_of q cs st buffer)
     unfolding taken_rows outcome_at take_of
-    took_20 le = ap (outcome_at (earliest_turn cs)) given
+    took_20 past = ap (outcome_at (earliest_turn cs)) given
       where
         none-ready : earliest_cell cs ≡ none
         none-ready = case_option (earliest_cell cs) (λ e. e) (λ t e.
@@ -172,23 +171,26 @@ module _ (q : RecvQueue) (rows : List Row) (st buffer : List ℕ) where
         given : take_refuses cs buffer 20 ≡ take_of q cs st buffer
         given = rw (slots-earliest cs st, none-ready) (true-yes _ _ _ _ sound refl)
 
-    -- r is the row found.
-    module _ (l : i < length rows) (r : Row) (row : r ≡ get_or rows i r) where
-      pub earliest_here : earliest_cell cs ≡ some r.turn
+    -- The scan found row i.
+    module _ (i : ℕ) (l : i < length rows) (found : i ≡ first_ready cs) (d : Row) where
+      abbrev first : Cell
+      first = cell_of (get_or rows i d)
+
+      pub earliest_here : earliest_cell cs ≡ some first.turn
       earliest_here = case_option (earliest_cell cs)
           (λ e. let h = first_past q cs st sound e in let n = cells-length rows in absurd (omega arith))
-          (λ t e. e ∙ ap some (sym (ap (λ (x : Row). x.turn) (row ∙ row_here rows i r l)
-          ∙ rw (found ∙ first-is q cs st sound t e) (first_turn t rows st [] (takeable q cs st sound t e)))))
+          (λ t e. e ∙ ap some (sym (rw (row_here rows i d l, found ∙ first-is q cs st sound t e)
+          (first_turn t rows st [] (takeable q cs st sound t e)))))
 
-      pub first_here : i ≡ index_of (at (ready_as r.turn) 0) cs
-      first_here = found ∙ first-is q cs st sound r.turn earliest_here
+      pub first_here : i ≡ index_of (at (ready_as first.turn) 0) cs
+      first_here = found ∙ first-is q cs st sound first.turn earliest_here
 
-      pub took_turn : (x : RowsTaken) → x ≡ outcome_at r.turn (take_turn r.turn cs st buffer) → x ≡ outcome_at (earliest_turn cs)
+      pub took_turn : (x : RowsTaken) → x ≡ outcome_at first.turn (take_turn first.turn cs st buffer) → x ≡ outcome_at (earliest_turn cs)
           (take_of q cs st buffer)
       unfolding take_of take_turn earliest_turn
       took_turn x h =
-          let given : take_turn r.turn cs st buffer ≡ take_of q cs st buffer = rw (slots-earliest cs st, earliest_here)
+          let given : take_turn first.turn cs st buffer ≡ take_of q cs st buffer = rw (slots-earliest cs st, earliest_here)
           (true-yes _ _ _ _ sound refl) in
-          h ∙ rw earliest_here (ap (outcome_at r.turn) given)
+          h ∙ rw earliest_here (ap (outcome_at first.turn) given)
 
 pub ruleset ways = (took_9, took_20, first_here, took_turn)

@@ -1,6 +1,6 @@
 -- A take over the first rows: the code's three ways; and what it leaves of the records.
 -- Assumes nothing.
-use Prim.Native.Nat.{ℕ, ◌*◌, ◌≤◌, ◌<◌, min}
+use Prim.Native.Nat.{ℕ, ◌*◌, ◌≤◌, ◌<◌}
 use mathlib.Core.Path.{◌≡◌, refl, sym, ◌∙◌, ap}
 use mathlib.Core.Bool.{true, false}
 use mathlib.Core.List.{List}
@@ -23,8 +23,7 @@ use Rattle.cells.proofs.Records.{cells-freed}
 use Rattle.cells.proofs.Store.{cells-slots}
 use Rattle.rows.specs.declared.Row.{Row}
 use Rattle.rows.specs.Rows.{cells_in}
-use Rattle.row_slots.specs.First.{first_cells}
-use Rattle.row_slots.proofs.First.{first-whole, first-length}
+use Rattle.rows.proofs.Rows.{cells-length}
 use Rattle.receiver.specs.declared.RecvQueue.{RecvQueue}
 use Rattle.receiver.specs.Take.{Handed, TakeResult, handed, take_of}
 use Rattle.receiver.proofs.AnswerCases.{by-true, by-lt, by_le, take-ways}
@@ -34,29 +33,26 @@ use Rattle.recv_take.specs.Outcome.{handed_of, take_result, RowsTaken, without_t
 use Rattle.recv_take.specs.Outcome.{earliest_turn, take_rows_of, records_left}
 use Rattle.recv_take.proofs.Calls.{slots-earliest}
 
--- ---- the code's three ways: m is how many records are at hand
+-- ---- the code's three ways
 
-module _ (q : RecvQueue) (k n : ℕ) (rows : List Row) (st out : List ℕ) where
-  pub unfit_takes : false ≡ lengths n (length st) → taken_rows (Err NotSound) out ≡ take_rows_of q k n rows st out
+module _ (q : RecvQueue) (n : ℕ) (rows : List Row) (st out : List ℕ) where
+  pub unfit_takes : false ≡ lengths n (length st) → taken_rows (Err NotSound) out ≡ take_rows_of q n rows st out
   unfolding taken_rows take_rows_of take_first outcome_at
-  unfit_takes e = ap (outcome_at (earliest_turn (first_cells k rows))) (true-no _ _ _ _ (sym e) refl)
+  unfit_takes e = ap (outcome_at (earliest_turn (cells_in rows))) (true-no _ _ _ _ (sym e) refl)
 
   module _ (fit : true ≡ lengths n (length st)) where
-    -- there are fewer cells than records at hand
-    pub over_takes : n < min k (length rows) → taken_rows (Err NotSound) out ≡ take_rows_of q k n rows st out
+    -- there are fewer cells than rows
+    pub over_takes : n < length rows → taken_rows (Err NotSound) out ≡ take_rows_of q n rows st out
     unfolding taken_rows take_rows_of take_first outcome_at
-    over_takes lt = ap (outcome_at (earliest_turn (first_cells k rows)))
-        (true-yes _ _ _ _ (sym fit) (le-no _ _ _ _ _ (rw (first-length k rows) lt) refl))
+    over_takes lt = ap (outcome_at (earliest_turn (cells_in rows)))
+        (true-yes _ _ _ _ (sym fit) (le-no _ _ _ _ _ (rw cells-length lt) refl))
 
-    pub part_takes : (m : ℕ) → m ≡ min k (length rows) → m ≤ n → (x : RowsTaken)
-        → x ≡ outcome_at (earliest_turn (cells_in (take m rows))) (take_of q (cells_in (take m rows)) (take (cell_bytes * m) st) out)
-        → x ≡ take_rows_of q k n rows st out
+    pub part_takes : length rows ≤ n → (x : RowsTaken)
+        → x ≡ outcome_at (earliest_turn (cells_in rows)) (take_of q (cells_in rows) (take (cell_bytes * length rows) st) out)
+        → x ≡ take_rows_of q n rows st out
     unfolding take_rows_of take_first
-    part_takes m are le x h =
-        let many : length (first_cells k rows) ≡ m = first-length k rows ∙ sym are in
-        let whole : first_cells k rows ≡ cells_in (take m rows) = rw are (first-whole k rows) in
-        h ∙ rw (← whole) (ap (outcome_at (earliest_turn (first_cells k rows)))
-        (true-yes _ _ _ _ (sym fit) (le_yes _ _ _ _ _ (rw many le) (rw many))))
+    part_takes le x h = h ∙ ap (outcome_at (earliest_turn (cells_in rows)))
+        (true-yes _ _ _ _ (sym fit) (le_yes _ _ _ _ _ (rw cells-length le) (rw cells-length)))
 
 pub ruleset ways = (unfit_takes, over_takes, part_takes)
 
@@ -87,15 +83,15 @@ first-leaves q n cs st buffer =
     (λ e. by_le (Leaves cs) (length cs) n (λ l. take-leaves cs (take (cell_bytes * length cs) st) buffer q) (λ l. refl))
     (λ e. refl)
 
--- What a take over the first rows says, with the records that it leaves, is the take over the first records.
-pub whole_take : (q : RecvQueue) (k n : ℕ) (rows : List Row) (st buffer : List ℕ) (r : Result TakenRows Refusal) (out : List ℕ)
-    → taken_rows r out ≡ take_rows_of q k n rows st buffer
-    → take_result (without_turn r) (records_left (answer_by handed_of (without_turn r)) (turn_given r) (first_cells k rows)) out
-    ≡ take_first q n (first_cells k rows) st buffer
+-- What a take over rows says, with the records that it leaves, is the take over their records.
+pub whole_take : (q : RecvQueue) (n : ℕ) (rows : List Row) (st buffer : List ℕ) (r : Result TakenRows Refusal) (out : List ℕ)
+    → taken_rows r out ≡ take_rows_of q n rows st buffer
+    → take_result (without_turn r) (records_left (answer_by handed_of (without_turn r)) (turn_given r) (cells_in rows)) out
+    ≡ take_first q n (cells_in rows) st buffer
 unfolding taken_rows take_rows_of take_result outcome_at
-whole_take q k n rows st buffer r out e =
-    let x : TakeResult = take_first q n (first_cells k rows) st buffer in
-    let cs : List Cell = first_cells k rows in
+whole_take q n rows st buffer r out e =
+    let x : TakeResult = take_first q n (cells_in rows) st buffer in
+    let cs : List Cell = cells_in rows in
     let a : answer_by handed_of (without_turn r) ≡ x.answer = ap (λ (y : RowsTaken). y.answer) e in
     let t : turn_given r ≡ turn_taken x.answer (earliest_turn cs) = ap (λ (y : RowsTaken). y.turn) e in
     let o : out ≡ x.joined = ap (λ (y : RowsTaken). y.joined) e in

@@ -8,7 +8,7 @@ use mathlib.Core.List.{List, [], ◌∷◌}
 use native.Mathlib.Omega.{arith}
 use native.Mathlib.Nat.{suc-mul}
 use lib.Dec.{eqb}
-use lib.ListN.{length, take, drop, length-append, length-take, length-drop}
+use lib.ListN.{length, take, drop}
 use lib.Seq.{drop-drop}
 use borrow.Author.Tests.{eqb-true, eq-eqb, ne_eqb}
 use Rattle.std.specs.Prelude.{Ok, Err}
@@ -26,10 +26,12 @@ use Rattle.cells.specs.Store.{cell_size, cell_body, slots_of}
 use Rattle.rows.specs.declared.Row.{Row}
 use Rattle.rows.specs.Rows.{cell_of, cells_in, whole_row}
 use Rattle.receiver.specs.Take.{handed}
-use Rattle.recv_take.specs.declared.Taken.TheVariants.{InStore, Joined}
+use Rattle.recv_take.specs.declared.Body.{Body}
+use Rattle.recv_take.specs.declared.Body.TheVariants.{InStore, Joined}
+use Rattle.recv_take.specs.declared.Taken.{Taken}
 use Rattle.recv_take.specs.Outcome.{handed_of, taken_rows, outcome_at}
-use Rattle.recv_take.specs.Pieces.{piece_at, piece_bytes, length_to, joined_to, Takeable, take_turn}
-use Rattle.recv_take.proofs.Pieces.{row_index, piece_row, piece-ends}
+use Rattle.recv_take.specs.Pieces.{piece_at, piece_bytes, joined_to, Takeable, take_turn}
+use Rattle.recv_take.proofs.Pieces.{row_index, piece_row}
 
 -- ---- a record and its slot
 
@@ -96,17 +98,6 @@ module _ (t : ℕ) (cs : List Cell) (st : List ℕ) where
   joined_is (suc n) = rw (joined_is n, piece-body n)
 
   module _ (v : Takeable t cs st) where
-    bytes-long : (i : ℕ) → length (piece_bytes t cs st i) ≡ (piece_at t cs i).length
-    unfolding piece_bytes
-    bytes-long i =
-        let h : index_of (at (ready_as t) i) cs * cell_bytes + (piece_at t cs i).length ≤ length st = piece-ends v i in
-        simp (length-take, length-drop) (omega arith)
-
-    pub joined-long : (n : ℕ) → length (joined_to t cs st n) ≡ length_to t cs n
-    unfolding joined_to length_to and_then
-    joined-long zero = refl
-    joined-long (suc n) = rw (length-append (joined_to t cs st n) (piece_bytes t cs st n), joined-long n, bytes-long n)
-
     -- the message, as its first record and its pieces say it
     abbrev message_from : Cell → Message
     message_from c = record { kind = c.kind; channel = c.channel; order = c.order; body = joined_to t cs st c.count }
@@ -152,46 +143,46 @@ module _ (t : ℕ) (cs : List Cell) (st : List ℕ) where
 -- ---- the code's three ways, of the first piece's row
 
 module _ (t : ℕ) (rows : List Row) (st buffer : List ℕ) (v : Takeable t (cells_in rows) st) where
-  abbrev first : Row
-  first = whole_row rows (row_index t rows 0)
+  abbrev first : Cell
+  first = cell_of (whole_row rows (row_index t rows 0))
 
   abbrev body : List ℕ
   body = joined_to t (cells_in rows) st first.count
 
+  abbrev taken_with : Body → Taken
+  taken_with b = record { kind = first.kind; channel = first.channel; order = first.order; body = b }
+
   hands : take_turn t (cells_in rows) st buffer
-      ≡ handed (cells_in rows) st buffer t (message_from t (cells_in rows) st v (cell_of first)) (cell_of first)
+      ≡ handed (cells_in rows) st buffer t (message_from t (cells_in rows) st v first) first
   hands = turn-hands t (cells_in rows) st v buffer
       ∙ ap (λ (c : Cell). handed (cells_in rows) st buffer t (message_from t (cells_in rows) st v c) c) (piece_row t rows 0)
 
   -- "handed back as part of the store"
   pub took_store : first.count ≡ 1 → outcome_at t (take_turn t (cells_in rows) st buffer)
       ≡ taken_rows (Ok (record {
-        taken = InStore first.kind first.channel first.order (row_index t rows 0 * cell_bytes) first.length;
+        taken = taken_with (InStore (row_index t rows 0 * cell_bytes) first.length);
         turn = t;
       })) buffer
-  unfolding taken_rows outcome_at handed_of handed cell_of
+  unfolding taken_rows outcome_at handed_of handed
   took_store one = rw (hands, eq-eqb first.count 1 one)
 
-  module _ (several : first.count ≡ 1 → ⊥) (len : ℕ) (long : len ≡ length_to t (cells_in rows) first.count) where
-    len_is : len ≡ length body
-    len_is = long ∙ sym (joined-long t (cells_in rows) st v first.count)
-
+  module _ (several : first.count ≡ 1 → ⊥) (len : ℕ) (len_is : len ≡ length body) where
     -- "12 joining buffer shorter than a message of several pieces"
     pub took_short : length buffer < len → outcome_at t (take_turn t (cells_in rows) st buffer) ≡ taken_rows (Err NoRoom) buffer
-    unfolding taken_rows outcome_at handed_of handed cell_of
+    unfolding taken_rows outcome_at handed_of handed
     took_short l = rw (hands, ne_eqb first.count 1 several)
         (ap (outcome_at t) (sym (by-lt-yes (length buffer) (length body) len _ _ _ len_is l refl)))
 
     -- "or of the joining buffer"
     pub took_joined : len ≤ length buffer → outcome_at t (take_turn t (cells_in rows) st buffer)
-        ≡ taken_rows (Ok (record { taken = Joined first.kind first.channel first.order len; turn = t })) (put buffer 0 body)
-    unfolding taken_rows outcome_at handed_of handed cell_of
+        ≡ taken_rows (Ok (record { taken = taken_with (Joined len); turn = t })) (put buffer 0 body)
+    unfolding taken_rows outcome_at handed_of handed
     took_joined l = rw (hands, ne_eqb first.count 1 several)
         (rw len_is (ap (outcome_at t) (sym (by-lt-no (length buffer) (length body) len _ _ _ len_is l refl))))
 
   -- It is of that turn.
   pub first_turn : first.turn ≡ t
-  unfolding cell_of at bears
+  unfolding at bears
   first_turn =
       let passes = ap (at (ready_as t) 0) (sym (piece_row t rows 0)) ∙ first_passes t (cells_in rows) st v in
       eqb-true first.turn t (and_right (eqb first.used 3) _ (and_left (eqb first.used 3 && eqb first.turn t) _ passes))

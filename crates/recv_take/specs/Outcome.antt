@@ -7,23 +7,23 @@ use Rattle.base.specs.Lists.{option}
 use Rattle.cells.specs.Cell.{Cell, ready_as, bears, empty_cell}
 use Rattle.cells.specs.Records.{change_cells, earliest_cell}
 use Rattle.rows.specs.declared.Row.{Row}
-use Rattle.row_slots.specs.First.{first_cells}
+use Rattle.rows.specs.Rows.{cells_in}
 use Rattle.receiver.specs.declared.RecvQueue.{RecvQueue}
-use Rattle.receiver.specs.Take.{in_store, in_joined, Handed, TakeResult}
+use Rattle.receiver.specs.Take.{Where, in_store, in_joined, Handed, TakeResult}
 use Rattle.recv_prefix.specs.Taking.{take_first}
+use Rattle.recv_take.specs.declared.Body.{Body}
+use Rattle.recv_take.specs.declared.Body.TheVariants.{InStore, Joined}
 use Rattle.recv_take.specs.declared.Taken.{Taken}
-use Rattle.recv_take.specs.declared.Taken.TheVariants.{InStore, Joined}
 use Rattle.recv_take.specs.declared.TakenRows.{TakenRows}
 
--- where the message stands, with its kind, channel and order number
+-- where the message's bytes stand
+abbrev pub where_of : Body → Where
+where_of (InStore start len) = in_store start len
+where_of (Joined len) = in_joined len
+
+-- that, with the message's kind, channel and order number
 unfoldable pub handed_of : Taken → Handed
-handed_of (InStore kind channel order start len) = record {
-  kind = kind;
-  channel = channel;
-  order = order;
-  body = in_store start len;
-}
-handed_of (Joined kind channel order len) = record { kind = kind; channel = channel; order = order; body = in_joined len }
+handed_of t = record { kind = t.kind; channel = t.channel; order = t.order; body = where_of t.body }
 
 -- a call's outcome, of its answer and of the last values of records and joining buffer
 unfoldable pub take_result : Result Taken Refusal → List Cell → List ℕ → TakeResult
@@ -62,9 +62,9 @@ outcome_at t x = record { answer = x.answer; turn = turn_taken x.answer t; joine
 unfoldable pub earliest_turn : List Cell → ℕ
 earliest_turn cs = option (earliest_cell cs) 0 (λ t. t)
 
--- A take over the first k rows, which are the first of so many cells' records.
-unfoldable pub take_rows_of : RecvQueue → ℕ → ℕ → List Row → List ℕ → List ℕ → RowsTaken
-take_rows_of q k cells rows st buffer = outcome_at (earliest_turn (first_cells k rows)) (take_first q cells (first_cells k rows) st buffer)
+-- A take over rows, which are the first of so many cells' records.
+unfoldable pub take_rows_of : RecvQueue → ℕ → List Row → List ℕ → List ℕ → RowsTaken
+take_rows_of q cells rows st buffer = outcome_at (earliest_turn (cells_in rows)) (take_first q cells (cells_in rows) st buffer)
 
 -- "A taken message frees its cells": what a take with this answer leaves of the records; a refusal leaves them as they were.
 abbrev pub records_left : Answer Handed → ℕ → List Cell → List Cell

@@ -1,5 +1,5 @@
 -- The pieces of the ready message of turn t, by their records cs and the store st.
-use Rattle.std.specs.Prelude.{ℕ, zero, suc, ◌+◌, ◌*◌, ◌≤◌, ◌<◌, ◌≡◌, true, List, [], length, take, drop}
+use Rattle.std.specs.Prelude.{ℕ, zero, suc, ◌*◌, ◌≤◌, ◌<◌, ◌≡◌, true, List, [], length, take, drop}
 use Rattle.base.specs.Limits.{cell_bytes, max_frags}
 use Rattle.base.specs.Lists.{option, find, any}
 use Rattle.base.specs.Put.{and_then}
@@ -15,11 +15,6 @@ piece_at t cs i = option (find (at (ready_as t) i) cs) empty_cell (λ c. c)
 -- its bytes in the store
 unfoldable pub piece_bytes : ℕ → List Cell → List ℕ → ℕ → List ℕ
 piece_bytes t cs st i = take (piece_at t cs i).length (drop (index_of (at (ready_as t) i) cs * cell_bytes) st)
-
--- how many bytes the first n pieces have
-unfoldable pub length_to : ℕ → List Cell → ℕ → ℕ
-length_to t cs zero = 0
-length_to t cs (suc n) = length_to t cs n + (piece_at t cs n).length
 
 -- "the bodies joined by index", of the first n pieces
 unfoldable pub joined_to : ℕ → List Cell → List ℕ → ℕ → List ℕ

@@ -1,16 +1,16 @@
 -- Every place of a row is a small number and lies in the header, and a kind's row says whether it has a reliable number.
 -- Assumes nothing.
 use mathlib.Core.Path.{◌≡◌, refl, sym, ◌∙◌, ap}
-use mathlib.Core.Bool.{Bool, true, false, cond, not, ◌&&◌}
+use mathlib.Core.Bool.{Bool, true, false, cond, ◌&&◌}
 use mathlib.Core.List.{List}
 use Prim.Native.Nat.{ℕ, ◌+◌, ◌%◌, ◌≤◌, ◌<◌, zero-le}
 use native.Mathlib.Nat.{le_refl, mod-lt}
 use native.Mathlib.Decide.{dec_lt}
 use native.Mathlib.Omega.{arith}
-use lib.Dec.{ltb, eqb, lit<}
+use lib.Dec.{ltb, lit<}
 use lib.ListN.{get_or}
 use borrow.Author.Tests.{ltb-true, ltb-false, ne_eqb}
-use Rattle.std.specs.Prelude.{Result, Ok, Err}
+use Rattle.std.specs.Prelude.{Result, Ok, Err, IfSome, is_some}
 use Rattle.std.specs.Result.{result_unwrap_or}
 use Rattle.base.specs.Answer.{refused, gives}
 use Rattle.base.specs.Refusals.{number_of, answer}
@@ -22,58 +22,71 @@ use Rattle.reliability.specs.declared.KindFields.{KindFields}
 use Rattle.reliability.specs.declared.Profile.{Profile}
 use Rattle.reliability.specs.declared.Profile.TheVariants.{Console, Cpp}
 use Rattle.reliability.specs.Profiles.{profile_of, profile_number, profile_named}
-use Rattle.reliability.specs.Kinds.{when, has_reliable, has_sequence, has_order, after_reliable, after_sequence, row_of, fields_of, Small}
+use Rattle.reliability.specs.Kinds.{when, place_when, has_reliable, has_sequence, has_order}
+use Rattle.reliability.specs.Kinds.{after_reliable, after_sequence, row_of, fields_of, Small}
 
 when-le : (b : Bool) (n : ℕ) → when b n ≤ n
 when-le true n = le_refl n
 when-le false n = zero-le
 
+-- a small place, where the field is there
+there : (b : Bool) (n : ℕ) → n ≤ 13 → IfSome (place_when b n) (λ i. i ≤ 13)
+there true n h = h
+there false n h = tt
+
 pub small : (p : Profile) (k : ℕ) → Small (row_of p k)
 small p k =
     let a = when-le (has_reliable k) 3 in
     let b = when-le (has_sequence k) 3 in
-    let b' = when-le (has_sequence k) (after_reliable k) in
     let d = when-le (has_order p k) 4 in
-    let d' = when-le (has_order p k) (after_sequence k) in
-    let e = when-le (has_order p k) (after_sequence k + 3) in
     record {
-      reliable = omega arith;
-      sequence = omega arith;
-      order = omega arith;
-      channel = omega arith;
+      reliable = there (has_reliable k) 3 (omega arith);
+      sequence = there (has_sequence k) (after_reliable k) (omega arith);
+      order = there (has_order p k) (after_sequence k) (omega arith);
+      channel = there (has_order p k) (after_sequence k + 3) (omega arith);
       low = omega arith;
       header = omega arith;
     }
 
 -- each field lies in the header: three bytes for a number, and one for the channel
 pub record Inside (f : KindFields) : Type 0 where
-  pub reliable : f.reliable + 3 ≤ f.header
-  pub sequence : f.sequence + 3 ≤ f.header
-  pub order : f.order + 3 ≤ f.header
-  pub channel : f.channel < f.header
+  pub reliable : IfSome f.reliable (λ n. n + 3 ≤ f.header)
+  pub sequence : IfSome f.sequence (λ n. n + 3 ≤ f.header)
+  pub order : IfSome f.order (λ n. n + 3 ≤ f.header)
+  pub channel : IfSome f.channel (λ n. n < f.header)
 
-number-inside : (b : Bool) (n w : ℕ) → 3 ≤ n → 3 ≤ w → when b n + 3 ≤ n + when b w
-number-inside true n w h i = omega arith
-number-inside false n w h i = omega arith
+-- l and m are the bytes of the fields behind it
+reliable-in : (b : Bool) (l m : ℕ) → IfSome (place_when b 3) (λ i. i + 3 ≤ 3 + when b 3 + l + m)
+reliable-in true l m = omega arith
+reliable-in false l m = tt
 
-channel-inside : (b : Bool) (n : ℕ) → 3 ≤ n → when b (n + 3) < n + when b 4
-channel-inside true n h = omega arith
-channel-inside false n h = omega arith
+sequence-in : (b : Bool) (n m : ℕ) → IfSome (place_when b n) (λ i. i + 3 ≤ n + when b 3 + m)
+sequence-in true n m = omega arith
+sequence-in false n m = tt
+
+order-in : (b : Bool) (n : ℕ) → IfSome (place_when b n) (λ i. i + 3 ≤ n + when b 4)
+order-in true n = omega arith
+order-in false n = tt
+
+channel-in : (b : Bool) (n : ℕ) → IfSome (place_when b (n + 3)) (λ i. i < n + when b 4)
+channel-in true n = omega arith
+channel-in false n = tt
 
 pub inside : (p : Profile) (k : ℕ) → Inside (row_of p k)
 inside p k =
-    let a = number-inside (has_reliable k) 3 3 (omega arith) (omega arith) in
-    let b = number-inside (has_sequence k) (after_reliable k) 3 (omega arith) (omega arith) in
-    let d = number-inside (has_order p k) (after_sequence k) 4 (omega arith) (omega arith) in
-    let e = channel-inside (has_order p k) (after_sequence k) (omega arith) in
-    record { reliable = omega arith; sequence = omega arith; order = omega arith; channel = omega arith }
+    record {
+      reliable = reliable-in (has_reliable k) (when (has_sequence k) 3) (when (has_order p k) 4);
+      sequence = sequence-in (has_sequence k) (after_reliable k) (when (has_order p k) 4);
+      order = order-in (has_order p k) (after_sequence k);
+      channel = channel-in (has_order p k) (after_sequence k);
+    }
 
--- A field is there where its place is not 0; from 8 on there is no kind.
-there : (b : Bool) → not (eqb (when b 3) 0) ≡ b
-there true = refl
-there false = refl
+-- A field is there where it has a place; from 8 on there is no kind.
+placed : (b : Bool) (n : ℕ) → is_some (place_when b n) ≡ b
+placed true n = refl
+placed false n = refl
 
-none-from-8 : (k : ℕ) → 8 ≤ k → has_reliable k ≡ false
+pub none-from-8 : (k : ℕ) → 8 ≤ k → has_reliable k ≡ false
 none-from-8 k ge = rw (
   ne_eqb k 2 (λ e. omega arith),
   ne_eqb k 3 (λ e. omega arith),
@@ -81,15 +94,15 @@ none-from-8 k ge = rw (
   ne_eqb k 7 (λ e. omega arith),
 )
 
-pub reliable-there : (p : Profile) (k : ℕ) (f : KindFields) → f ≡ fields_of p k → (ltb k 8 && not (eqb f.reliable 0)) ≡ has_reliable k
+pub reliable-there : (p : Profile) (k : ℕ) (f : KindFields) → f ≡ fields_of p k → (ltb k 8 && is_some f.reliable) ≡ has_reliable k
 unfolding fields_of
 reliable-there p k f e = rw e (go (ltb k 8) refl)
   where
-    go : (b : Bool) → ltb k 8 ≡ b → (b && not (eqb (when (has_reliable (k % 8)) 3) 0)) ≡ has_reliable k
+    go : (b : Bool) → ltb k 8 ≡ b → (b && is_some (place_when (has_reliable (k % 8)) 3)) ≡ has_reliable k
     go true t =
         let lt = ltb-true k 8 t in
         let m : k % 8 ≡ k = omega arith in
-        there (has_reliable (k % 8)) ∙ ap has_reliable m
+        placed (has_reliable (k % 8)) 3 ∙ ap has_reliable m
     go false t = sym (none-from-8 k (ltb-false k 8 t))
 
 -- ---- the table's rule, once for both profiles: the row of a kind, by its number

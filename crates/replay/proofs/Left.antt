@@ -45,3 +45,5 @@ left-after s at i e =
 pub none-left : (s : List ℕ) (at : ℕ) → item_in s at ≡ None → items_from s at ≡ []
 unfolding items_from items_within
 none-left s at e = enough _ (suc (length s - at)) s at _ refl (omega arith) (omega arith) ∙ rw e refl
+
+pub ruleset lefts = (left-after, none-left)

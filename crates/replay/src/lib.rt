@@ -20,7 +20,8 @@ mod input;
 mod replaying;
 mod stored;
 
-// n, or as many as there are: the front that long can be lent.
+// n, or as many as there are: the front that long can be lent. (A number, and not the front: callers lend it as `&` or as `&mut`, and
+// `replay_original` counts on from it.)
 pub fn within<T>(s: &[T], n: usize) -> usize
     ensures prefix_len { IsPrefixLen result s.now }
     ensures value { result ≡ min n (length s.now) }
@@ -31,7 +32,7 @@ pub fn within<T>(s: &[T], n: usize) -> usize
 // ---- the tally
 
 // How many stored answers were compared, and how many of ours were others.
-#[derive(Clone, Copy, Default)]
+#[derive(Clone, Copy, Debug, Default, PartialEq, Eq)]
 pub struct Tally {
     pub answers: u32,
     pub wrong: u32,
@@ -96,7 +97,7 @@ const SHOWN: usize = 64;
 
 const SHOWN_LIST: usize = 16;
 
-// The values beside a number: none beside a refusal's.
+// The values beside a number: none beside a refusal's. (A number, and no `Result`: programs replay the exported calls, which answer so.)
 #[tactic(auto, unfolding(crate::specs::Lines::given_beside, base::specs::If::if_eq, base::specs::If::if_true))]
 pub fn given(number: u64, values: &[u64]) -> &[u64]
     ensures { result.now ≡ given_beside number values.now }

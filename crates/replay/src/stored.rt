@@ -5,12 +5,15 @@ ghost use Rattle.replay.specs.Items.{part_of, item_in, item_of, no_item, items_o
 
 // An item is a tag (1 byte), a length (16 bits big-endian) and a payload, from `start` to `end`; the next item stands at `end`. The tag is
 // the byte as it stands: each program has an enum of its own items, and reads it by `TryFrom`.
-#[derive(Clone, Copy)]
+#[derive(Clone, Copy, Debug, PartialEq, Eq)]
 pub struct Item {
     pub tag: u8,
     pub start: usize,
     pub end: usize,
 }
+
+// The bytes of a tag and a length.
+const START_SIZE: usize = 3;
 
 // The item at this place; none where it is cut. After an item less is left.
 #[tactic(auto, unfolding(crate::specs::Items::item_in, crate::specs::Items::item_of, base::specs::If::if_le, base::specs::If::if_true))]
@@ -20,7 +23,7 @@ pub fn item_at(s: &[u8], at: usize) -> Option<Item>
     ensures end_in_bounds { IfSome result (λ i. (at < i.end) × (i.end ≤ length s.now)) }
 {
     let tag = *s.get(at)?;
-    let start = at + 3;
+    let start = at + START_SIZE;
     let end = start + usize::from(base::be16_at(s, at + 1));
     (end <= s.len()).then_some(Item { tag, start, end })
 }
@@ -34,7 +37,7 @@ pub fn part(s: &[u8], start: usize, end: usize) -> &[u8]
 }
 
 // The items of some bytes from a place on: the tag and the payload of each. A cut item ends them.
-#[derive(Drop)]
+#[derive(Clone, Debug, Drop)]
 pub struct Items<'a> {
     bytes: &'a [u8],
     at: usize,
@@ -58,6 +61,7 @@ impl<'a> Iterator for Items<'a> {
 
     ghost remaining = { item_count items_left };
 
+    #[tactic(auto, using(crate::proofs::Left::lefts))]
     fn next(&mut self) -> Option<(u8, &'a [u8])> {
         let item = item_at(self.bytes, self.at)?;
         self.at = item.end;

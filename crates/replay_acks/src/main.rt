@@ -11,16 +11,17 @@
 use ack::{AckCursor, Header, Record, Step};
 use std::io;
 
-// At most so many bytes of the input are read. (Arrays and no `Vec`: the programs here have no heap.)
+// At most so many bytes of the input are read: the stored one is shorter. (Arrays and no `Vec`: the programs here have no heap.)
 const INPUT: usize = 65536;
 
 // The list has room for one number more than a list may have.
-const LIST: usize = 2049;
+const LIST: usize = base::MAX_LIST + 1;
 
+// The longest output that an item may ask for: the longest ACK has 8,195 bytes.
 const OUTPUT: usize = 8300;
 
 // What an item asks for, with what its payload holds and in how many bytes.
-#[derive(Clone, Copy)]
+#[derive(Clone, Copy, Debug, PartialEq, Eq)]
 enum Item {
     // bytes
     Read,
@@ -92,7 +93,7 @@ fn read(rt: &impl Print, s: &[u8]) {
     }
 }
 
-// Writes a list as the payload's front says.
+// Writes a list as the payload's front says, by the exported call: it answers a number beside the value, 0 where that is there.
 fn write(rt: &impl Print, p: &[u8], list: &[u32]) {
     let mut space = [0xEEu8; OUTPUT];
     let room = replay::within(&space, usize::from(base::be16_at(p, 0)));

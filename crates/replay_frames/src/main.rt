@@ -4,7 +4,8 @@
 // says, its bytes EE before; the line ends with all of the output, also after a refusal.
 //
 // The items and the expected output were made by tools/wire.py, which has its own reading and writing, written from the sentences of
-// document 01 and of request 2 and not from this code: the two agree only where both say what the documents say.
+// document 01 and of document 02, 2/13 (the C++ profile), and not from this code: the two agree only where both say what the documents
+// say.
 
 #![tactic(auto)]
 
@@ -12,7 +13,7 @@ use exports_frames::FrameFound;
 use frame::{FragmentMeta, Frame};
 use std::io;
 
-// At most so many bytes of the input are read. (Arrays and no `Vec`: the programs here have no heap.)
+// At most so many bytes of the input are read: the stored one is shorter. (Arrays and no `Vec`: the programs here have no heap.)
 const INPUT: usize = 65536;
 
 const DATA_SEED: u16 = 11029;
@@ -20,12 +21,14 @@ const DATA_SEED: u16 = 11029;
 // The longest data that an item may ask for: its length has 16 bits.
 const DATA: usize = 65536;
 
+// The longest output that an item may ask for: the longest frame has 8,214 bytes.
 const OUTPUT: usize = 8300;
 
+// The same of a head, which has 4.
 const HEAD_OUTPUT: usize = 8;
 
 // What an item asks for, with what its payload holds and in how many bytes.
-#[derive(Clone, Copy)]
+#[derive(Clone, Copy, Debug, PartialEq, Eq)]
 enum Item {
     // profile (4), place (2), bytes: the frame at the place is read, and the frames from there on
     Read,
@@ -93,6 +96,7 @@ fn show_frame(rt: &impl Print, found: FrameFound, s: &[u8]) {
     replay::line_with(rt, b"frame", 0, &values, body);
 }
 
+// The exported call, as other languages have it: a number beside the values, 0 where they are there.
 fn read_one(rt: &impl Print, profile: u32, s: &[u8], at: usize) {
     let found = exports_frames::poghduka_read_frame(profile, s, at);
     if found.number == 0 {

@@ -8,7 +8,7 @@
 
 use std::io;
 
-// At most so many bytes of the input are read. (Arrays and no `Vec`: the programs here have no heap.)
+// At most so many bytes of the input are read: the stored one is shorter. (Arrays and no `Vec`: the programs here have no heap.)
 const INPUT: usize = 65536;
 
 // The one kind of item, and so no enum: low (4), length of the bits (2), length of the list (2), shape (1), place (2), seed (4)
@@ -20,7 +20,7 @@ const BITS: usize = 512;
 const LIST: usize = 2100;
 
 // What the bits are made of. An unknown shape has no place set.
-#[derive(Clone, Copy)]
+#[derive(Clone, Copy, Debug, PartialEq, Eq)]
 enum Shape {
     Clear,
     Full,

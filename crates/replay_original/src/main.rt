@@ -10,11 +10,11 @@ use split::Fragment;
 use std::io;
 use window::ReliableWindow;
 
-// At most so many bytes of the input are read. (Arrays and no `Vec`: the programs here have no heap.)
+// At most so many bytes of the input are read: the stored one is shorter. (Arrays and no `Vec`: the programs here have no heap.)
 const INPUT: usize = 65536;
 
 // What an item holds.
-#[derive(Clone, Copy)]
+#[derive(Clone, Copy, Debug, PartialEq, Eq)]
 enum Item {
     // A new window, and four bytes for each answer: a number (24 bits little-endian), then 1 where its insert was accepted, 0 where it was
     // not, and 2 where the number is the window's low.
@@ -53,10 +53,13 @@ fn window_item(p: &[u8], t: &mut Tally) {
     }
 }
 
+// Room for every list's ACK: the longest has 8,195 bytes.
+const OUTPUT: usize = 8300;
+
 // The numbers stand three bytes apart.
 fn list_item(p: &[u8]) -> bool {
-    let mut list = [0u32; 2048];
-    let mut out = [0u8; 8300];
+    let mut list = [0u32; base::MAX_LIST];
+    let mut out = [0u8; OUTPUT];
     let n = replay::within(&list, usize::from(base::be16_at(p, 0)));
     for (number, bytes) in list[..n]
         .iter_mut()
@@ -68,23 +71,17 @@ fn list_item(p: &[u8]) -> bool {
     ack::write_list(&mut out, false, &list[..n]).is_ok_and(|len| replay::part(&out, 0, len) == ack)
 }
 
-// All pieces up to the last but one have the first one's length, and after the last there is none.
+// All pieces up to the last but one have the first one's length, and after the last there is none. (`as usize`: u32 has no From to it.)
 fn pieces_right(data: &[u8], mtu: u16, count: u32, first: usize, last: usize) -> bool {
-    let mut start = 0usize;
-    for k in 0..count {
-        let len = if k + 1 < count { first } else { last };
+    (0..count).all(|index| {
         let piece = Fragment {
-            start,
-            len,
+            start: first.saturating_mul(index as usize),
+            len: if index < count - 1 { first } else { last },
             count,
-            index: k,
+            index,
         };
-        if split::split_piece(data, mtu, k) != Ok(piece) {
-            return false;
-        }
-        start = start.saturating_add(len);
-    }
-    split::split_piece(data, mtu, count) == Err(Refusal::BeyondLast)
+        split::split_piece(data, mtu, index) == Ok(piece)
+    }) && split::split_piece(data, mtu, count) == Err(Refusal::BeyondLast)
 }
 
 fn split_right(data: &[u8], p: &[u8]) -> bool {

@@ -5,7 +5,6 @@
 #![tactic(auto)]
 
 use base::Refusal;
-use recv_answers::{QueueReceived, QueueTaken};
 use recv_array::Receiver;
 use recv_queue::Profile;
 use replay::Tally;
@@ -19,7 +18,7 @@ const STORE: usize = base::CELL_BYTES * recv_array::HELD;
 const JOINED: usize = 65536;
 
 // What an item holds.
-#[derive(Clone, Copy)]
+#[derive(Clone, Copy, Debug, PartialEq, Eq)]
 enum Item {
     // A new receiver of so many cells (16 bits), 1 to 256.
     New,
@@ -73,23 +72,24 @@ impl Ours {
         let store = &mut self.store[..];
         let n = replay::within(store, self.front);
         let datagram = replay::part(p, 3, p.len());
-        let told = QueueReceived::from(self.receiver.receive(&mut store[..n], datagram));
+        let answer = self.receiver.receive(&mut store[..n], datagram);
         let number = u32::from(base::byte(p, 0));
         let ready = u32::from(base::be16_at(p, 1));
-        self.tally.count(told.number == number && told.ready == ready && told.left == 0);
+        self.tally.count(match answer {
+            Ok(r) => number == 0 && r.ready == ready && r.left == 0,
+            Err(refusal) => number == u32::from(refusal) && ready == 0,
+        });
     }
 
     fn take(&mut self, p: &[u8]) {
         let n = replay::within(&self.store, self.front);
         let store = &self.store[..n];
         let answer = self.receiver.take(store, &mut self.joined);
-        let sum = replay::sum(recv_queue::body(store, &self.joined, answer));
-        let told = QueueTaken::from(answer);
+        let body = recv_queue::body(store, &self.joined, answer);
         // `as usize`: u32 has no From to it.
         let len = base::be32_at(p, 0) as usize;
         let stored_sum = u64::from(base::be16_at(p, 4));
-        self.tally
-            .count(told.number == 0 && told.len == len && sum == stored_sum);
+        self.tally.count(answer.is_ok() && body.len() == len && replay::sum(body) == stored_sum);
     }
 
     // Right where the output's front is what is stored.

@@ -10,11 +10,11 @@
 use std::io;
 use window::ReliableWindow;
 
-// At most so many bytes of the input are read. (Arrays and no `Vec`: the programs here have no heap.)
+// At most so many bytes of the input are read: the stored one is shorter. (Arrays and no `Vec`: the programs here have no heap.)
 const INPUT: usize = 65536;
 
 // What an item asks for, with what its payload holds and in how many bytes.
-#[derive(Clone, Copy)]
+#[derive(Clone, Copy, Debug, PartialEq, Eq)]
 enum Item {
     New,
     // low (4), of a window with no place set
@@ -68,7 +68,7 @@ fn insert_run(rt: &impl Print, w: &mut ReliableWindow, first: u32, count: u16) {
 
 // The whole list is printed, so that a number stored past the missing ones shows. (`as u64`: usize has no From to it.)
 fn missing(rt: &impl Print, w: &ReliableWindow) {
-    let mut list = [base::NUMBERS_24; 2048];
+    let mut list = [base::NUMBERS_24; base::MAX_LIST];
     let count = w.missing(&mut list);
     replay::line_list(rt, b"missing", 0, &[count as u64], &list);
 }

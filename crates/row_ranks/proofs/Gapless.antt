@@ -15,7 +15,7 @@ use Rattle.base.proofs.Choices.{cases, and_left, and_right, or-implied}
 use Rattle.base.proofs.Counts.{count-ext, count_none}
 use Rattle.base.proofs.Indices.{count-below-suc}
 use Rattle.base.proofs.Lists.{any-all, every-mem}
-use Rattle.cells.specs.Cell.{Cell}
+use Rattle.cells.specs.Cell.{Cell, mark_cell}
 use Rattle.cells.specs.Records.{first_cell, before_cell}
 use Rattle.rows.specs.declared.Row.{Row}
 use Rattle.rows.specs.Rows.{cell_of, cells_in, mark_row, change_row, change_rows}
@@ -94,36 +94,26 @@ module _ (p : Cell → Bool) (g h : Row → Row) where
 
 -- Gapless turns lowered are renumbered.
 module _ (rows : List Row) (t : Turns) (g : gapless t ≡ true) (s : Surveyed (cells_in rows) t) where
-  row-rank : (r : Row) → Memᴰ r rows → uses 3 (cell_of r) ≡ true → r.turn - excess t ≡ count_of (before_cell r.turn) (cells_in rows)
-  unfolding cells_in cell_of
+  row-rank : (r : Row) → Memᴰ r rows → uses 3 (cell_of r) ≡ true
+      → r.cell.turn - excess t ≡ count_of (before_cell r.cell.turn) (cells_in rows)
+  unfolding cells_in
   row-rank r m u = sym (rank_is (cells_in rows) t s g (cell_of r) (Memᴰ.map cell_of m) u)
 
   lowered_is : length rows ≤ max_cells → change_rows (uses 3) (lower_row (excess t)) rows ≡ renumbered rows
   unfolding lower_row
   lowered_is l =
-      change-same (uses 3) (λ r. mark_row 3 (r.turn - excess t) r) (λ r. mark_row 3 (count_of (before_cell r.turn) (cells_in rows)) r)
+      change-same (uses 3) (λ r. mark_row 3 (r.cell.turn - excess t) r)
+      (λ r. mark_row 3 (count_of (before_cell r.cell.turn) (cells_in rows)) r)
       rows (λ r m u. ap (λ (n : ℕ). mark_row 3 n r) (row-rank r m u))
       ∙ sym (renumbered-is rows l)
 
 -- Lowered by 0, rows stay.
 own_turn : (r : Row) → uses 3 (cell_of r) ≡ true → r ≡ lower_row 0 r
-unfolding lower_row mark_row cell_of
+unfolding lower_row mark_row mark_cell
 own_turn r u =
-    let e : r.used ≡ 3 = eqb-true _ _ u in
-    let f : r.turn ≡ r.turn - 0 = omega arith in
-    λ k. record {
-      used = e k;
-      kind = r.kind;
-      channel = r.channel;
-      id = r.id;
-      index = r.index;
-      count = r.count;
-      length = r.length;
-      sequence = r.sequence;
-      order = r.order;
-      turn = f k;
-      place = r.place;
-    }
+    let e : r.cell.used ≡ 3 = eqb-true _ _ u in
+    let f : r.cell.turn ≡ r.cell.turn - 0 = omega arith in
+    λ k. mark_row (e k) (f k) r
 
 change-own : (rs : List Row) → change_rows (uses 3) (λ r. r) rs ≡ rs
 unfolding change_rows change_row
@@ -135,8 +125,8 @@ change-own (r ∷ rs) = cases (uses 3 (cell_of r))
 lowered_none : (rs : List Row) → rs ≡ change_rows (uses 3) (lower_row 0) rs
 lowered_none rs = sym (change-same (uses 3) (lower_row 0) (λ r. r) rs (λ r m u. sym (own_turn r u)) ∙ change-own rs)
 
-pub lowered-zero : (rs : List Row) {by : ℕ} → by ≡ 0 → rs ≡ change_rows (uses 3) (lower_row by) rs
-lowered-zero rs e = rw e (lowered_none rs)
+pub lowered_zero : (rs : List Row) {by : ℕ} → by ≡ 0 → rs ≡ change_rows (uses 3) (lower_row by) rs
+lowered_zero rs e = rw e (lowered_none rs)
 
 -- What a survey told, and then by how much gapless turns are above their ranks.
 pub gapless-renumbered : (rows : List Row) (o : Option Turns) (q : Option ℕ) {by : ℕ} {new : List Row} → length rows ≤ max_cells

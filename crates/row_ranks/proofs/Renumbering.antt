@@ -1,4 +1,4 @@
--- Renumbering: a rank counted over a list of turns, those turns copied out of the rows, and both together.
+-- Renumbering: a rank summed over a list of turns, those turns copied out of the rows, and both together.
 -- Assumes nothing.
 use Prim.Native.Nat.{ℕ, suc, ◌+◌, ◌<◌, ◌≤◌}
 use mathlib.Core.Path.{◌≡◌, refl, sym, ap, ◌∙◌}
@@ -8,8 +8,10 @@ use native.Mathlib.Numerals.{add-one}
 use native.Mathlib.Omega.{arith}
 use lib.Dec.{ltb, eqb}
 use lib.ListN.{length, get_or, take, drop, set, length-append, length-set}
-use lib.Seq.{take-suc, take-length, take_all, take_at, drop-cons, set_at, append_snoc}
-use borrow.Author.Tests.{lt-ltb, le-ltb}
+use lib.Seq.{take_all, take_at, drop-cons, set_at, append_snoc}
+use mir.Val.{bool_byte}
+use Rattle.std.specs.List.{sum_by}
+use Rattle.std.proofs.lemmas.List.Recursion.{is_sum_by}
 use Rattle.base.specs.Limits.{max_cells}
 use Rattle.base.specs.Lists.{count_of, only}
 use Rattle.base.proofs.Ifs.{le_yes, le-no}
@@ -19,33 +21,17 @@ use Rattle.cells.specs.Records.{first_cell, before_cell}
 use Rattle.rows.specs.declared.Row.{Row}
 use Rattle.rows.specs.Rows.{cell_of, cells_in, mark_row, change_rows}
 use Rattle.row_tests.specs.Uses.{uses}
-use Rattle.rows.proofs.ListMaps.{count-append}
 use Rattle.rows.proofs.Rows.{cells-more}
 use Rattle.row_ranks.specs.Renumber.{renumbered, first_turns, is_below, rank_row}
 
--- how many of the first i turns are below t
-unfoldable pub rank_to : ℕ → List ℕ → ℕ → ℕ
-rank_to t l i = count_of (is_below t) (take i l)
+-- how many turns are below t, each counted as 1 or 0
+one-more : (b : Bool) (n : ℕ) → cond b (suc n) n ≡ bool_byte b + n
+one-more true n = omega arith
+one-more false n = omega arith
 
-module _ (t : ℕ) (l : List ℕ) where
-  pub rank-none : 0 ≡ rank_to t l 0
-  unfolding rank_to count_of
-  rank-none = refl
-
-  module _ (i : ℕ) {k : ℕ} (inside : i < length l) (e : k ≡ rank_to t l i) where
-    counted : (v : Bool) → ltb (get_or l i 0) t ≡ v → rank_to t l (i + 1) ≡ rank_to t l i + cond v 1 0
-    unfolding rank_to count_of is_below
-    counted v y = rw (add-one i, take-suc l i 0 inside, count-append (is_below t) (take i l) (get_or l i 0 ∷ []), y)
-
-    pub rank-yes : get_or l i 0 < t → k + 1 ≡ rank_to t l (i + 1)
-    rank-yes h = omega (arith, counted true (lt-ltb _ _ h))
-
-    pub rank-no : t ≤ get_or l i 0 → k ≡ rank_to t l (i + 1)
-    rank-no h = omega (arith, counted false (le-ltb _ _ h))
-
-  pub rank-end : {i k : ℕ} → i ≤ length l → length l ≤ i → k ≡ rank_to t l i → k ≡ count_of (is_below t) l
-  unfolding rank_to
-  rank-end {i} a b e = let q : i ≡ length l = omega arith in e ∙ rw (q, take-length l)
+pub rank_sum : (t : ℕ) (l : List ℕ) → count_of (is_below t) l ≡ sum_by (λ x. bool_byte (ltb x t)) l
+unfolding count_of is_below
+rank_sum t = is_sum_by (count_of (is_below t)) (λ x. bool_byte (ltb x t)) refl (λ x l. one-more (ltb x t) (count_of (is_below t) l))
 
 -- ---- the turns of first records, copied
 
@@ -78,24 +64,19 @@ module _ (rows : List Row) (d : List ℕ) where
         ap first_turns (cells-more rows i x inside) ∙ first-no (cells_in (take i rows)) (cell_of (get_or rows i x)) (sym t ∙ y) in
         record { count = h.count ∙ ap length (sym e); few = omega (arith, h.few); long = h.long; front = rw e h.front }
 
-    turn-of : (cell_of (get_or rows i x)).turn ≡ (get_or rows i x).turn
-    unfolding cell_of
-    turn-of = refl
-
-    pub copy-yes : b ≡ true → length rows ≤ length d → Copied rows d (i + 1) (m + 1) (set now m (get_or rows i x).turn)
+    pub copy-yes : b ≡ true → length rows ≤ length d → Copied rows d (i + 1) (m + 1) (set now m (get_or rows i x).cell.turn)
     copy-yes y room =
         let l : m < length d = omega (arith, h.few) in
         let r = get_or rows i x in
-        let e : first_turns (cells_in (take (i + 1) rows)) ≡ first_turns (cells_in (take i rows)) ++ (r.turn ∷ []) =
-        ap first_turns (cells-more rows i x inside) ∙ first-yes (cells_in (take i rows)) (cell_of r) (sym t ∙ y)
-        ∙ ap (λ (n : ℕ). first_turns (cells_in (take i rows)) ++ (n ∷ [])) turn-of in
+        let e : first_turns (cells_in (take (i + 1) rows)) ≡ first_turns (cells_in (take i rows)) ++ (r.cell.turn ∷ []) =
+        ap first_turns (cells-more rows i x inside) ∙ first-yes (cells_in (take i rows)) (cell_of r) (sym t ∙ y) in
         record {
-          count = rw (e, length-append (first_turns (cells_in (take i rows))) (r.turn ∷ [])) (omega (arith, h.count));
+          count = rw (e, length-append (first_turns (cells_in (take i rows))) (r.cell.turn ∷ [])) (omega (arith, h.count));
           few = omega (arith, h.few);
-          long = length-set now m r.turn ∙ h.long;
+          long = length-set now m r.cell.turn ∙ h.long;
           front = rw (e, h.front, drop-cons d m 0 l, add-one m)
               (set_at (first_turns (cells_in (take i rows))) (get_or d m 0) (drop (suc m) d)
-              r.turn m (sym h.count) ∙ sym (append_snoc (first_turns (cells_in (take i rows))) r.turn (drop (suc m) d)));
+              r.cell.turn m (sym h.count) ∙ sym (append_snoc (first_turns (cells_in (take i rows))) r.cell.turn (drop (suc m) d)));
         }
 
   pub copy-ends : {i m : ℕ} {now : List ℕ} → Copied rows d i m now → length rows ≤ i → i ≤ length rows
@@ -122,14 +103,14 @@ pub renumber-is : (rows : List Row) (turns old : List ℕ) {m : ℕ} {new : List
 unfolding renumbered rank_row
 renumber-is rows turns old {m} h n e r =
     let front : take m turns ≡ first_turns (cells_in rows) = rw e (take_at (first_turns (cells_in rows)) (drop m old) m (sym n)) in
-    le_yes _ _ _ _ _ h (r ∙ rw front (λ k. change_rows (uses 3) (λ x. mark_row 3 (rank-firsts x.turn (cells_in rows) k) x) rows))
+    le_yes _ _ _ _ _ h (r ∙ rw front (λ k. change_rows (uses 3) (λ x. mark_row 3 (rank-firsts x.cell.turn (cells_in rows) k) x) rows))
 
-pub renumber-none : (rows : List Row) → max_cells < length rows → rows ≡ renumbered rows
+pub renumber_none : (rows : List Row) → max_cells < length rows → rows ≡ renumbered rows
 unfolding renumbered
-renumber-none rows h = le-no _ _ _ _ _ h refl
+renumber_none rows h = le-no _ _ _ _ _ h refl
 
 -- What `renumber` makes of as many rows as there may be cells.
 pub renumbered-is : (rows : List Row) → length rows ≤ max_cells → renumbered rows
-    ≡ change_rows (uses 3) (λ r. mark_row 3 (count_of (before_cell r.turn) (cells_in rows)) r) rows
+    ≡ change_rows (uses 3) (λ r. mark_row 3 (count_of (before_cell r.cell.turn) (cells_in rows)) r) rows
 unfolding renumbered
 renumbered-is rows h = sym (le_yes _ _ _ _ _ h refl)

@@ -4,6 +4,7 @@ use Prim.Native.Nat.{ℕ, min, max, ◌+◌, ◌-◌, ◌%◌, ◌<◌, ◌≤�
 use mathlib.Core.Path.{◌≡◌, refl, sym, ap, ◌∙◌}
 use mathlib.Core.Bool.{Bool, true, false, cond, not, ◌&&◌}
 use mathlib.Core.List.{List, [], ◌∷◌, ◌++◌}
+use mir.Val.{bool_byte}
 use native.Mathlib.Nat.{mod-lt}
 use native.Mathlib.Omega.{arith}
 use lib.Dec.{leb, eqb}
@@ -172,21 +173,29 @@ module _ (rows : List Row) {n i : ℕ} {marks : List Bool} {t : Turns} (h : Mark
   pub survey-ends : length rows ≤ i → Surveyed (cells_in rows) t
   survey-ends l = rw (take_all i rows l) at h.told
 
+pub byte_is : (b : Bool) → bool_byte b ≡ cond b 1 0
+byte_is true = refl
+byte_is false = refl
+
 -- The code's ways of its tests.
 module _ (t : Turns) where
-  pub gapless-none : t.top < t.least → (gapless t ≡ true) × (0 ≡ excess t)
-  unfolding gapless excess
-  gapless-none l = (rw (lt-ltb t.top t.least l), rw (lt-ltb t.top t.least l))
+  pub gapless_none : t.top < t.least → gapless t ≡ true
+  unfolding gapless
+  gapless_none l = rw (lt-ltb t.top t.least l)
+
+  pub excess_none : t.top < t.least → excess t ≡ 0
+  unfolding excess
+  excess_none l = rw (lt-ltb t.top t.least l)
 
   module _ (l : t.least ≤ t.top) where
-    pub gapless-no : t.firsts ≡ 0 → gapless t ≡ false
+    pub gapless_no : t.firsts ≡ 0 → gapless t ≡ false
     unfolding gapless
-    gapless-no e = rw (le-ltb t.top t.least l, e)
+    gapless_no e = rw (le-ltb t.top t.least l, e)
 
-    pub gapless-is : (t.firsts ≡ 0 → ⊥) → {o : Option ℕ} → o ≡ then_some (eqb (t.top - t.least) (t.firsts - 1)) t.least
+    pub gapless_is : (t.firsts ≡ 0 → ⊥) → {o : Option ℕ} → o ≡ then_some (eqb (t.top - t.least) (t.firsts - 1)) t.least
         → MatchOption o (gapless t ≡ false) (λ by. (gapless t ≡ true) × (by ≡ excess t))
     unfolding gapless excess
-    gapless-is ne {o} q = rw q (full (eqb (t.top - t.least) (t.firsts - 1)) refl)
+    gapless_is ne {o} q = rw q (full (eqb (t.top - t.least) (t.firsts - 1)) refl)
       where
         is : {v : Bool} → eqb (t.top - t.least) (t.firsts - 1) ≡ v → gapless t ≡ v
         is e = rw (le-ltb t.top t.least l, lt-ltb 0 t.firsts (omega arith)) e
@@ -196,12 +205,23 @@ module _ (t : Turns) where
         full true e = (is e, rw (le-ltb t.top t.least l))
         full false e = is e
 
-module _ (marks : List Bool) (r : Row) where
-  pub new-first : r.index ≡ 0 → {b d : Bool} → b ≡ get_or marks (r.turn % length marks) false → d ≡ true
-      → (not b ≡ is_new marks (cell_of r)) × (set marks (r.turn % length marks) d ≡ marked_with marks (cell_of r))
-  unfolding is_new marked_with mark_at cell_of
-  new-first e f g = rw (eq-eqb r.index 0 e, f, g) (refl, refl)
+pub ruleset gaps = (gapless_none, excess_none, gapless_no, gapless_is)
 
-  pub new-later : (r.index ≡ 0 → ⊥) → (true ≡ is_new marks (cell_of r)) × (marks ≡ marked_with marks (cell_of r))
-  unfolding is_new marked_with cell_of
-  new-later ne = rw (ne_eqb r.index 0 ne) (refl, refl)
+module _ (marks : List Bool) (c : Cell) where
+  pub new_first : c.index ≡ 0 → is_new marks c ≡ not (get_or marks (c.turn % length marks) false)
+  unfolding is_new mark_at
+  new_first e = rw (eq-eqb c.index 0 e)
+
+  pub new_later : (c.index ≡ 0 → ⊥) → is_new marks c ≡ true
+  unfolding is_new
+  new_later ne = rw (ne_eqb c.index 0 ne)
+
+  pub marked_first : c.index ≡ 0 → marked_with marks c ≡ set marks (c.turn % length marks) true
+  unfolding marked_with mark_at
+  marked_first e = rw (eq-eqb c.index 0 e)
+
+  pub marked_later : (c.index ≡ 0 → ⊥) → marked_with marks c ≡ marks
+  unfolding marked_with
+  marked_later ne = rw (ne_eqb c.index 0 ne)
+
+pub ruleset marking = (new_first, new_later, marked_first, marked_later)

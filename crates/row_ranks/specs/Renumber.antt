@@ -15,7 +15,7 @@ use Rattle.row_ranks.specs.declared.Turns.{Turns}
 unfoldable pub renumbered : List Row → List Row
 renumbered rows =
     if_le (length rows) max_cells
-    (change_rows (uses ready_use) (λ r. mark_row ready_use (count_of (before_cell r.turn) (cells_in rows)) r) rows)
+    (change_rows (uses ready_use) (λ r. mark_row ready_use (count_of (before_cell r.cell.turn) (cells_in rows)) r) rows)
     rows
 
 -- ---- how it is computed
@@ -47,7 +47,7 @@ unfoldable pub excess : Turns → ℕ
 excess t = cond (ltb t.top t.least) 0 t.least
 
 unfoldable pub lower_row : ℕ → Row → Row
-lower_row by r = mark_row ready_use (r.turn - by) r
+lower_row by r = mark_row ready_use (r.cell.turn - by) r
 
 -- a ready message's first cell of this turn, and a ready cell of a turn between these two
 unfoldable pub first_of_turn : ℕ → Cell → Bool
@@ -71,4 +71,4 @@ is_below t u = ltb u t
 
 -- a row whose turn becomes the number of those turns that are below it
 unfoldable pub rank_row : List ℕ → Row → Row
-rank_row turns r = mark_row ready_use (count_of (is_below r.turn) turns) r
+rank_row turns r = mark_row ready_use (count_of (is_below r.cell.turn) turns) r

@@ -1,22 +1,22 @@
-// (A crate of its own only for the gate: a must-fail edit costs a check of its crate.) The ready messages' turns become 0, 1, 2, .. in
-// their order. Mostly they follow one another, since a take frees the least one: then each is lowered by the least, and nothing is written
-// where that is 0. Else a rank is counted over the turns as they were, so these are copied first, one for each ready message. Copy and
-// marks are local arrays for as many rows as document 01 has cells. More rows are left as they are: a count of them all need not fit a
-// turn. (Arrays and no `Vec`: the receiver has no heap.)
+// The ready messages' turns become 0, 1, 2, .. in their order. Mostly they follow one another, since a take frees the least one: then each
+// is lowered by the least, and nothing is written where that is 0. Else a rank is counted over the turns as they were, so these are copied
+// first, one for each ready message. Copy and marks are local arrays for as many rows as document 01 has cells. More rows are left as they
+// are: a count of them all need not fit a turn. (Arrays and no `Vec`: the receiver has no heap. A must-fail edit costs a check of its
+// whole crate, so this is a crate of its own.)
 
 #![tactic(auto)]
 
-ghost use Rattle.std.specs.Prelude.{◌≡◌, true, false, ◌++◌, ◌<◌, ◌≤◌, length, drop, IfSome, MatchOption};
+ghost use Rattle.std.specs.Prelude.{ℕ, ◌≡◌, true, false, ◌++◌, ◌<◌, ◌≤◌, length, drop, IfSome, MatchOption};
 ghost use Rattle.base.specs.Limits.{max_cells};
 ghost use Rattle.base.specs.Lists.{count_of};
-ghost use Rattle.rows.specs.Rows.{cell_of, cells_in, change_rows};
+ghost use Rattle.rows.specs.declared.Row.{Row};
+ghost use Rattle.rows.specs.Rows.{cell_of, cells_in, mark_row, change_rows};
 ghost use Rattle.row_tests.specs.Uses.{uses};
 ghost use Rattle.row_ranks.specs.Renumber as Renumber;
 ghost use Rattle.row_ranks.specs.Renumber.{renumbered, with_turn, is_new, marked_with, gapless, Surveyed, lower_row, first_turns, is_below};
 ghost use Rattle.row_ranks.specs.Renumber.{rank_row};
 ghost use Rattle.cells.specs.Cell.{ready_use};
 
-use row_sweeps::sweep;
 use row_tests::{is_first, is_used_as};
 use rows::{Row, mark_row};
 use std::mem;
@@ -25,8 +25,8 @@ use std::mem;
 const FEW_ROWS: usize = 64;
 
 // How many first cells of ready messages there are, and of all ready cells the least and the greatest turn (the greatest is the less where
-// none is ready).
-#[derive(Clone, Copy)]
+// none is ready: an `Option` of the two would be asked at each ready cell whether it is the first).
+#[derive(Clone, Copy, Debug, PartialEq, Eq)]
 struct Turns {
     firsts: u32,
     least: u32,
@@ -34,26 +34,28 @@ struct Turns {
 }
 
 // With one more ready cell.
+#[tactic(auto, using(crate::proofs::Surveys::byte_is), unfolding(crate::specs::Renumber::with_turn))]
 fn with_turn(t: Turns, r: &Row) -> Turns
     requires { t.firsts ≤ max_cells }
     ensures { result ≡ with_turn t (cell_of r.now) }
 {
     Turns {
-        firsts: t.firsts + u32::from(r.index == 0),
-        least: t.least.min(r.turn),
-        top: t.top.max(r.turn),
+        firsts: t.firsts + u32::from(r.cell.index == 0),
+        least: t.least.min(r.cell.turn),
+        top: t.top.max(r.cell.turn),
     }
 }
 
 // Is this a first cell of a turn whose mark is not set, or no first cell? The mark is set. Turns share a mark where their remainders are
 // equal. (`as usize`: u32 has no From to it.)
+#[tactic(auto, using(crate::proofs::Surveys::marking))]
 fn is_new(marks: &mut [bool], r: &Row) -> bool
     requires { 0 < length marks.old }
     ensures is { result ≡ is_new marks.old (cell_of r.now) }
     ensures marks { marks.new ≡ marked_with marks.old (cell_of r.now) }
 {
-    if r.index == 0 {
-        let at = r.turn as usize % marks.len();
+    if r.cell.index == 0 {
+        let at = r.cell.turn as usize % marks.len();
         return !mem::replace(&mut marks[at], true);
     }
     true
@@ -71,7 +73,7 @@ fn survey(rows: &[Row], marks: &mut [bool]) -> Option<Turns>
         top: 0,
     };
     for r in rows {
-        if is_used_as(r, cells::READY) {
+        if is_used_as(&r.cell, cells::READY) {
             if is_new(marks, r) {
                 t = with_turn(t, r);
             } else {
@@ -84,6 +86,7 @@ fn survey(rows: &[Row], marks: &mut [bool]) -> Option<Turns>
 
 // By how much each turn is above its rank, where the first cells' turns, if they differ, are all from the least to the greatest. Where none
 // is ready, too.
+#[tactic(auto, using(crate::proofs::Surveys::gaps))]
 fn excess(t: Turns) -> Option<u32>
     ensures { MatchOption result (gapless t ≡ false) (λ by. (gapless t ≡ true) × (by ≡ Renumber.excess t)) }
 {
@@ -96,20 +99,31 @@ fn excess(t: Turns) -> Option<u32>
     (t.top - t.least == t.firsts - 1).then_some(t.least)
 }
 
-#[tactic(auto, unfolding(crate::specs::Renumber::lower_row))]
+// Each ready cell's turn becomes what turn_of makes of it. (row_sweeps' `sweep` is this with any test, but private there: open, it would
+// ask of every caller that its closures can be called.)
+fn turn_ready<F: Fn(u32) -> u32>(rows: &mut [Row], turn_of: F)
+    requires { F.IsAlwaysCallable turn_of }
+    ensures { (g : Row → Row) → ((r : Row) (turn : ℕ) → F.post turn_of r.cell.turn turn → mark_row ready_use turn r ≡ g r)
+        → rows.new ≡ change_rows (uses ready_use) g rows.old }
+{
+    for r in rows.iter_mut() {
+        if is_used_as(&r.cell, cells::READY) {
+            *r = mark_row(*r, cells::READY, turn_of(r.cell.turn));
+        }
+    }
+}
+
+#[tactic(auto, using(crate::proofs::Gapless::lowered_zero), unfolding(crate::specs::Renumber::lower_row))]
 fn lower_all(rows: &mut [Row], by: u32)
     ensures { rows.new ≡ change_rows (uses ready_use) (lower_row by) rows.old }
 {
     if by != 0 {
-        sweep(
-            rows,
-            |r| is_used_as(r, cells::READY),
-            |r| mark_row(r, cells::READY, r.turn.saturating_sub(by)),
-        );
+        turn_ready(rows, |turn| turn.saturating_sub(by));
     }
 }
 
-// The turns of the first cells of ready messages go to the front of turns; how many there are.
+// The turns of the first cells of ready messages go to the front of turns; how many there are. (A `zip` with `iter_mut` tells a proof how
+// many turns there are, and not what they become.)
 fn copy_firsts(rows: &[Row], turns: &mut [u32]) -> usize
     requires { length rows.now ≤ length turns.old }
     ensures count { result ≡ length (first_turns (cells_in rows.now)) }
@@ -118,8 +132,8 @@ fn copy_firsts(rows: &[Row], turns: &mut [u32]) -> usize
 {
     let mut m: usize = 0;
     for r in rows {
-        if is_first(r) {
-            turns[m] = r.turn;
+        if is_first(&r.cell) {
+            turns[m] = r.cell.turn;
             m += 1;
         }
     }
@@ -127,17 +141,12 @@ fn copy_firsts(rows: &[Row], turns: &mut [u32]) -> usize
 }
 
 // How many of the turns are below this one.
+#[tactic(auto, using(crate::proofs::Renumbering::rank_sum))]
 fn rank(turns: &[u32], turn: u32) -> u32
     requires { length turns.now ≤ max_cells }
     ensures { result ≡ count_of (is_below turn) turns.now }
 {
-    let mut k: u32 = 0;
-    for t in turns {
-        if *t < turn {
-            k += 1;
-        }
-    }
-    k
+    turns.iter().map(|t| u32::from(*t < turn)).sum()
 }
 
 #[tactic(auto, unfolding(crate::specs::Renumber::rank_row))]
@@ -145,19 +154,7 @@ fn rank_all(rows: &mut [Row], turns: &[u32])
     requires { length turns.now ≤ max_cells }
     ensures { rows.new ≡ change_rows (uses ready_use) (rank_row turns.now) rows.old }
 {
-    sweep(
-        rows,
-        |r| is_used_as(r, cells::READY),
-        |r| mark_row(r, cells::READY, rank(turns, r.turn)),
-    );
-}
-
-fn renumber_by(rows: &mut [Row], turns: &mut [u32])
-    requires { (length rows.old ≤ length turns.old) × (length rows.old ≤ max_cells) }
-    ensures { rows.new ≡ renumbered rows.old }
-{
-    let m = copy_firsts(rows, turns);
-    rank_all(rows, &turns[..m]);
+    turn_ready(rows, |turn| rank(turns, turn));
 }
 
 // Gapless turns are lowered, where N marks tell that they are. Were they?
@@ -185,10 +182,12 @@ fn renumber_many(rows: &mut [Row])
         return;
     }
     let mut turns = [0u32; base::MAX_CELLS];
-    renumber_by(rows, &mut turns);
+    let m = copy_firsts(rows, &mut turns);
+    rank_all(rows, &turns[..m]);
 }
 
 // A ready cell's turn becomes the number of ready messages before its own.
+#[tactic(auto, using(crate::proofs::Renumbering::renumber_none))]
 pub fn renumber(rows: &mut [Row])
     ensures { rows.new ≡ renumbered rows.old }
 {

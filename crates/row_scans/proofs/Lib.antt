@@ -1,1 +1,3 @@
 pub mod Ready
+pub mod Found
+pub mod Earliest

@@ -6,8 +6,7 @@ use mathlib.Core.Bool.{Bool, true, false, ◌&&◌, cond, ◌||◌, true≢false
 use mathlib.Core.List.{List, [], ◌∷◌, ◌++◌, append-nil, Memᴰ}
 use native.Mathlib.Omega.{arith}
 use lib.Dec.{ltb, eqb}
-use lib.ListN.{length, take, get_or}
-use lib.Seq.{take_all}
+use lib.ListN.{length}
 use borrow.Author.Tests.{ltb-true, ltb-false, lt-ltb, le-ltb, eqb-true, eqb-false, eq-eqb}
 use Rattle.std.specs.Prelude.{Option, Some, None, MatchOption}
 use Rattle.base.specs.Lists.{any}
@@ -16,11 +15,11 @@ use Rattle.base.proofs.Lists.{any-true, any_false, any-all, any-mem}
 use Rattle.cells.specs.Cell.{Cell, ready_as, bears, at}
 use Rattle.cells.specs.Records.{unused_at, before_cell, first_cell, index_of}
 use Rattle.rows.specs.declared.Row.{Row}
-use Rattle.rows.specs.Rows.{cell_of, cells_in}
-use Rattle.rows.proofs.Rows.{cells-length, cells-more, below-length}
+use Rattle.rows.specs.Rows.{cells_in}
+use Rattle.rows.proofs.Rows.{cells-length}
 use Rattle.row_tests.specs.Uses.{uses}
 use Rattle.rows.proofs.ListMaps.{any_append}
-use Rattle.row_scans.specs.Ready.{is_earliest, first_ready}
+use Rattle.row_scans.specs.Ready.{is_earliest, first_ready, FoundAt}
 
 -- ---- the first record that passes
 
@@ -136,11 +135,6 @@ abbrev pub is_sooner : ℕ → Option (ℕ × ℕ) → Bool
 is_sooner turn None = true
 is_sooner turn (Some b) = ltb turn b.1
 
--- The same as a call tells it.
-pub sooner : (turn : ℕ) (o : Option (ℕ × ℕ)) {b : Bool} → MatchOption o (b ≡ true) (λ x. b ≡ ltb turn x.1) → b ≡ is_sooner turn o
-sooner turn None e = e
-sooner turn (Some x) e = e
-
 -- One record more: it is now the least, or the one found before it is. f is what the test gave of it.
 module _ (cs : List Cell) (c : Cell) {f : Bool} (e : f ≡ first_cell c) where
   more : (p : Cell → Bool) {a b : Bool} → any p cs ≡ a → p c ≡ b → any p (cs ++ (c ∷ [])) ≡ (a || (b || false))
@@ -164,7 +158,7 @@ module _ (cs : List Cell) (c : Cell) {f : Bool} (e : f ≡ first_cell c) where
     not_own : before_cell c.turn c ≡ false
     not_own = before-is c.turn c ∙ cases (first_cell c) (λ y. rw (y, le-ltb c.turn c.turn (omega arith))) (λ y. rw y)
 
-    takes : Least (cs ++ (c ∷ [])) (length cs) c.turn
+    pub takes : Least (cs ++ (c ∷ [])) (length cs) c.turn
     unfolding index_of
     takes = record {
       none = more (before_cell c.turn) (none-less _ _ cs (before-later c.turn (suc c.turn) (omega arith)) later) not_own;
@@ -172,7 +166,7 @@ module _ (cs : List Cell) (c : Cell) {f : Bool} (e : f ≡ first_cell c) where
       is = sym (index-past (at (ready_as c.turn) 0) cs (c ∷ []) none-same ∙ rw own (omega arith));
     }
 
-  passes : (o : Option (ℕ × ℕ)) → Scanned cs o → (f && is_sooner c.turn o) ≡ false → Scanned (cs ++ (c ∷ [])) o
+  pub passes : (o : Option (ℕ × ℕ)) → Scanned cs o → (f && is_sooner c.turn o) ≡ false → Scanned (cs ++ (c ∷ [])) o
   passes None s h = more first_cell s (sym e ∙ cases f (λ y. absurd (true≢false (rw y at h))) (λ y. y))
   passes (Some b) s h = record {
     none = more (before_cell b.1) {b = false} s.none (before-is b.1 c ∙ rw (← e) h);
@@ -180,32 +174,14 @@ module _ (cs : List Cell) (c : Cell) {f : Bool} (e : f ≡ first_cell c) where
     is = s.is ∙ sym (index-within (at (ready_as b.1) 0) cs (c ∷ []) s.there);
   }
 
--- The same over the rows: row i is one more. The test of the best so far is told by a call.
+-- Before the first row, and after the last.
 pub scan-starts : Scanned (cells_in []) None
 unfolding cells_in any
 scan-starts = refl
 
-module _ (rows : List Row) (i : ℕ) (d : Row) (l : i < length rows) (o : Option (ℕ × ℕ)) (b : Bool) {f : Bool}
-    (s : Scanned (cells_in (take i rows)) o) (e : f ≡ first_cell (cell_of (get_or rows i d)))
-    (t : MatchOption o (b ≡ true) (λ x. b ≡ ltb (get_or rows i d).turn x.1)) where
-  tested : {v : Bool} → (f && b) ≡ v → (f && is_sooner (get_or rows i d).turn o) ≡ v
-  tested h = ap (λ (x : Bool). f && x) (sym (sooner (get_or rows i d).turn o t)) ∙ h
-
-  pub scan-takes : {q : Option (ℕ × ℕ)} → (f && b) ≡ true → q ≡ Some (i, (get_or rows i d).turn) → Scanned (cells_in (take (i + 1) rows)) q
-  unfolding cell_of
-  scan-takes h z =
-      let k = takes (cells_in (take i rows)) (cell_of (get_or rows i d)) e o s (tested h) in
-      rw (z, cells-more rows i d l) (rw (below-length rows i (omega arith)) at k)
-
-  pub scan-passes : {q : Option (ℕ × ℕ)} → (f && b) ≡ false → q ≡ o → Scanned (cells_in (take (i + 1) rows)) q
-  unfolding cell_of
-  scan-passes h z = rw (z, cells-more rows i d l) (passes (cells_in (take i rows)) (cell_of (get_or rows i d)) e o s (tested h))
-
-pub scan-ends : (rows : List Row) (i : ℕ) (o : Option (ℕ × ℕ)) {n : ℕ} → length rows ≤ i → Scanned (cells_in (take i rows)) o
-    → MatchOption o (n ≡ length rows) (λ x. n ≡ x.0) → n ≡ first_ready (cells_in rows)
-scan-ends rows i o l s e = ends o (rw (take_all i rows l) at s) e
-  where
-    ends : (o : Option (ℕ × ℕ)) {n : ℕ} → Scanned (cells_in rows) o → MatchOption o (n ≡ length rows) (λ x. n ≡ x.0)
-        → n ≡ first_ready (cells_in rows)
-    ends None s e = e ∙ sym (ready-none (cells_in rows) s ∙ cells-length rows)
-    ends (Some x) s e = e ∙ s.is ∙ sym (ready-is (cells_in rows) x.1 s.none s.there)
+pub scan-ends : (rows : List Row) (o : Option (ℕ × ℕ)) (q : Option ℕ) → Scanned (cells_in rows) o
+    → MatchOption o (q ≡ None) (λ x. q ≡ Some x.0) → FoundAt q (first_ready (cells_in rows)) (length rows)
+scan-ends rows None q s e = rw e (ready-none (cells_in rows) s ∙ cells-length rows)
+scan-ends rows (Some x) q s e =
+    let z = index-there (at (ready_as x.1) 0) (cells_in rows) s.there in
+    rw e (omega (arith, s.is, cells-length rows), s.is ∙ sym (ready-is (cells_in rows) x.1 s.none s.there))

@@ -36,10 +36,10 @@ slots_set r x d e (y ∷ rs) zero st = rw (e st)
 slots_set r x d e (y ∷ rs) (suc i) st = ap {B = List Slot} (λ l. slot_in y st d ∷ l) (slots_set r x d e rs i (drop cell_size st))
 
 -- A used row with a place has the datagram's bytes from that place on.
-pub body-placed : (r : Row) (p : ℕ) (bytes d : List ℕ) → eqb r.used 0 ≡ false → r.place ≡ suc p → row_body r bytes d
-    ≡ take r.length (drop p d)
+pub body-placed : (r : Row) (p : ℕ) (bytes d : List ℕ) → eqb r.cell.used 0 ≡ false → r.place ≡ suc p → row_body r bytes d
+    ≡ take r.cell.length (drop p d)
 unfolding row_body row_bytes
-body-placed r p bytes d e q = rw e (ap (take r.length) (begins r.place q))
+body-placed r p bytes d e q = rw e (ap (take r.cell.length) (begins r.place q))
   where
     begins : (n : ℕ) → n ≡ suc p → cond (eqb n 0) bytes (drop (n - 1) d) ≡ drop p d
     begins n q = let m : n - 1 ≡ p = omega arith in rw (ne_eqb n 0 (λ z. omega arith), m)
@@ -48,14 +48,14 @@ body-placed r p bytes d e q = rw e (ap (take r.length) (begins r.place q))
 pub frame-in : (r : Row) (f : Frame) (u t p : ℕ) (d : List ℕ) → (u ≡ 0 → ⊥) → cell_of r ≡ (slot_of f u t).cell → r.place ≡ suc p → f.body
     ≡ take (length f.body) (drop p d)
     → (bytes : List ℕ) → slot_in r bytes d ≡ slot_of f u t
-unfolding slot_in cell_of slot_of
+unfolding slot_in slot_of
 frame-in r f u t p d n e q b bytes = λ i. record { cell = e i; body = body i }
   where
-    used : r.used ≡ u
+    used : r.cell.used ≡ u
     used = ap (λ (c : Cell). c.used) e
 
     body : row_body r bytes d ≡ f.body
-    body = body-placed r p bytes d (ne_eqb r.used 0 (λ z. n (sym used ∙ z))) q
+    body = body-placed r p bytes d (ne_eqb r.cell.used 0 (λ z. n (sym used ∙ z))) q
         ∙ (ap (λ (m : ℕ). take m (drop p d)) (ap (λ (c : Cell). c.length) e) ∙ sym b)
 
 -- A frame's row set at the lowest-numbered unused row is the frame's slot put. (Where no row is unused, neither changes anything.)
@@ -81,8 +81,8 @@ record-in : (r : Row) (bytes d : List ℕ) → (slot_in r bytes d).cell ≡ cell
 unfolding slot_in
 record-in r bytes d = refl
 
-turn_in : (r : Row) (bytes d : List ℕ) → (slot_in r bytes d).cell.turn ≡ r.turn
-unfolding slot_in cell_of
+turn_in : (r : Row) (bytes d : List ℕ) → (slot_in r bytes d).cell.turn ≡ r.cell.turn
+unfolding slot_in
 turn_in r bytes d = refl
 
 -- A change of the rows whose records pass, that means the change h of a slot, is that change of the slots that pass.
@@ -99,12 +99,12 @@ slots-changed p g q h d e f (r ∷ rs) st =
 -- A used row that gets another use, not 0, and another turn.
 pub mark-in : (u t : ℕ) (r : Row) (bytes d : List ℕ) → (u ≡ 0 → ⊥) → eqb (cell_of r).used 0 ≡ false → slot_in (mark_row u t r) bytes d
     ≡ mark u t (slot_in r bytes d)
-unfolding slot_in mark_row mark mark_cell cell_of row_body row_bytes
+unfolding slot_in mark_row mark mark_cell row_body row_bytes
 mark-in u t r bytes d n e = rw (ne_eqb u 0 n, e)
 
 -- The row of an unused cell.
 pub blank-in : (bytes d : List ℕ) → slot_in blank_row bytes d ≡ empty_slot
-unfolding slot_in blank_row empty_slot empty_cell cell_of row_body
+unfolding slot_in blank_row empty_slot empty_cell row_body
 blank-in bytes d = refl
 
 -- A cell of a message is in use.
@@ -129,21 +129,21 @@ slots-swept rs st d = slots-changed (λ c. eqb c.used 4) (λ r. blank_row) (λ s
 
 -- The turns of the ready rows become 0, 1, 2 .. in their order.
 pub slots-renumbered : (rs : List Row) (st d : List ℕ) → slots_in
-    (change_rows (λ c. eqb c.used 3) (λ r. mark_row 3 (count_of (before_cell r.turn) (map cell_of rs)) r) rs) st d
+    (change_rows (λ c. eqb c.used 3) (λ r. mark_row 3 (count_of (before_cell r.cell.turn) (map cell_of rs)) r) rs) st d
     ≡ renumber (slots_in rs st d)
 unfolding renumber is_ready
 slots-renumbered rs st d =
-    slots-changed (λ c. eqb c.used 3) (λ r. mark_row 3 (count_of (before_cell r.turn) (map cell_of rs)) r) is_ready
+    slots-changed (λ c. eqb c.used 3) (λ r. mark_row 3 (count_of (before_cell r.cell.turn) (map cell_of rs)) r) is_ready
     (λ s. mark 3 (rank (slots_in rs st d) s.cell.turn) s) d (λ s. refl) one rs st
   where
     ranked : (t : ℕ) → count_of (before_cell t) (map cell_of rs) ≡ rank (slots_in rs st d) t
     ranked t = ap (count_of (before_cell t)) (sym (cells_in rs st d)) ∙ sym (rank-cells (slots_in rs st d) t)
 
     one : (r : Row) (bytes : List ℕ) → eqb (cell_of r).used 3 ≡ true
-        → slot_in (mark_row 3 (count_of (before_cell r.turn) (map cell_of rs)) r)
+        → slot_in (mark_row 3 (count_of (before_cell r.cell.turn) (map cell_of rs)) r)
         bytes d ≡ mark 3 (rank (slots_in rs st d) (slot_in r bytes d).cell.turn) (slot_in r bytes d)
     one r bytes e =
         let q = eqb-true (cell_of r).used 3 e in
-        mark-in 3 (count_of (before_cell r.turn) (map cell_of rs)) r bytes d (λ z. omega arith)
+        mark-in 3 (count_of (before_cell r.cell.turn) (map cell_of rs)) r bytes d (λ z. omega arith)
         (ne_eqb (cell_of r).used 0 (λ z. omega arith))
-        ∙ ap (λ (n : ℕ). mark 3 n (slot_in r bytes d)) (ranked r.turn ∙ ap (rank (slots_in rs st d)) (sym (turn_in r bytes d)))
+        ∙ ap (λ (n : ℕ). mark 3 n (slot_in r bytes d)) (ranked r.cell.turn ∙ ap (rank (slots_in rs st d)) (sym (turn_in r bytes d)))

@@ -9,7 +9,7 @@ use native.Mathlib.Omega.{arith}
 use native.Mathlib.Nat.{suc-mul, mul-le-mul_right}
 use lib.Dec.{eqb}
 use lib.ListN.{length, take, drop, get_or, length-append, length-take, length-drop, take-append-drop}
-use lib.Seq.{take-length, drop-append-le, take-append-add, drop-append-add}
+use lib.Seq.{drop-append-le, take-append-add, drop-append-add}
 use borrow.Author.Tests.{eq-eqb, ne_eqb}
 use Rattle.base.specs.Put.{put}
 use Rattle.base.proofs.Puts.{put-split}
@@ -44,7 +44,7 @@ overlay-after front back body n a q = let e : length front + a + length body ≡
 
 -- The body of a row that is copied, as it stands in the datagram.
 abbrev pub placed_body : Row → List ℕ → List ℕ
-placed_body r d = take r.length (drop (r.place - 1) d)
+placed_body r d = take r.cell.length (drop (r.place - 1) d)
 
 body-copied : (r : Row) (bytes d : List ℕ) → is_placed r ≡ true → row_body r bytes d ≡ placed_body r d
 unfolding row_body row_bytes
@@ -76,11 +76,6 @@ cell-length r bytes d z e = cases (is_placed r)
 pub flush-begins : (rs : List Row) (st d : List ℕ) → flushed_to 0 rs st d ≡ st
 unfolding flushed_to flushed
 flush-begins rs st d = refl
-
--- All rows: the store after acceptance.
-pub flush-ends : (rs : List Row) (st d : List ℕ) → flushed_to (length rs) rs st d ≡ flushed rs st d
-unfolding flushed_to
-flush-ends rs st d = rw (take-length rs)
 
 -- Row i of the list is `get_or rs i x`, whatever x.
 module _ (d : List ℕ) (x : Row) where
@@ -128,13 +123,13 @@ module _ (d : List ℕ) (x : Row) where
       fits : length (take i rs) * cell_size ≤ length st
       fits = let p = mul-le-mul_right cell_size shorter in omega arith
 
-  -- The same as the code finds it. In use and with a place: the bytes are stored from the cell's first on, as `put_bytes` stores them.
+  -- The same as the code finds it. In use and with a place: the bytes are stored from the cell's first on.
   pub flush-puts : (i : ℕ) (rs : List Row) (st : List ℕ) → AllFit d rs → length rs * cell_size ≤ length st → i < length rs
-      → ((get_or rs i x).used ≡ 0 → ⊥) → ((get_or rs i x).place ≡ 0 → ⊥)
+      → ((get_or rs i x).cell.used ≡ 0 → ⊥) → ((get_or rs i x).place ≡ 0 → ⊥)
       → flushed_to (suc i) rs st d ≡ put (flushed_to i rs st d) (i * cell_size) (placed_body (get_or rs i x) d)
   unfolding is_placed overlay
   flush-puts i rs st v le lt u p =
-      let t : is_placed (get_or rs i x) ≡ true = rw (ne_eqb (get_or rs i x).used 0 u, ne_eqb (get_or rs i x).place 0 p) in
+      let t : is_placed (get_or rs i x) ≡ true = rw (ne_eqb (get_or rs i x).cell.used 0 u, ne_eqb (get_or rs i x).place 0 p) in
       let n = short-body (get_or rs i x) d (v (get_or rs i x) (mem-get_d rs i x lt)) t in
       let m = mul-le-mul_right {m = suc i} {n = length rs} cell_size lt in
       let k = suc-mul i cell_size in
@@ -142,13 +137,13 @@ module _ (d : List ℕ) (x : Row) where
       flush-lays i rs st v le lt t ∙ sym (put-split (flushed_to i rs st d) (i * cell_size) (placed_body (get_or rs i x) d) (omega arith))
 
   -- Unused, or with its body in the store: no byte changes.
-  pub flush-unused : (i : ℕ) (rs : List Row) (st : List ℕ) → i < length rs → (get_or rs i x).used ≡ 0 → flushed_to (suc i) rs st d
+  pub flush-unused : (i : ℕ) (rs : List Row) (st : List ℕ) → i < length rs → (get_or rs i x).cell.used ≡ 0 → flushed_to (suc i) rs st d
       ≡ flushed_to i rs st d
   unfolding is_placed
-  flush-unused i rs st lt e = flush-keeps i rs st lt (rw (eq-eqb (get_or rs i x).used 0 e))
+  flush-unused i rs st lt e = flush-keeps i rs st lt (rw (eq-eqb (get_or rs i x).cell.used 0 e))
 
   pub flush-stored : (i : ℕ) (rs : List Row) (st : List ℕ) → i < length rs → (get_or rs i x).place ≡ 0 → flushed_to (suc i) rs st d
       ≡ flushed_to i rs st d
   unfolding is_placed
   flush-stored i rs st lt e = flush-keeps i rs st lt (rw (eq-eqb (get_or rs i x).place 0 e)
-      (cases (eqb (get_or rs i x).used 0) (λ t. rw t) (λ t. rw t)))
+      (cases (eqb (get_or rs i x).cell.used 0) (λ t. rw t) (λ t. rw t)))

@@ -12,7 +12,7 @@ use lib.ListN.{length, set, length-map}
 use borrow.Author.Tests.{eqb-true, eq-eqb, ne_eqb, not-true}
 use Rattle.base.proofs.Choices.{by_bool, neither, and_left, and_right}
 use Rattle.bare.specs.Frame.{Frame}
-use Rattle.cells.specs.Cell.{Cell, Key, bears, slot_of}
+use Rattle.cells.specs.Cell.{Cell, Key, bears, slot_of, mark_cell}
 use Rattle.cells.specs.Store.{cell_size}
 use Rattle.rows.specs.declared.Row.{Row}
 use Rattle.rows.specs.Rows.{cell_of, mark_row, change_row, change_rows}
@@ -21,18 +21,17 @@ use Rattle.row_slots.proofs.ListMembers.{mem-set}
 use Rattle.row_slots.proofs.Changes.{bears-used}
 
 -- A row that is to be copied is in use and has a place.
-pub placed-is : (r : Row) → is_placed r ≡ true → (eqb r.used 0 ≡ false) × (eqb r.place 0 ≡ false)
+pub placed-is : (r : Row) → is_placed r ≡ true → (eqb r.cell.used 0 ≡ false) × (eqb r.place 0 ≡ false)
 unfolding is_placed
 placed-is r e = (
-  not-true (eqb r.used 0) (and_left (not (eqb r.used 0)) _ e),
+  not-true (eqb r.cell.used 0) (and_left (not (eqb r.cell.used 0)) _ e),
   not-true (eqb r.place 0)
-      (and_right (not (eqb r.used 0)) _ e),
+      (and_right (not (eqb r.cell.used 0)) _ e),
 )
 
 -- Rows made from records whose bodies are no longer than a cell, and stand in the store.
 pub fit-stored : (d : List ℕ) (rs : List Row) → ((r : Row) → Memᴰ r rs → r.place ≡ 0)
     → ((c : Cell) → Memᴰ c (map cell_of rs) → eqb c.used 0 ≡ false → c.length ≤ cell_size) → AllFit d rs
-unfolding cell_of
 fit-stored d rs h l r m = record {
   short = λ e. l (cell_of r) (Memᴰ.map cell_of m) e;
   within = λ e. neither (eqb r.place 0) (eq-eqb r.place 0 (h r m)) (placed-is r e).1;
@@ -41,8 +40,8 @@ fit-stored d rs h l r m = record {
 -- The row of a frame whose body stands whole in the datagram.
 pub fit-frame : (r : Row) (f : Frame) (u t p : ℕ) (d : List ℕ) → cell_of r ≡ (slot_of f u t).cell → r.place ≡ suc p
     → length f.body ≤ cell_size → p + length f.body ≤ length d → Fits d r
-unfolding cell_of slot_of
-fit-frame r f u t p d e q le in' = let n : r.length ≡ length f.body = ap (λ (c : Cell). c.length) e in
+unfolding slot_of
+fit-frame r f u t p d e q le in' = let n : r.cell.length ≡ length f.body = ap (λ (c : Cell). c.length) e in
     record { short = λ y. omega arith; within = λ y. omega arith }
 
 -- A row set.
@@ -61,8 +60,8 @@ fit-changed d p g rs k v x m =
     let a = Memᴰ.of_map (change_row p g) rs m in
     subst (Fits d) a.2 (by_bool (Fits d) (p (cell_of a.0)) (λ t. k a.0 t (v a.0 a.1)) (λ t. v a.0 a.1))
 
-fit-mark : (d : List ℕ) (u t : ℕ) (r : Row) → eqb r.used 0 ≡ false → Fits d r → Fits d (mark_row u t r)
-unfolding mark_row is_placed
+fit-mark : (d : List ℕ) (u t : ℕ) (r : Row) → eqb r.cell.used 0 ≡ false → Fits d r → Fits d (mark_row u t r)
+unfolding mark_row mark_cell is_placed
 fit-mark d u t r e z = record {
   short = λ y. z.short e;
   within = λ y. z.within (rw e (and_right (not (eqb u 0)) _ y));
@@ -71,7 +70,6 @@ fit-mark d u t r e z = record {
 -- Rows in use that get another use and turn.
 pub fit-marked : (d : List ℕ) (p : Cell → Bool) (u : ℕ) (t : Row → ℕ) (rs : List Row) → ((c : Cell) → p c ≡ true → eqb c.used 0 ≡ false)
     → AllFit d rs → AllFit d (change_rows p (λ r. mark_row u (t r) r) rs)
-unfolding cell_of
 fit-marked d p u t rs h v = fit-changed d p (λ r. mark_row u (t r) r) rs (λ r e z. fit-mark d u (t r) r (h (cell_of r) e) z) v
 
 -- The rows of a message that get another use and turn.

@@ -25,7 +25,7 @@ slots-in-length (r ∷ rs) st d = ap suc (slots-in-length rs (drop cell_size st)
 
 -- A row whose place is 0 has the body that its record has in the store.
 pub body-stored : (r : Row) (st d : List ℕ) → r.place ≡ 0 → row_body r st d ≡ cell_body (cell_of r) st
-unfolding row_body row_bytes cell_body cell_of
+unfolding row_body row_bytes cell_body
 body-stored r st d e = rw (eq-eqb r.place 0 e)
 
 -- Where every row's place is 0, the rows' slots are those of their records and the store.

@@ -35,16 +35,16 @@ laid-over n st le room =
     let p : length (take n st) ≡ n = simp length-take (omega arith) in
     rw p (ap (λ (x : List ℕ). x ++ drop n (take cell_size st)) (sym (take-take n cell_size st le)) ∙ take-append-drop n (take cell_size st))
 
-body-laid : (r : Row) (st d : List ℕ) → eqb r.used 0 ≡ false → eqb r.place 0 ≡ true → r.length ≤ cell_size → cell_size ≤ length st
+body-laid : (r : Row) (st d : List ℕ) → eqb r.cell.used 0 ≡ false → eqb r.place 0 ≡ true → r.cell.length ≤ cell_size → cell_size ≤ length st
     → row_body r st d ++ drop (length (row_body r st d)) (take cell_size st) ≡ take cell_size st
 unfolding row_body row_bytes
-body-laid r st d e q le room = rw (e, q) (laid-over r.length st le room)
+body-laid r st d e q le room = rw (e, q) (laid-over r.cell.length st le room)
 
 -- A row's slot laid over its cell is the cell after acceptance.
 cell-laid : (r : Row) (st d : List ℕ) → Fits d r → cell_size ≤ length st → laid (slot_in r st d) (take cell_size st)
     ≡ flushed_cell r (take cell_size st) d
-unfolding laid slot_in is_free cell_of flushed_cell is_placed
-cell-laid r st d z room = cases (eqb r.used 0)
+unfolding laid slot_in is_free flushed_cell is_placed
+cell-laid r st d z room = cases (eqb r.cell.used 0)
     (λ t. rw t)
     (λ t. cases (eqb r.place 0)
     (λ u. rw (t, u) (body-laid r st d t u (z.short t) room))
@@ -52,14 +52,14 @@ cell-laid r st d z room = cases (eqb r.used 0)
 
 -- A row that fits has a slot that fits.
 slot-sized : (r : Row) (st d : List ℕ) → Fits d r → cell_size ≤ length st → Sized (slot_in r st d)
-unfolding slot_in is_free cell_of row_body row_bytes is_placed
+unfolding slot_in is_free row_body row_bytes is_placed
 slot-sized r st d z room = record {
   none = λ e. rw e;
   exact = λ e. rw e (exact e);
   fits = λ e. let p = z.short e in rw (e, exact e) p;
 }
   where
-    exact : eqb r.used 0 ≡ false → length (take r.length (cond (eqb r.place 0) st (drop (r.place - 1) d))) ≡ r.length
+    exact : eqb r.cell.used 0 ≡ false → length (take r.cell.length (cond (eqb r.place 0) st (drop (r.place - 1) d))) ≡ r.cell.length
     exact e = cases (eqb r.place 0)
         (λ t. let p = z.short e in rw t (simp length-take (omega arith)))
         (λ t. let p = z.within (rw (e, t)) in rw t (simp (length-take, length-drop) (omega arith)))

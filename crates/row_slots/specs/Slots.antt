@@ -12,7 +12,7 @@ row_bytes r bytes d = cond (eqb r.place 0) bytes (drop (r.place - 1) d)
 
 -- a row's body; an unused row has none
 unfoldable pub row_body : Row → List ℕ → List ℕ → List ℕ
-row_body r bytes d = cond (eqb r.used unused_use) [] (take r.length (row_bytes r bytes d))
+row_body r bytes d = cond (eqb r.cell.used unused_use) [] (take r.cell.length (row_bytes r bytes d))
 
 -- the slot that a row stands for
 unfoldable pub slot_in : Row → List ℕ → List ℕ → Slot
@@ -25,7 +25,7 @@ slots_in (r ∷ rs) store d = slot_in r store d ∷ slots_in rs (drop cell_size 
 
 -- is this the row of a body that is still in the datagram?
 unfoldable pub is_placed : Row → Bool
-is_placed r = not (eqb r.used unused_use) && not (eqb r.place 0)
+is_placed r = not (eqb r.cell.used unused_use) && not (eqb r.place 0)
 
 -- such a body lies over the first bytes of its cell; all other bytes keep their values
 unfoldable pub flushed_cell : Row → List ℕ → List ℕ → List ℕ
@@ -42,8 +42,8 @@ flushed_to i rs store d = flushed (take i rs) store d
 
 -- A used row's body is no longer than a cell, and stands whole in the datagram where it is placed there.
 pub record Fits (d : List ℕ) (r : Row) : Type 0 where
-  pub short : eqb r.used unused_use ≡ false → r.length ≤ cell_size
-  pub within : is_placed r ≡ true → r.place - 1 + r.length ≤ length d
+  pub short : eqb r.cell.used unused_use ≡ false → r.cell.length ≤ cell_size
+  pub within : is_placed r ≡ true → r.place - 1 + r.cell.length ≤ length d
 
 abbrev pub AllFit : List ℕ → List Row → Type 0
 AllFit d rs = (r : Row) → Memᴰ r rs → Fits d r

@@ -1,5 +1,5 @@
-// (A crate of its own only for the gate: a must-fail edit costs a check of its crate.) Sweeps over the rows: the rows whose records pass a
-// test are changed, and all others stay and are not written.
+// Sweeps over the rows: the rows whose records pass a test are changed, and all others stay and are not written. (A must-fail edit costs a
+// check of its whole crate, so this is a crate of its own.)
 
 #![tactic(auto)]
 
@@ -15,7 +15,7 @@ use row_tests::{is_held, is_open};
 use rows::{Row, mark_row};
 
 // The rows that pass are changed. Was there one?
-pub fn sweep<P: Fn(&Row) -> bool, G: Fn(Row) -> Row>(rows: &mut [Row], test: P, change: G) -> bool
+fn sweep<P: Fn(&Row) -> bool, G: Fn(Row) -> Row>(rows: &mut [Row], test: P, change: G) -> bool
     requires test { P.IsAlwaysCallable test }
     requires change { G.IsAlwaysCallable change }
     ensures found { (p : CellRecord → Bool) → ((r : Row) (b : Bool) → FnReturnsAt P.Fn test r b → b ≡ p (cell_of r))
@@ -31,7 +31,7 @@ pub fn sweep<P: Fn(&Row) -> bool, G: Fn(Row) -> Row>(rows: &mut [Row], test: P, 
         if passes {
             *r = change(*r);
         }
-        found = found | passes;
+        found |= passes;
     }
     found
 }
@@ -40,7 +40,7 @@ pub fn sweep<P: Fn(&Row) -> bool, G: Fn(Row) -> Row>(rows: &mut [Row], test: P, 
 pub fn turn_open(rows: &mut [Row], id: u32, used: u32, turn: u32)
     ensures { rows.new ≡ change_rows (bears (open_as id)) (mark_row used turn) rows.old }
 {
-    sweep(rows, |r| is_open(r, id), |r| mark_row(r, used, turn));
+    sweep(rows, |r| is_open(&r.cell, id), |r| mark_row(r, used, turn));
 }
 
 // The cells of the held message of this channel and order number become ready, with this turn. Was there one?
@@ -50,7 +50,7 @@ pub fn turn_held(rows: &mut [Row], channel: u32, order: u32, turn: u32) -> bool
 {
     sweep(
         rows,
-        |r| is_held(r, channel, order),
+        |r| is_held(&r.cell, channel, order),
         |r| mark_row(r, cells::READY, turn),
     )
 }

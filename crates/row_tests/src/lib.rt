@@ -1,60 +1,73 @@
-// (A crate of its own only for the gate: a must-fail edit costs a check of its crate.) Tests of the record that a row stands for. `&` and
-// not `&&`: a test has no branch.
+// Tests of a cell's record. `&` and not `&&`: a test has no branch. (A must-fail edit costs a check of its whole crate, so this is a crate
+// of its own.)
 
-#![tactic(auto, unfolding(rows::specs::Rows::cell_of, cells::specs::Cell::bears))]
+#![tactic(auto, unfolding(cells::specs::Cell::bears))]
 
 ghost use Rattle.std.specs.Prelude.{◌≡◌};
 ghost use Rattle.cells.specs.Cell.{open_as, held_as, ready_as, bears, at};
 ghost use Rattle.cells.specs.Records.{clashes, first_cell};
-ghost use Rattle.rows.specs.Rows.{cell_of};
+ghost use Rattle.cells.specs.Sound.{agree};
 ghost use Rattle.row_tests.specs.Uses.{uses};
 
-use rows::Row;
+use cells::CellRecord;
 
-pub fn is_used_as(r: &Row, used: u32) -> bool
-    ensures { result ≡ uses used (cell_of r.now) }
+pub fn is_used_as(c: &CellRecord, used: u32) -> bool
+    ensures { result ≡ uses used c.now }
 {
-    r.used == used
+    c.used == used
 }
 
 // A cell of the open message of this id.
-pub fn is_open(r: &Row, id: u32) -> bool
-    ensures { result ≡ bears (open_as id) (cell_of r.now) }
+pub fn is_open(c: &CellRecord, id: u32) -> bool
+    ensures { result ≡ bears (open_as id) c.now }
 {
-    (r.used == cells::OPEN) & (r.id == id)
+    (c.used == cells::OPEN) & (c.id == id)
 }
 
 // A cell of the held message of this channel and order number.
-pub fn is_held(r: &Row, channel: u32, order: u32) -> bool
-    ensures { result ≡ bears (held_as channel order) (cell_of r.now) }
+pub fn is_held(c: &CellRecord, channel: u32, order: u32) -> bool
+    ensures { result ≡ bears (held_as channel order) c.now }
 {
-    (r.used == cells::HELD) & ((r.channel == channel) & (r.order == order))
+    (c.used == cells::HELD) & ((c.channel == channel) & (c.order == order))
+}
+
+// A cell of the ready message of this turn.
+pub fn is_ready(c: &CellRecord, turn: u32) -> bool
+    ensures { result ≡ bears (ready_as turn) c.now }
+{
+    (c.used == cells::READY) & (c.turn == turn)
 }
 
 // The ready message's cell of this index.
-#[tactic(auto, unfolding(rows::specs::Rows::cell_of, cells::specs::Cell::bears, cells::specs::Cell::at))]
-pub fn is_ready_at(r: &Row, turn: u32, index: u32) -> bool
-    ensures { result ≡ at (ready_as turn) index (cell_of r.now) }
+#[tactic(auto, unfolding(cells::specs::Cell::at))]
+pub fn is_ready_at(c: &CellRecord, turn: u32, index: u32) -> bool
+    ensures { result ≡ at (ready_as turn) index c.now }
 {
-    (r.index == index) & ((r.used == cells::READY) & (r.turn == turn))
+    (c.index == index) & is_ready(c, turn)
 }
 
 // A ready message's first cell.
-#[tactic(auto, unfolding(rows::specs::Rows::cell_of, cells::specs::Records::first_cell))]
-pub fn is_first(r: &Row) -> bool
-    ensures { result ≡ first_cell (cell_of r.now) }
+#[tactic(auto, unfolding(cells::specs::Records::first_cell))]
+pub fn is_first(c: &CellRecord) -> bool
+    ensures { result ≡ first_cell c.now }
 {
-    (r.used == cells::READY) & (r.index == 0)
+    (c.used == cells::READY) & (c.index == 0)
+}
+
+// Do two cells say the same of their message?
+#[tactic(auto, unfolding(cells::specs::Sound::agree))]
+pub fn agrees(a: &CellRecord, c: &CellRecord) -> bool
+    ensures { result ≡ agree a.now c.now }
+{
+    (a.count == c.count)
+        & ((a.kind == c.kind)
+            & ((a.sequence == c.sequence) & ((a.order == c.order) & (a.channel == c.channel))))
 }
 
 // An open piece beside which a may not be kept: of its id, with another count, kind, sequence, order number or channel, or with its index.
-pub fn is_clash(a: &Row, r: &Row) -> bool
-    ensures { result ≡ clashes (cell_of a.now) (cell_of r.now) }
+#[tactic(auto, using(crate::proofs::Clash::clash_by_agreement))]
+pub fn is_clash(a: &CellRecord, c: &CellRecord) -> bool
+    ensures { result ≡ clashes a.now c.now }
 {
-    let alike = (r.count == a.count)
-        & (r.kind == a.kind)
-        & (r.sequence == a.sequence)
-        & (r.order == a.order)
-        & (r.channel == a.channel);
-    (r.used == cells::OPEN) & ((r.id == a.id) & (!alike | (r.index == a.index)))
+    (c.used == cells::OPEN) & ((c.id == a.id) & (!agrees(c, a) | (c.index == a.index)))
 }

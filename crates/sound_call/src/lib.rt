@@ -1,5 +1,5 @@
-// (A crate of its own only for the gate: a must-fail edit costs a check of its crate.) Whether the slices that a call is lent are as long
-// as document 01 says ("Calls and their numbers", 9).
+// Whether the slices that a call is lent are as long as document 01 says ("Calls and their numbers", 9). (A must-fail edit costs a check of
+// its whole crate, so this is a crate of its own.)
 
 #![tactic(auto)]
 

@@ -13,14 +13,16 @@ use lib.ListN.{length, take}
 use lib.Seq.{take-length}
 use borrow.Author.Tests.{leb-true, leb-false, eqb-true, eqb-false}
 use Rattle.base.specs.Lists.{every, count_of, below}
-use Rattle.base.proofs.Choices.{cases, neither}
-use Rattle.base.proofs.Lists.{below_at}
+use Rattle.std.specs.List.{list_all, range_with_len}
+use Rattle.base.proofs.Choices.{cases, neither, and_left, and_right, and_both}
+use Rattle.base.proofs.Lists.{below_at, below_all}
 use Rattle.cells.specs.Cell.{Cell}
 use Rattle.rows.specs.declared.Row.{Row}
-use Rattle.rows.specs.Rows.{blank_row, cells_in}
+use Rattle.rows.specs.Rows.{blank_row, cells_in, whole_row}
 use Rattle.rows.proofs.Rows.{cells-more}
 use Rattle.rows.proofs.ListMaps.{count-append, every_append}
 use Rattle.sound_cells.specs.Sorted.{cell_at}
+use Rattle.sound_cells.proofs.Counting.{same_truth}
 
 -- A step up at each place from low to k is a way up between any two.
 pub climb : (f : ℕ → ℕ) (low k : ℕ) → ((t : ℕ) → low ≤ t → t < k → f t < f (t + 1)) → (s t : ℕ) → low ≤ s → s < t → t ≤ k → f s < f t
@@ -36,22 +38,27 @@ count_below p zero = 0
 count_below p (suc i) = cond (p i) (suc (count_below p i)) (count_below p i)
 
 module _ (p : ℕ → Bool) where
-  -- A scan that every number passes: before the first, one that passes, one that does not, and the end.
-  pub all_none : true ≡ below 0 p
-  unfolding below
-  all_none = refl
-
-  pub all_pass : (i : ℕ) {b : Bool} → true ≡ below i p → b ≡ p i → b ≡ true → true ≡ below (i + 1) p
-  unfolding below
-  all_pass i e t y = rw (add-one i, ← e, ← t, y)
-
   pub all-fail : (i n : ℕ) {b : Bool} → i < n → b ≡ p i → b ≡ false → false ≡ below n p
   all-fail i n l t y = cases (below n p)
       (λ e. neither (p i) (below_at n p e i l) (sym t ∙ y))
       (λ e. sym e)
 
-  pub all_end : (i n : ℕ) → i ≤ n → n ≤ i → true ≡ below i p → true ≡ below n p
-  all_end i n h g e = let q : i ≡ n = omega arith in e ∙ ap (λ (j : ℕ). below j p) q
+  -- A chain over the numbers.
+  range-at : (a n : ℕ) → list_all p (range_with_len a n) ≡ true → (i : ℕ) → a ≤ i → i < a + n → p i ≡ true
+  range-at a zero e i l h = absurd (omega arith)
+  range-at a (suc n) e i l h = cases (eqb i a)
+      (λ y. rw (eqb-true i a y) (and_left (p a) _ e))
+      (λ y. let ne : i ≡ a → ⊥ = eqb-false i a y in range-at (a + 1) n (and_right (p a) _ e) i (omega arith) (omega arith))
+
+  range-all : (a n : ℕ) → ((i : ℕ) → a ≤ i → i < a + n → p i ≡ true) → list_all p (range_with_len a n) ≡ true
+  range-all a zero e = refl
+  range-all a (suc n) e = and_both (p a) _ (e a (omega arith) (omega arith))
+      (range-all (a + 1) n (λ i l h. e i (omega arith) (omega arith)))
+
+  pub all-below : (n : ℕ) → list_all p (range_with_len 0 n) ≡ below n p
+  all-below n = same_truth (list_all p (range_with_len 0 n)) (below n p)
+      (λ e. below_all n p (λ i l. range-at 0 n e i (omega arith) (omega arith)))
+      (λ e. range-all 0 n (λ i l h. below_at n p e i (omega arith)))
 
   pub count-no-number : (n : ℕ) → ((i : ℕ) → i < n → p i ≡ false) → count_below p n ≡ 0
   unfolding count_below
@@ -103,6 +110,11 @@ pub count_same : (p q : ℕ → Bool) (n : ℕ) → ((i : ℕ) → i < n → p i
 unfolding count_below
 count_same p q zero e = refl
 count_same p q (suc n) e = rw (e n (omega arith), count_same p q n (λ i l. e i (omega arith)))
+
+-- The record of a row found at its number.
+pub row_cell : (rows : List Row) (i : ℕ) {r : Row} → r ≡ whole_row rows i → r.cell ≡ cell_at rows i
+unfolding cell_at
+row_cell rows i e = ap (λ (x : Row). x.cell) e
 
 module _ (rows : List Row) where
   next-cell : (i : ℕ) → i < length rows → cells_in (take (suc i) rows) ≡ cells_in (take i rows) ++ (cell_at rows i ∷ [])

@@ -1,9 +1,10 @@
 -- What the rows' order tells: the cells are sound (`ordered-sound`).
 -- Assumes nothing.
-use Prim.Native.Nat.{ℕ, max, ◌+◌, ◌-◌, ◌<◌, ◌≤◌}
+use Prim.Native.Nat.{ℕ, zero, suc, max, ◌+◌, ◌-◌, ◌<◌, ◌≤◌}
 use mathlib.Core.Path.{◌≡◌, refl, sym, ◌∙◌, subst}
 use mathlib.Core.Bool.{Bool, true, false, cond, not, ◌&&◌}
 use mathlib.Core.List.{List}
+use native.Mathlib.Numerals.{add-one}
 use native.Mathlib.Omega.{arith}
 use lib.ListN.{length}
 use lib.Dec.{ltb, leb, eqb}
@@ -16,12 +17,17 @@ use Rattle.rows.specs.declared.Row.{Row}
 use Rattle.rows.specs.Rows.{cells_in}
 use Rattle.sound_cells.specs.Counted.{mate, ahead_of_next}
 use Rattle.sound_cells.specs.Sorted.{cell_at, key_part}
-use Rattle.sound_cells.specs.declared.order.Seen.{Seen}
-use Rattle.sound_cells.specs.Ordered.{is_fresh, noted, message_goes_on, MessageRun}
+use Rattle.sound_cells.specs.Ordered.{is_fresh, noted, message_goes_on}
 use Rattle.sound_cells.proofs.Numbered.{climb, count-span}
 use Rattle.sound_cells.proofs.RowsSound.{mate-key, mate-used, twin-mate, twin-index, same-key-mate, agree-own, agree-through}
 use Rattle.sound_cells.proofs.RowsSound.{Passing, rows-sound}
-use Rattle.sound_cells.proofs.Seen.{Told, fresh-new, noted-own, noted-keeps}
+use Rattle.sound_cells.proofs.Seen.{Told, fresh-new, noted-room, noted-own, noted-keeps}
+
+-- Rows i to e, without e: each after the first goes on the message of the one before.
+pub record MessageRun (rows : List Row) (i e : ℕ) : Type 0 where
+  pub after : i < e
+  pub within : e ≤ length rows
+  pub step : (t : ℕ) → i ≤ t → t + 1 < e → message_goes_on (cell_at rows t) (cell_at rows (t + 1)) ≡ true
 
 -- Is a cell's message of m rows whole or not, as it must be?
 abbrev Due : Cell → ℕ → Type 0
@@ -105,36 +111,43 @@ module _ (rows : List Row) (next : ℕ → ℕ) where
       due = due;
     }
 
-    later : (t : ℕ) → i ≤ t → t + 1 < e → Piece i (e - i) (t + 1) × ((cell_at rows t).index < (cell_at rows (t + 1)).index)
+    later : (t : ℕ) → i ≤ t → t + 1 < e → Piece i (e - i) t → Piece i (e - i) (t + 1)
     unfolding message_goes_on
-    later t l h =
-        let a = cell_at rows i in
+    later t l h p =
+        let a = cell_at rows t in
         let d = cell_at rows (t + 1) in
-        let g = run.step t l h in
+        let g = and_right (not (eqb a.count 1)) _ (run.step t l h) in
         let m = and_left (mate a d) _ g in
         let g₁ = and_right (mate a d) _ g in
         let like = and_left (agree d a) _ g₁ in
-        let g₂ = and_right (agree d a) _ g₁ in (
-          record {
-            used = mate-used a d m;
-            limit = like-limits next a d m u first.limit like (and_right (ltb (cell_at rows t).index d.index) _ g₂);
-            over = like-ahead next a d m u first.limit like first.over;
-            key = mate-key a d m;
-            like = like;
-            due = like-due next a d m u first.limit like (e - i) due;
-          },
-          ltb-true _ _ (and_left (ltb (cell_at rows t).index d.index) _ g₂),
-        )
+        let g₂ = and_right (not (eqb a.used 0)) _ (and_right (agree d a) _ g₁) in
+        record {
+          used = mate-used a d m;
+          limit = like-limits next a d m p.used p.limit like (and_right (ltb a.index d.index) _ g₂);
+          over = like-ahead next a d m p.used p.limit like p.over;
+          key = mate-key a d m ∙ p.key;
+          like = agree-through d (cell_at rows i) a like
+              (agree-through (cell_at rows i) a (cell_at rows i) (agree-own (cell_at rows i)) p.like);
+          due = like-due next a d m p.used p.limit like (e - i) p.due;
+        }
 
     piece : (k : ℕ) → i ≤ k → k < e → Piece i (e - i) k
-    piece k l h = cases (eqb k i)
-        (λ y. subst (Piece i (e - i)) (sym (eqb-true k i y)) first)
-        (λ y. let ne : k ≡ i → ⊥ = eqb-false k i y in
-        let q : k - 1 + 1 ≡ k = omega arith in
-        subst (Piece i (e - i)) q (later (k - 1) (omega arith) (omega arith)).0)
+    piece zero l h = subst (Piece i (e - i)) (omega arith) first
+    piece (suc k) l h = cases (eqb (suc k) i)
+        (λ y. subst (Piece i (e - i)) (sym (eqb-true (suc k) i y)) first)
+        (λ y. let ne : suc k ≡ i → ⊥ = eqb-false (suc k) i y in
+        subst (Piece i (e - i)) (add-one k) (later k (omega arith) (omega arith) (piece k (omega arith) (omega arith))))
+
+    risen : (t : ℕ) → i ≤ t → t + 1 < e → (cell_at rows t).index < (cell_at rows (t + 1)).index
+    unfolding message_goes_on
+    risen t l h =
+        let a = cell_at rows t in
+        let d = cell_at rows (t + 1) in
+        let g = and_right (mate a d) _ (and_right (not (eqb a.count 1)) _ (run.step t l h)) in
+        ltb-true _ _ (and_left (ltb a.index d.index) _ (and_right (not (eqb a.used 0)) _ (and_right (agree d a) _ g)))
 
     rise : (p q : ℕ) → i ≤ p → p < q → q < e → (cell_at rows p).index < (cell_at rows q).index
-    rise p q l h g = climb (λ t. (cell_at rows t).index) i (e - 1) (λ t a c. (later t a (omega arith)).1) p q l h (omega arith)
+    rise p q l h g = climb (λ t. (cell_at rows t).index) i (e - 1) (λ t a c. risen t a (omega arith)) p q l h (omega arith)
 
   -- Row j's message is the rows from .. to, and no other row below i is of its key.
   record Led (i j : ℕ) : Type 0 where
@@ -148,20 +161,22 @@ module _ (rows : List Row) (next : ℕ → ℕ) where
     only : (k : ℕ) → k < i → Used k → key_of (cell_at rows k) ≡ key_of (cell_at rows j) → (from ≤ k) × (k < to)
 
   -- The rows below i have passed.
-  pub record Passed (seen : Seen) (greatest i : ℕ) : Type 0 where
+  pub record Passed (seen : List ℕ) (greatest i : ℕ) : Type 0 where
+    room : 4 ≤ length seen
     told : (j : ℕ) → j < i → Used j → Told seen greatest (key_part (cell_at rows j))
     led : (j : ℕ) → j < i → Used j → Led i j
 
-  pub pass-starts : (seen : Seen) → Passed seen 0 0
-  pass-starts seen = record { told = λ j l. absurd (omega arith); led = λ j l. absurd (omega arith) }
+  pub pass-starts : (seen : List ℕ) → 4 ≤ length seen → Passed seen 0 0
+  pass-starts seen room = record { room = room; told = λ j l. absurd (omega arith); led = λ j l. absurd (omega arith) }
 
   same_number : (i j : ℕ) → key_of (cell_at rows i) ≡ key_of (cell_at rows j) → key_part (cell_at rows i) ≡ key_part (cell_at rows j)
   unfolding key_part
   same_number i j e = rw e
 
-  module _ (seen : Seen) (greatest i : ℕ) (h : Passed seen greatest i) where
+  module _ (seen : List ℕ) (greatest i : ℕ) (h : Passed seen greatest i) where
     pub pass-unused : (cell_at rows i).used ≡ 0 → Passed seen greatest (i + 1)
     pass-unused z = record {
+      room = h.room;
       told = λ j l u. h.told j (before j l u) u;
       led = λ j l u. let b = h.led j (before j l u) u in
           record {
@@ -195,9 +210,9 @@ module _ (rows : List Row) (next : ℕ → ℕ) where
       told-after : (j : ℕ) → j < e → Used j → Told (noted seen (key_part (cell_at rows i))) (max greatest (key_part (cell_at rows i)))
           (key_part (cell_at rows j))
       told-after j l v = cases (ltb j i)
-          (λ y. noted-keeps seen greatest (key_part (cell_at rows i)) (key_part (cell_at rows j)) (h.told j (ltb-true j i y) v))
+          (λ y. noted-keeps seen greatest (key_part (cell_at rows i)) h.room (key_part (cell_at rows j)) (h.told j (ltb-true j i y) v))
           (λ y. subst (Told (noted seen (key_part (cell_at rows i))) (max greatest (key_part (cell_at rows i))))
-          (sym (same_number j i (mine j (ltb-false j i y) l).key)) (noted-own seen greatest (key_part (cell_at rows i))))
+          (sym (same_number j i (mine j (ltb-false j i y) l).key)) (noted-own seen greatest (key_part (cell_at rows i)) h.room))
 
       led-after : (j : ℕ) → j < e → Used j → Led e j
       led-after j l v = cases (ltb j i)
@@ -228,7 +243,7 @@ module _ (rows : List Row) (next : ℕ → ℕ) where
           })
 
       pub pass-run : Passed (noted seen (key_part (cell_at rows i))) (max greatest (key_part (cell_at rows i))) e
-      pass-run = record { told = told-after; led = led-after }
+      pass-run = record { room = noted-room seen greatest (key_part (cell_at rows i)) h.room; told = told-after; led = led-after }
 
   passing : (i : ℕ) → Led (length rows) i → Passing rows next i
   passing i b =
@@ -256,5 +271,5 @@ module _ (rows : List Row) (next : ℕ → ℕ) where
         due = own.due;
       }
 
-  pub ordered-sound : (seen : Seen) (greatest : ℕ) → Passed seen greatest (length rows) → sound_cells (cells_in rows) next ≡ true
+  pub ordered-sound : (seen : List ℕ) (greatest : ℕ) → Passed seen greatest (length rows) → sound_cells (cells_in rows) next ≡ true
   ordered-sound seen greatest h = rows-sound rows next (λ i l u. passing i (h.led i l u))

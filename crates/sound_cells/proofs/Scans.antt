@@ -13,7 +13,7 @@ use Rattle.base.specs.Lists.{every, count_of}
 use Rattle.cells.specs.Cell.{Cell}
 use Rattle.cells.specs.Sound.{sound_cells}
 use Rattle.rows.specs.declared.Row.{Row}
-use Rattle.rows.specs.Rows.{cell_of, cells_in}
+use Rattle.rows.specs.Rows.{cells_in}
 use Rattle.rows.proofs.Tests.{count_none, count-step}
 use Rattle.sound_cells.specs.declared.Tally.{Tally}
 use Rattle.sound_cells.specs.Counted.{mate, twin, unlike, mates_of, counted_cell}
@@ -34,18 +34,18 @@ byte-le : (b : Bool) → bool_byte b ≤ 1
 byte-le true = omega arith
 byte-le false = omega arith
 
-pub tally-starts : (a : Cell) (rows : List Row) → Tallied a rows 0 (record { mates = 0; twins = 0; unlike = 0 })
-tally-starts a rows = record {
-  few = (omega arith, omega arith, omega arith);
-  mates = count_none (mate a);
-  twins = count_none (twin a);
-  unlike = count_none (unlike a);
+pub tally-starts : (a : Cell) (rows : List Row) (t : Tally) → t.mates ≡ 0 → t.twins ≡ 0 → t.unlike ≡ 0 → Tallied a rows 0 t
+tally-starts a rows t m n k = record {
+  few = (omega (arith, m), omega (arith, n), omega (arith, k));
+  mates = m ∙ count_none (mate a);
+  twins = n ∙ count_none (twin a);
+  unlike = k ∙ count_none (unlike a);
 }
 
 -- One row more: x, y and z tell whether it is a mate, a twin and unlike.
 pub tally-more : (a : Cell) (rows : List Row) (i : ℕ) (d : Row) {t : Tally} (h : Tallied a rows i t) (l : i < length rows)
     {x y z : Bool} {m n k : ℕ}
-    → x ≡ mate a (cell_of (get_or rows i d)) → y ≡ twin a (cell_of (get_or rows i d)) → z ≡ unlike a (cell_of (get_or rows i d))
+    → x ≡ mate a (get_or rows i d).cell → y ≡ twin a (get_or rows i d).cell → z ≡ unlike a (get_or rows i d).cell
     → m ≡ bool_byte x → n ≡ bool_byte y → k ≡ bool_byte z
     → Tallied a rows (i + 1) (record { mates = t.mates + m; twins = t.twins + n; unlike = t.unlike + k })
 tally-more a rows i d h l {x} {y} {z} e f g m n k = record {
@@ -61,12 +61,12 @@ tally-end a rows i h l = let e = take_all i rows l in
     λ k. record { mates = (rw e at h.mates) k; twins = (rw e at h.twins) k; unlike = (rw e at h.unlike) k }
 
 module _ (p : Cell → Bool) where
-  every-is : (rows : List Row) → list_all (λ r. p (cell_of r)) rows ≡ every p (cells_in rows)
+  every-is : (rows : List Row) → list_all (λ r. p r.cell) rows ≡ every p (cells_in rows)
   unfolding every cells_in
   every-is [] = refl
-  every-is (r ∷ rows) = ap (λ (b : Bool). p (cell_of r) && b) (every-is rows)
+  every-is (r ∷ rows) = ap (λ (b : Bool). p r.cell && b) (every-is rows)
 
 -- Do all rows pass the test by counts?
-pub all-sound : (rows : List Row) (next : ℕ → ℕ) {b : Bool} → b ≡ list_all (λ r. counted_cell (cells_in rows) next (cell_of r)) rows → b
+pub all-sound : (rows : List Row) (next : ℕ → ℕ) {b : Bool} → b ≡ list_all (λ r. counted_cell (cells_in rows) next r.cell) rows → b
     ≡ sound_cells (cells_in rows) next
 all-sound rows next e = e ∙ every-is (counted_cell (cells_in rows) next) rows ∙ counted-sound (cells_in rows) next

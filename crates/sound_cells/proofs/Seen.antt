@@ -2,24 +2,24 @@
 -- Assumes nothing.
 use Prim.Native.Nat.{ℕ, max, ◌+◌, ◌%◌, ◌^◌, ◌<◌, ◌≤◌}
 use mathlib.Core.Path.{◌≡◌, refl, sym, ◌∙◌}
-use mathlib.Core.Bool.{Bool, true, false, cond, not}
+use mathlib.Core.Bool.{Bool, true, false, not}
+use mathlib.Core.List.{List}
 use native.Mathlib.Omega.{arith}
 use lib.Dec.{ltb, eqb}
+use lib.Bits.{bit_or, or_add_and}
+use lib.ListN.{length, get_or, set, length-set}
+use lib.Seq.{get_or-set_same, get_or-set_other}
 use borrow.Author.Tests.{ltb-true, eqb-true, eqb-false, eq-eqb}
+use Rattle.std.proofs.lemmas.Nat.Bits.{and_pow}
 use Rattle.base.proofs.Choices.{cases, neither}
 use Rattle.window.specs.Places.{bit}
-use Rattle.window.proofs.Bits.{bit-small, bit-set, bit-set-other, bit-fits}
-use Rattle.sound_cells.specs.declared.order.Seen.{Seen}
-use Rattle.sound_cells.specs.Ordered.{has_bit, with_bit, word_of, mark_of, bits_of, with_bits, is_fresh, noted}
+use Rattle.window.proofs.Bits.{bit-small, bit-set, bit-set-other}
+use Rattle.sound_cells.specs.Ordered.{has_bit, with_bit, word_of, mark_of, is_fresh, noted}
 
 module _ (b : ℕ) where
   clear : (n : ℕ) → has_bit b n ≡ false → bit b (n % 64) ≡ 0
   unfolding has_bit
   clear n e = let f : bit b (n % 64) ≡ 1 → ⊥ = eqb-false _ _ e in omega (arith, bit-small b (n % 64))
-
-  pub bit_room : (n : ℕ) {p : ℕ} {r : Bool} → b < 18446744073709551616 → r ≡ has_bit b n → r ≡ false → p ≡ 2 ^ (n % 64)
-      → b + p < 18446744073709551616
-  bit_room n l e y q = rw q (bit-fits 64 b (n % 64) l (omega arith) (clear n (sym e ∙ y)))
 
   pub with-set : (n : ℕ) {r : Bool} → r ≡ has_bit b n → r ≡ true → b ≡ with_bit b n
   unfolding with_bit
@@ -28,6 +28,14 @@ module _ (b : ℕ) where
   pub with-clear : (n : ℕ) {p : ℕ} {r : Bool} → r ≡ has_bit b n → r ≡ false → p ≡ 2 ^ (n % 64) → b + p ≡ with_bit b n
   unfolding with_bit
   with-clear n e y q = rw (← e, y, q)
+
+  -- The bit is set by `|`.
+  pub or-bit : (n : ℕ) {p : ℕ} → p ≡ 2 ^ (n % 64) → bit_or b p ≡ with_bit b n
+  unfolding has_bit bit
+  or-bit n q = rw q (let e = and_pow b (n % 64) in let o = or_add_and b (2 ^ (n % 64)) in
+      cases (has_bit b n)
+      (λ y. let s : bit b (n % 64) ≡ 1 = eqb-true _ _ y in (omega (arith, o, rw s at e)) ∙ with-set n refl y)
+      (λ y. (omega (arith, o, rw (clear n y) at e)) ∙ with-clear n refl y refl))
 
   now-set : (n : ℕ) → has_bit b n ≡ false → has_bit (b + 2 ^ (n % 64)) n ≡ true
   unfolding has_bit
@@ -49,55 +57,41 @@ module _ (b : ℕ) where
       (λ y. rw (← with-set n refl y) e)
       (λ y. rw (← with-clear n refl y refl) (still-set n m e y))
 
--- What holds of a word's bits, and still of those put there, holds of every word's: a and b tell the word put, c and d the one asked.
-keep-each : (P : ℕ → Type 0) (seen : Seen) (bits : ℕ) (a b c d : Bool)
-    → (P (cond a seen.opened (cond b seen.held seen.ready)) → P bits)
-    → P (cond c seen.opened (cond d seen.held seen.ready))
-    → (let s : Seen = cond a (record { opened = bits; held = seen.held; ready = seen.ready })
-    (cond b (record { opened = seen.opened; held = bits; ready = seen.ready })
-    (record { opened = seen.opened; held = seen.held; ready = bits })) in P (cond c s.opened (cond d s.held s.ready)))
-keep-each P seen bits true b true d f h = f h
-keep-each P seen bits true b false true f h = h
-keep-each P seen bits true b false false f h = h
-keep-each P seen bits false true true d f h = h
-keep-each P seen bits false true false true f h = f h
-keep-each P seen bits false true false false f h = h
-keep-each P seen bits false false true d f h = h
-keep-each P seen bits false false false true f h = h
-keep-each P seen bits false false false false f h = f h
-
-module _ (seen : Seen) (w bits : ℕ) where
-  bits-own : bits_of (with_bits seen w bits) w ≡ bits
-  unfolding bits_of with_bits
-  bits-own = cases (eqb w 1) (λ y. rw y) (λ y. cases (eqb w 2) (λ z. rw (y, z)) (λ z. rw (y, z)))
-
-  bits-keep : (P : ℕ → Type 0) → (P (bits_of seen w) → P bits) → (v : ℕ) → P (bits_of seen v) → P (bits_of (with_bits seen w bits) v)
-  unfolding bits_of with_bits
-  bits-keep P f v h = keep-each P seen bits (eqb w 1) (eqb w 2) (eqb v 1) (eqb v 2) f h
-
 -- A key that occurred.
-pub record Told (seen : Seen) (greatest key : ℕ) : Type 0 where
+pub record Told (seen : List ℕ) (greatest key : ℕ) : Type 0 where
   pub low : key ≤ greatest
-  pub marked : has_bit (bits_of seen (word_of key)) (mark_of key) ≡ true
+  pub marked : has_bit (get_or seen (word_of key) 0) (mark_of key) ≡ true
 
-module _ (seen : Seen) (greatest key : ℕ) where
+word-small : (key : ℕ) → word_of key < 4
+unfolding word_of
+word-small key = omega arith
+
+module _ (seen : List ℕ) (greatest key : ℕ) where
   pub fresh-new : is_fresh seen greatest key ≡ true → Told seen greatest key → ⊥
   unfolding is_fresh
   fresh-new e h = cases (ltb greatest key)
       (λ y. omega (arith, ltb-true greatest key y, h.low))
-      (λ y. let f : not (has_bit (bits_of seen (word_of key)) (mark_of key)) ≡ true = rw y at e in neither false (rw h.marked at f) refl)
+      (λ y. let f : not (has_bit (get_or seen (word_of key) 0) (mark_of key)) ≡ true = rw y at e in neither false (rw h.marked at f) refl)
 
-  pub noted-own : Told (noted seen key) (max greatest key) key
+  pub noted-room : 4 ≤ length seen → 4 ≤ length (noted seen key)
   unfolding noted
-  noted-own = record {
-    low = omega arith;
-    marked = rw (bits-own seen (word_of key)) (with-own (bits_of seen (word_of key)) (mark_of key));
-  }
+  noted-room room = omega (arith, length-set seen (word_of key) (with_bit (get_or seen (word_of key) 0) (mark_of key)))
 
-  pub noted-keeps : (other : ℕ) → Told seen greatest other → Told (noted seen key) (max greatest key) other
-  unfolding noted
-  noted-keeps other h = record {
-    low = omega (arith, h.low);
-    marked = bits-keep seen (word_of key) (with_bit (bits_of seen (word_of key)) (mark_of key)) (λ b. has_bit b (mark_of other) ≡ true)
-        (with-keeps (bits_of seen (word_of key)) (mark_of key) (mark_of other)) (word_of other) h.marked;
-  }
+  module _ (room : 4 ≤ length seen) where
+    own : get_or (set seen (word_of key) (with_bit (get_or seen (word_of key) 0) (mark_of key))) (word_of key) 0
+        ≡ with_bit (get_or seen (word_of key) 0) (mark_of key)
+    own = get_or-set_same seen (word_of key) _ 0 (omega (arith, word-small key))
+
+    pub noted-own : Told (noted seen key) (max greatest key) key
+    unfolding noted
+    noted-own = record { low = omega arith; marked = rw own (with-own (get_or seen (word_of key) 0) (mark_of key)) }
+
+    pub noted-keeps : (other : ℕ) → Told seen greatest other → Told (noted seen key) (max greatest key) other
+    unfolding noted
+    noted-keeps other h = record {
+      low = omega (arith, h.low);
+      marked = cases (eqb (word_of other) (word_of key))
+          (λ y. let q : word_of other ≡ word_of key = eqb-true _ _ y in
+          rw (q, own) (with-keeps (get_or seen (word_of key) 0) (mark_of key) (mark_of other) (rw q at h.marked)))
+          (λ y. rw (get_or-set_other seen (word_of key) (word_of other) _ 0 (eqb-false _ _ y)) h.marked);
+    }

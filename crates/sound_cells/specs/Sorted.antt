@@ -1,18 +1,18 @@
 -- Soundness told from entries in ascending order. An entry holds a cell's message and index, and the number of its row. Nothing is asked of
 -- how the entries came about: where they pass these tests, the cells are sound (proofs/Certified.antt).
-use Rattle.std.specs.Prelude.{ℕ, zero, suc, ◌+◌, ◌*◌, ◌/◌, ◌%◌, Bool, cond, not, ◌&&◌, ◌||◌, List, ltb, leb, eqb, get_or, set}
+use Rattle.std.specs.Prelude.{ℕ, zero, suc, ◌+◌, ◌*◌, ◌/◌, ◌%◌, ◌-◌, Bool, cond, not, ◌&&◌, ◌||◌, List, ltb, eqb, length, get_or, set}
 use Rattle.base.specs.Limits.{max_cells, max_frags}
 use Rattle.base.specs.Lists.{below}
 use Rattle.cells.specs.Cell.{Cell, Key, open_as, held_as, ready_as, open_use, unused_use}
 use Rattle.cells.specs.Sound.{key_of, limits, agree}
 use Rattle.rows.specs.declared.Row.{Row}
-use Rattle.rows.specs.Rows.{cell_of, whole_row}
+use Rattle.rows.specs.Rows.{whole_row}
 use Rattle.sound_cells.specs.Counted.{mate, ahead_of_next}
 use Rattle.sound_cells.specs.declared.order.entries.Place.{Place}
 
 -- the record of row i; a blank one where there is none
 unfoldable pub cell_at : List Row → ℕ → Cell
-cell_at rows i = cell_of (whole_row rows i)
+cell_at rows i = (whole_row rows i).cell
 
 -- the places noted for row i; zeros where there are none
 abbrev pub place_of : List Place → ℕ → Place
@@ -45,28 +45,28 @@ row_number_at es t = get_or es t 0 % max_cells
 abbrev pub rises : List ℕ → ℕ → Bool
 rises es t = ltb (upper_at es t) (upper_at es (t + 1))
 
--- do they up to place k?
-unfoldable pub all_rise : List ℕ → ℕ → Bool
-all_rise es k = below k (rises es)
+-- do they all?
+unfoldable pub all_rise : List ℕ → Bool
+all_rise es = below (length es - 1) (rises es)
 
--- is c, of row i, the cell of the entry at place p? The last place is k.
-unfoldable pub is_own : List ℕ → ℕ → ℕ → ℕ → Cell → Bool
-is_own es k p i c = leb p k && (eqb (upper_at es p) (upper_part c) && eqb (row_number_at es p) i)
+-- is c, of row i, the cell of the entry at place p?
+unfoldable pub is_own : List ℕ → ℕ → ℕ → Cell → Bool
+is_own es p i c = ltb p (length es) && (eqb (upper_at es p) (upper_part c) && eqb (row_number_at es p) i)
 
 -- do the entries of c's message begin after place q, with one of a cell that agrees with c?
-unfoldable pub is_led : List Row → List ℕ → ℕ → ℕ → Cell → Bool
-is_led rows es k q c =
-    ltb q k
+unfoldable pub is_led : List Row → List ℕ → ℕ → Cell → Bool
+is_led rows es q c =
+    ltb q (length es - 1)
     && (not (eqb (key_at es q) (key_at es (q + 1)))
     && (eqb (key_at es (q + 1)) (key_part c)
     && (mate c (cell_at rows (row_number_at es (q + 1))) && agree c (cell_at rows (row_number_at es (q + 1))))))
 
 -- both, with the places noted for row i, and all that is asked of the cell alone
-unfoldable pub is_placed_entry : List Row → (ℕ → ℕ) → List ℕ → List Place → ℕ → ℕ → Bool
-is_placed_entry rows next es places k i =
+unfoldable pub is_placed_entry : List Row → (ℕ → ℕ) → List ℕ → List Place → ℕ → Bool
+is_placed_entry rows next es places i =
     eqb (cell_at rows i).used unused_use
     || ((limits (cell_at rows i) && ahead_of_next next (cell_at rows i))
-    && (is_own es k ((place_of places i).rank) i (cell_at rows i) && is_led rows es k ((place_of places i).lead) (cell_at rows i)))
+    && (is_own es ((place_of places i).rank) i (cell_at rows i) && is_led rows es ((place_of places i).lead) (cell_at rows i)))
 
 -- one more at place q, for a used cell
 unfoldable pub counted : List ℕ → Cell → ℕ → List ℕ

@@ -11,9 +11,10 @@ use lib.ListN.{length, get_or, take, drop, drop_of_length-le}
 use borrow.Author.Tests.{leb-true, ltb-true, ltb-false, lt-ltb, le-ltb, le-leb, lt-leb}
 use Rattle.std.specs.Prelude.{Result, Ok, Err}
 use Rattle.std.specs.Result.{is_ok}
-use Rattle.std.specs.List.{fold, list_any}
+use Rattle.std.specs.List.{fold, list_any, list_all, enumerate_from}
+use Rattle.std.proofs.lemmas.List.{drop-drop}
 use Rattle.base.specs.Limits.{numbers24, max_ord_chans, memories, window_places, max_unsent}
-use Rattle.base.specs.Lists.{every, below}
+use Rattle.base.specs.Lists.{any, every, below}
 use Rattle.base.specs.declared.refusal.Refusal.{Refusal}
 use Rattle.base.specs.declared.refusal.Refusal.TheVariants.{NotSound}
 use Rattle.base.proofs.Choices.{cases, and_left, and_right, and_both, neither}
@@ -154,22 +155,17 @@ module _ (cs : List Channel) (own : ℕ) (long : length cs ≡ max_ord_chans) wh
       (λ t. t ∙ sym (both t))
       (λ t. t ∙ cases Bounded (λ u. neither Within (all u) t) (λ u. sym u))
 
--- ---- no number among those after it: one that is, one that is not, none left
-module _ (l : List ℕ) (i : ℕ) (t : Bool) (e : differ (drop i l) ≡ t) where
-  pub differ-yes : length l ≤ i → true ≡ t
+-- ---- no number among those after it: each with its place, as a chain of std's has them
+module _ (l : List ℕ) where
+  abbrev pub fresh : ℕ × ℕ → Bool
+  fresh p = not (list_any (λ m. eqb m p.1) (take (length l - (p.0 + 1)) (drop (p.0 + 1) l)))
+
+  pub all_fresh : (r : List ℕ) (i : ℕ) → drop i l ≡ r → list_all fresh (enumerate_from i r) ≡ differ r
   unfolding differ
-  differ-yes h = sym (ap differ (drop_of_length-le l h)) ∙ e
-
-  module _ (h : i < length l) (b : Bool) (f : b ≡ list_any (λ m. eqb m (get_or l i 0)) (take (length l - (i + 1)) (drop (i + 1) l))) where
-    differ-here : (not b && differ (drop (i + 1) l)) ≡ t
-    unfolding differ
-    differ-here = rw (f, part-from l (i + 1), held (get_or l i 0) (drop (i + 1) l)) (sym (ap differ (from-here l i h)) ∙ e)
-
-    pub differ-not : b ≡ true → false ≡ t
-    differ-not g = rw g at differ-here
-
-    pub differ-further : b ≡ false → differ (drop (i + 1) l) ≡ t
-    differ-further g = rw g at differ-here
+  all_fresh [] i e = refl
+  all_fresh (n ∷ r) i e =
+      let d : drop (i + 1) l ≡ r = sym (drop-drop 1 i l) ∙ ap (drop 1) e in
+      rw (part-from l (i + 1), held n (drop (i + 1) l), d) (ap (λ (b : Bool). not (any (eqb n) r) && b) (all_fresh r (i + 1) d))
 
 -- ---- the unsent
 module _ (w : ReliableWindow) where

@@ -16,7 +16,7 @@ use base::Refusal;
 use receiver::{Channel, RecvQueue};
 use window::ReliableWindow;
 
-// 9, or whether the unsent numbers ascend, as they do wherever they joined one by one. (`as usize`: u32 has no From to it.)
+// `NotSound`, or whether the unsent numbers ascend, as they do wherever they joined one by one. (`as usize`: u32 has no From to it.)
 #[tactic(auto, using(crate::proofs::Rules::whole))]
 pub fn sound_queue(queue: &RecvQueue) -> Result<bool, Refusal>
     ensures { result ≡ queue_sound_of queue.now }
@@ -56,6 +56,7 @@ fn sound_window(window: &ReliableWindow) -> bool
         && (window.low + base::WINDOW_PLACES < base::NUMBERS_24 || places_within(window))
 }
 
+// (Low is at most 2^24, or low + k + 1 might wrap.)
 fn places_within(window: &ReliableWindow) -> bool
     requires { window.now.low ≤ numbers24 }
     ensures { result ≡ places_within window.now window_places }
@@ -73,8 +74,8 @@ fn place_within(window: &ReliableWindow, n: u32) -> bool
     n < base::NUMBERS_24 || !window.accepted(n)
 }
 
-// The channels' own. None is above the number that all join to by their bits: where that one is within, so are
-// they, and none is looked at by itself.
+// Each channel's next and memory is at most 2^24. None is above the number that all join to by their bits: where that one is within, so
+// are they, and none is looked at by itself. The join takes one instruction for four numbers.
 #[tactic(auto, using(crate::proofs::Rules::joined_within))]
 fn nexts_within(channels: &[Channel]) -> bool
     ensures { result ≡ nexts_within channels.now }
@@ -88,13 +89,17 @@ fn join(channels: &[Channel]) -> u32
     channels.iter().fold(0, |bits, c| bits | c.next | c.newest)
 }
 
+// (Seldom called. Never inlined: timed together with `is_ascending`, as that one is, it spares 8 to 22 % of the stream with 1,024 unsent
+// numbers.)
+#[inline(never)]
 fn each_within(channels: &[Channel]) -> bool
     ensures { result ≡ nexts_within channels.now }
 {
     channels.iter().all(|c| c.next <= base::NUMBERS_24 && c.newest <= base::NUMBERS_24)
 }
 
-// The rules on unsent numbers. Numbers that ascend differ.
+// The rules on unsent numbers. Numbers that ascend differ. (Low is at most 2^24, which `sound_values` tests: so a number below low, which
+// is accepted, is below 2^24 too. A struct for a window so tested would serve two functions.)
 #[tactic(auto, using(crate::proofs::Rules::rising_told, crate::proofs::Rules::mixed_told))]
 fn sound_numbers(window: &ReliableWindow, numbers: &[u32]) -> Result<bool, Refusal>
     requires { window.now.low ≤ numbers24 }
@@ -106,24 +111,22 @@ fn sound_numbers(window: &ReliableWindow, numbers: &[u32]) -> Result<bool, Refus
     } else {
         sound_mixed(window, numbers)
     };
-    if sound {
-        Ok(ascending)
-    } else {
-        Err(Refusal::NotSound)
-    }
+    sound.then_some(ascending).ok_or(Refusal::NotSound)
 }
 
-// Without a branch the loop is done several numbers at a time: on 1,024 numbers `is_sorted_by` takes four times as long, a fold over
-// `windows` a fifth longer.
+// Without a branch the loop is done several numbers at a time: 512 numbers take 87 ns, by `all &= numbers[i - 1] < numbers[i]` 97, by a
+// fold over `windows` 112, and by `is_sorted_by` four times as long as here. It is never inlined: there the compiler does not align the
+// loop, and where the loop's last branch lies across a multiple of 32 bytes a call takes half as long again.
+#[inline(never)]
 #[tactic(auto, using(crate::proofs::Ascending::pair_turn))]
 fn is_ascending(numbers: &[u32]) -> bool
     ensures { result ≡ ascending numbers.now }
 {
-    let mut all = true;
+    let mut falls = false;
     for i in 1..numbers.len() {
-        all &= numbers[i - 1] < numbers[i];
+        falls |= numbers[i] <= numbers[i - 1];
     }
-    all
+    !falls
 }
 
 // Those below low are accepted, and all before one of them are below low.
@@ -163,10 +166,8 @@ fn sound_number(window: &ReliableWindow, n: u32) -> bool
 fn each_differs(numbers: &[u32]) -> bool
     ensures { result ≡ differ numbers.now }
 {
-    for (i, n) in numbers.iter().enumerate() {
-        if numbers[i + 1..].contains(n) {
-            return false;
-        }
-    }
-    true
+    numbers
+        .iter()
+        .enumerate()
+        .all(|(i, n)| !numbers[i + 1..].contains(n))
 }

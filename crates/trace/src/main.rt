@@ -5,9 +5,8 @@
 #![tactic(auto)]
 
 use base::Refusal;
-use recv_answers::QueueReceived;
 use recv_array::Receiver;
-use recv_queue::{Profile, Received, Taken};
+use recv_queue::{Body, Profile, Received};
 use std::io;
 use std::io::Read;
 
@@ -19,8 +18,8 @@ const STORE: usize = base::CELL_BYTES * CELLS;
 // A length has 16 bits.
 const INPUT: usize = 65535;
 
-// The longest ACK of 1,024 numbers.
-const OUT: usize = 4099;
+// The longest ACK: three bytes, and four for each number. (`as usize`: a const can call no From.)
+const OUT: usize = 3 + 4 * base::MAX_UNSENT as usize;
 
 // "its number ('-' for 9, 1, 2, 3)"; a failed write is passed over.
 fn show_name(rt: &impl Print, answer: Result<Received, Refusal>, datagram: &[u8]) {
@@ -36,20 +35,25 @@ fn show_name(rt: &impl Print, answer: Result<Received, Refusal>, datagram: &[u8]
 
 fn show_received(rt: &impl Print, answer: Result<Received, Refusal>, datagram: &[u8]) {
     show_name(rt, answer, datagram);
-    let told = QueueReceived::from(answer);
-    let values = [u64::from(told.ready), u64::from(told.dropped)];
-    replay::line(rt, b"", u64::from(told.number), &values);
+    match answer {
+        Ok(r) => {
+            let values = [u64::from(r.ready), u64::from(r.dropped)];
+            replay::line(rt, b"", 0, &values);
+        }
+        Err(refusal) => {
+            replay::line(rt, b"", u64::from(u32::from(refusal)), &[0, 0]);
+        }
+    }
 }
 
 // Takes until none is ready: there are no more messages than cells. (`as u64`: usize has no From to it.)
 fn take_all(rt: &impl Print, x: &mut Receiver, store: &[u8], joined: &mut [u8]) {
     for _ in 0..CELLS {
-        match x.take(store, joined) {
-            Ok(Taken::InStore { len, .. } | Taken::Joined { len, .. }) => {
-                replay::line(rt, b"+", len as u64, &[]);
-            }
-            Err(_) => return,
-        }
+        let Ok(taken) = x.take(store, joined) else {
+            return;
+        };
+        let (Body::InStore { len, .. } | Body::Joined { len }) = taken.body;
+        replay::line(rt, b"+", len as u64, &[]);
     }
 }
 

@@ -9,7 +9,7 @@ use native.Mathlib.Omega.{arith}
 use borrow.Author.Tests.{lt-ltb, le-ltb}
 use Rattle.base.specs.Limits.{window_places}
 use Rattle.base.proofs.Ifs.{true-yes, true-no, le_yes, le-no, eq_yes, eq_no}
-use Rattle.base.specs.Numbers.{behind, distance}
+use Rattle.base.specs.Numbers.{distance}
 use Rattle.window.specs.Places.{place_set}
 use Rattle.window.specs.Window.{window_of, accepted}
 use Rattle.window.specs.declared.ReliableWindow.{ReliableWindow}
@@ -52,8 +52,8 @@ module _ (w : ReliableWindow) (n : ℕ) where
 
 -- and its place, if it has one, is clear: of a window by its parts, as the code has it
 module _ (low : ℕ) (bits : List ℕ) (n : ℕ) where
-  pub not_behind : (b : Bool) → b ≡ accepted (window_of low bits) n → b ≡ false → behind low n ≡ false
-  not_behind b e f = le-ltb _ _ (low-le (window_of low bits) n (sym e ∙ f))
+  pub not_behind : (b : Bool) → b ≡ accepted (window_of low bits) n → b ≡ false → low ≤ n
+  not_behind b e f = low-le (window_of low bits) n (sym e ∙ f)
 
   pub place_clear : accepted (window_of low bits) n ≡ false → distance low n ≤ window_places → (n ≡ low → ⊥) → place_set bits n ≡ false
   place_clear t h d =

@@ -50,13 +50,13 @@ module _ (bits : List ℕ) (n at : ℕ) (e : at ≡ place_byte n) where
     turn-clears t = rw (e, q, turn-clear _ _ (is_set bits n t))
 
   module _ (past : length bits ≤ at) where
-    pub set-past : bits ≡ set_place bits n
+    pub set_past : bits ≡ set_place bits n
     unfolding set_place
-    set-past = sym (set_out bits (place_byte n) _ (rw e at past))
+    set_past = sym (set_out bits (place_byte n) _ (rw e at past))
 
-    pub clear-past : bits ≡ clear_place bits n
+    pub clear_past : bits ≡ clear_place bits n
     unfolding clear_place
-    clear-past = sym (set_out bits (place_byte n) _ (rw e at past))
+    clear_past = sym (set_out bits (place_byte n) _ (rw e at past))
 
 module _ (bits : List ℕ) (n : ℕ) (long : length bits ≡ 256) where
   store_same : (v : ℕ) → place_set (set bits (place_byte n) v) n ≡ eqb (bit v (place_bit n)) 1

@@ -1,5 +1,6 @@
 // The window of accepted numbers: low, the smallest number never accepted, and 2,048 places above it. A number's place is a bit of the
-// 256 bytes; places go round, so that none moves when low does. The functions work on lent bits; the window by value has them as methods.
+// bytes; places go round, so that none moves when low does. The window's methods are those to call. Beside them the open functions on a low
+// number and lent bits promise the same for bits of every length, which is more than a method of the struct, whose array has one, can say.
 
 #![tactic(auto)]
 
@@ -17,11 +18,14 @@ pub use words::missing_in;
 
 mod words;
 
+// A bit for each place.
+const BYTES: usize = base::WINDOW_PLACES as usize / 8;
+
 #[repr(C)]
-#[derive(Clone, Copy)]
+#[derive(Clone, Copy, Debug, PartialEq, Eq)]
 pub struct ReliableWindow {
     pub low: u32,
-    pub bits: [u8; 256],
+    pub bits: [u8; BYTES],
 }
 
 impl ReliableWindow {
@@ -31,7 +35,7 @@ impl ReliableWindow {
     {
         ReliableWindow {
             low: 0,
-            bits: [0u8; 256],
+            bits: [0u8; BYTES],
         }
     }
 
@@ -59,6 +63,7 @@ impl ReliableWindow {
 }
 
 // The window's low number afterwards; a refused number moves nothing. A place past the end of the bits is clear and stays so.
+#[tactic(auto, unfolding(crate::specs::Window::insert_of, base::specs::If::if_lt, base::specs::If::if_le, base::specs::If::if_true))]
 pub fn insert_in(low: u32, bits: &mut [u8], n: u32) -> Result<u32, Refusal>
     ensures { inserted_in low result bits.new ≡ insert_of (window_of low bits.old) n }
 {
@@ -68,7 +73,7 @@ pub fn insert_in(low: u32, bits: &mut [u8], n: u32) -> Result<u32, Refusal>
     if accepted_in(low, bits, n) {
         return Err(Refusal::Old);
     }
-    if base::WINDOW_PLACES < distance(low, n) {
+    if base::WINDOW_PLACES < n - low {
         return Err(Refusal::Beyond);
     }
     Ok(accept(low, bits, n))
@@ -78,13 +83,13 @@ pub fn insert_in(low: u32, bits: &mut [u8], n: u32) -> Result<u32, Refusal>
 pub fn accepted_in(low: u32, bits: &[u8], n: u32) -> bool
     ensures { result ≡ Window.accepted (window_of low bits.now) n }
 {
-    if behind(low, n) {
+    if n < low {
         return true;
     }
     if n == low {
         return false;
     }
-    if distance(low, n) <= base::WINDOW_PLACES {
+    if n - low <= base::WINDOW_PLACES {
         return place_set(bits, n);
     }
     false
@@ -99,7 +104,7 @@ fn accept(low: u32, bits: &mut [u8], n: u32) -> u32
     ensures { window_of result bits.new ≡ Window.accept (window_of low bits.old) n }
 {
     if n == low {
-        return advanced(next(n), bits);
+        return advanced(n + 1, bits);
     }
     turn_place(bits, n);
     low
@@ -110,7 +115,8 @@ fn advanced(low: u32, bits: &mut [u8]) -> u32
     requires { low ≤ numbers24 }
     ensures { window_of result bits.new ≡ advance window_places (window_of low bits.old) }
 {
-    let end = ahead(low, base::WINDOW_PLACES);
+    let end = low + base::WINDOW_PLACES;
+    // A loop: each place is tested and cleared in one turn, where `find` and a sweep over the found ones would go twice.
     for n in low..end {
         if !place_set(bits, n) {
             return n;
@@ -130,6 +136,7 @@ pub fn place_set(bits: &[u8], n: u32) -> bool
 }
 
 // The place of n turned: a clear one is set, a set one cleared. One past the end of the bits is clear and stays so.
+#[tactic(auto, using(crate::proofs::Places::set_past, crate::proofs::Places::clear_past))]
 fn turn_place(bits: &mut [u8], n: u32)
     ensures sets { place_set bits.old n ≡ false → bits.new ≡ set_place bits.old n }
     ensures clears { place_set bits.old n ≡ true → bits.new ≡ clear_place bits.old n }
@@ -145,32 +152,4 @@ fn place_byte(n: u32) -> usize
     ensures { result ≡ place_byte n }
 {
     (n % base::WINDOW_PLACES / 8) as usize
-}
-
-// The order of numbers: base's specs/Numbers.antt.
-fn behind(base: u32, n: u32) -> bool
-    ensures { result ≡ Numbers.behind base n }
-{
-    n < base
-}
-
-fn distance(base: u32, n: u32) -> u32
-    requires { Numbers.behind base n ≡ false }
-    ensures { result ≡ Numbers.distance base n }
-{
-    n - base
-}
-
-fn ahead(base: u32, k: u32) -> u32
-    requires { base + k < 2 ^ 32 }
-    ensures { result ≡ Numbers.ahead base k }
-{
-    base + k
-}
-
-fn next(n: u32) -> u32
-    requires { n + 1 < 2 ^ 32 }
-    ensures { result ≡ Numbers.following n }
-{
-    ahead(n, 1)
 }

@@ -33,6 +33,7 @@ fn put_above(low: u32, bits: &[u8], list: &mut [u32], p: usize, end: u32) -> usi
     let from = low + 1;
     let to = low + end;
     let mut q = p;
+    // A loop over the words' numbers, from which their places come: the bits go round, so that `chunks` of them don't come in this order.
     for j in from / WORD_PLACES..to.div_ceil(WORD_PLACES) {
         let n = j * WORD_PLACES;
         let clear = between(n, from, to) & !word(bits, n);
@@ -48,6 +49,7 @@ fn highest(low: u32, bits: &[u8]) -> u32
 {
     let first = low + 1;
     let end = first + base::WINDOW_PLACES;
+    // A loop, where `find_map` would do: std has lemmas for a range taken forwards and a slice backwards, but for no range backwards.
     for j in (first / WORD_PLACES..end.div_ceil(WORD_PLACES)).rev() {
         let n = j * WORD_PLACES;
         let set = between(n, first, end) & word(bits, n);
@@ -88,7 +90,7 @@ fn between(n: u32, from: u32, to: u32) -> u64
 }
 
 // The word whose first number is n, a whole one by one read of its bytes. A byte past the end of the bits is 0: only there are they put
-// one after another.
+// one after another. (base's readers go byte by byte at every place.)
 fn word(bits: &[u8], n: u32) -> u64
     requires { n % word_places ≡ 0 }
     ensures { result ≡ places_from bits.now n word_places }

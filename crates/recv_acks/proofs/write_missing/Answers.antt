@@ -1,11 +1,8 @@
 use mathlib.Core.Path.{sym}
 use lib.Seq.{length-take-le}
 use borrow.Author.Rules.{rules}
-use Rattle.recv_acks.proofs.WriteCases.{missing-unsound, missing-sound, missing-first, missing-room}
+use Rattle.recv_acks.proofs.WriteCases.{missing-sound, missing-first, missing-room}
 use Rattle.recv_acks.proofs.write_missing.Goals as goal
-
-pub returns-in_err-sound_queue : goal.returns-in_err-sound_queue
-returns-in_err-sound_queue c = search (rules, missing-unsound)
 
 pub slice_bounds-list-end : goal.slice_bounds-list-end
 slice_bounds-list-end c = search (rules, missing-room)

@@ -13,7 +13,7 @@ ghost use Rattle.recv_steps.specs.Flush.{flushed_row, stored, settled, settled_r
 ghost use Rattle.recv_steps.specs.Frames.{number_in, Begun, Ran};
 ghost use Rattle.recv_steps.specs.Receives.{begun_rows};
 
-use super::super::{Framed, Tally};
+use crate::{Framed, Tally};
 use base::Refusal;
 use frame::Placed;
 use receiver::Nexts;
@@ -36,8 +36,8 @@ fn begin(rows: &mut [Row]) -> u32
     turn as u32
 }
 
-// The row's body stands in the store. Most rows' bodies do already, and are not written.
-#[tactic(auto, using(crate::proofs::Flushing::stored_same, crate::proofs::Flushing::stored_anew))]
+// The row's body stands in the store. A row whose body stands there already is not written.
+#[tactic(auto, unfolding(crate::specs::Flush::stored))]
 fn clear_place(r: &mut Row)
     ensures { r.new ≡ stored r.old }
 {
@@ -81,6 +81,7 @@ fn frames(
         result reliables.new nexts.new rows.new }
 {
     let profile = nexts.profile;
+    // (Each count by name: with `..Tally::default()`, tried, the proof of what the frames begin with did not close.)
     let mut counts = Tally {
         turn,
         ready: 0,
@@ -88,6 +89,7 @@ fn frames(
         full: false,
     };
     let mut at = base::MIN_DATAGRAM;
+    // (As an iterator no plainer, as with `frame::read_frames`: a refusal ends the frames too, and where they end is asked afterwards.)
     while let Ok((placed, next)) = frame::read_frame(profile, datagram, at) {
         match number_in(reliables, placed) {
             Ok(()) => counts = super::keep_in(rows, nexts, counts, placed),
@@ -109,7 +111,7 @@ fn frames(
 fn is_placed(r: &Row) -> bool
     ensures { result ≡ is_placed r.now }
 {
-    (r.used != cells::UNUSED) & (r.place != 0)
+    (r.cell.used != cells::UNUSED) & (r.place != 0)
 }
 
 // The row's body, where it is still in the datagram, copied into cell i of the store. (`as usize`: u32 has no From to it.)
@@ -121,7 +123,7 @@ fn flush_row(store: &mut [u8], i: usize, r: &Row, datagram: &[u8])
 {
     if is_placed(r) {
         let from = r.place as usize - 1;
-        let end = from + r.length as usize;
+        let end = from + r.cell.length as usize;
         base::put_all(store, i * base::CELL_BYTES, &datagram[from..end]);
     }
 }
@@ -131,14 +133,15 @@ fn flush_row(store: &mut [u8], i: usize, r: &Row, datagram: &[u8])
 fn settle_row(r: &mut Row)
     ensures { r.new ≡ settled r.old }
 {
-    if r.used == cells::RELEASED {
+    if r.cell.used == cells::RELEASED {
         *r = rows::blank_row();
     } else {
         clear_place(r);
     }
 }
 
-// Every body that the datagram placed copied into the store, and every row settled.
+// Every body that the datagram placed copied into the store, and every row settled. (A cell's bytes are found by the row's place: of
+// `chunks_exact_mut` a proof learns no element.)
 fn settle(rows: &mut [Row], store: &mut [u8], datagram: &[u8])
     requires all_fit { AllFit datagram.now rows.old }
     requires rows_bound { length rows.old ≤ max_cells }

@@ -1,8 +1,7 @@
-use borrow.Author.Rules.{rules}
 use native.Mathlib.Nat.{one-mul, mod-eq_of_lt}
 use native.Mathlib.Omega.{arith}
 use lib.Pow.{pow-lt}
-use Rattle.window.proofs.Places.{turn-sets, turn-clears, set-past, clear-past}
+use Rattle.window.proofs.Places.{turn-sets, turn-clears}
 use Rattle.window.proofs.turn_place.Goals as goal
 
 pub returns-then-at-bits-clause-sets : goal.returns-then-at-bits-clause-sets
@@ -12,9 +11,3 @@ returns-then-at-bits-clause-sets c =
 pub returns-then-at-bits-clause-clears : goal.returns-then-at-bits-clause-clears
 returns-then-at-bits-clause-clears c =
     turn-clears _ _ _ c.place_byte-at.ensures _ (rw one-mul (mod-eq_of_lt (pow-lt {j = 8} (omega arith))))
-
-pub returns-else-at-bits-clause-sets : goal.returns-else-at-bits-clause-sets
-returns-else-at-bits-clause-sets c t = search (rules, set-past)
-
-pub returns-else-at-bits-clause-clears : goal.returns-else-at-bits-clause-clears
-returns-else-at-bits-clause-clears c t = search (rules, clear-past)

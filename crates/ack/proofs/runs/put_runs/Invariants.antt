@@ -5,6 +5,4 @@ use Rattle.ack.proofs.runs.put_runs.Given as goal
 
 abbrev pub invariant-loop-run : goal.invariant-loop-run
 invariant-loop-run l =
-    (goal.iterator-loop-run).can_next l.run-iterator
-    × (goal.iterator-loop-run).is_finite l.run-iterator
-    × Left l.p (records_bytes (runs l.numbers)) l.initial.out l.q (records_bytes (runs (chunk_by_rest l.run-iterator))) l.out
+    Left l.p (records_bytes (runs l.numbers)) l.initial.out l.q (records_bytes (runs (chunk_by_rest l.run-iterator))) l.out

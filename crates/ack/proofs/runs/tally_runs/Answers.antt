@@ -9,7 +9,7 @@ loop-run-preserved c =
     let s = c.in-Some.ensures.steps in
     let front = (s.2 is_next (answers_always _ _ _ (λ f a r g h. search rules))).1 in
     let size = c.record_size-bytes.ensures in
-    (search rules, search rules, counted-more _ _ _ _ s.0 s.1 front _ _ _ size.is size.small c.loop-run.invariant.2)
+    counted-more _ _ _ _ s.0 s.1 front _ _ _ size.is size.small c.loop-run.invariant
 
 pub returns-clause-is : goal.returns-clause-is
-returns-clause-is c = counted-all _ _ _ _ c.in-None.ensures.steps.0 c.loop-run.invariant.2
+returns-clause-is c = counted-all _ _ _ _ c.in-None.ensures.steps.0 c.loop-run.invariant

@@ -5,8 +5,8 @@ use Rattle.frame_write.proofs.head.write_head.Goals as goal
 pub returns-then-number-ge-NUMBERS_24 : goal.returns-then-number-ge-NUMBERS_24
 returns-then-number-ge-NUMBERS_24 c = search (rules, answer-large, output-large)
 
-pub returns-then-out-lt-HEAD_SIZE : goal.returns-then-out-lt-HEAD_SIZE
-returns-then-out-lt-HEAD_SIZE c = search (rules, answer-short, output-short)
+pub returns-then-out-lt-MIN_DATAGRAM : goal.returns-then-out-lt-MIN_DATAGRAM
+returns-then-out-lt-MIN_DATAGRAM c = search (rules, answer-short, output-short)
 
 pub returns : goal.returns
 returns c = search (rules, answer-written, output-written)

@@ -13,7 +13,7 @@ pub returns-in-Early : goal.returns-in-Early
 returns-in-Early c = search (rules, joins-early)
 
 pub returns-in-Due : goal.returns-in-Due
-returns-in-Due c = joins-due _ _ _ _ _ _ c.fate_of.ensures c.into-id.ensures _ c.turn_ready-t.ensures.is c.in-Due.is c.into.ensures _ _ _
+returns-in-Due c = joins-due _ _ _ _ _ _ c.fate_of.ensures c.into-id.ensures _ c.turn_ready-t.ensures.is c.in-Due.is _ _ _
     c.follows.ensures
 
 pub returns-in-Newer : goal.returns-in-Newer

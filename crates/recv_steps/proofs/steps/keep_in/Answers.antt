@@ -1,15 +1,11 @@
-use Rattle.recv_steps.proofs.Stepping.{limits-channel, limited-piece, limited-whole, limited-drops}
-use borrow.Author.Rules.{rules}
+use Rattle.recv_steps.proofs.Stepping.{limited-piece, limited-whole, limited-drops}
 use Rattle.recv_steps.proofs.steps.keep_in.Goals as goal
 
-pub returns-then-placed : goal.returns-then-placed
-returns-then-placed c = search (rules, limited-piece)
+pub returns-in_default : goal.returns-in_default
+returns-in_default c = limited-drops _ c.in_default.ensures _ _ _ _ c.drop_one.ensures
 
-pub whole-requires-clause-channel_lt_max_ord_chans : goal.whole-requires-clause-channel_lt_max_ord_chans
-whole-requires-clause-channel_lt_max_ord_chans c = search (rules, limits-channel)
-
-pub returns-then-in_limits : goal.returns-then-in_limits
-returns-then-in_limits c = search (rules, limited-whole)
+pub returns-then-kept : goal.returns-then-kept
+returns-then-kept c = let k = c.in-Some.kept in limited-piece _ _ c.in-Some.ensures k.limited _ _ _ _ _ _ c.if-kept.true c.piece.ensures
 
 pub returns : goal.returns
-returns c = search (rules, limited-drops)
+returns c = let k = c.in-Some.kept in limited-whole _ _ c.in-Some.ensures k.limited _ _ _ _ _ _ c.if-kept.false c.whole.ensures

@@ -1,13 +1,9 @@
-use Rattle.recv_steps.proofs.Stepping.{limited-channel}
 use Rattle.recv_steps.proofs.Joining.{piece-drops, piece-puts}
 use borrow.Author.Rules.{rules}
 use Rattle.recv_steps.proofs.steps.piece.Goals as goal
 
 pub returns-then-any_clash : goal.returns-then-any_clash
 returns-then-any_clash c = search (rules, piece-drops)
-
-pub put_piece-requires-clause-channel_lt_max_ord_chans : goal.put_piece-requires-clause-channel_lt_max_ord_chans
-put_piece-requires-clause-channel_lt_max_ord_chans c = limited-channel _ c.requires.limited
 
 pub returns : goal.returns
 returns c = search (rules, piece-puts)

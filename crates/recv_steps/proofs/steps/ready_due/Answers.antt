@@ -8,9 +8,7 @@ follows-requires-clause-can_count c = search (rules, counts-after)
 
 pub returns-then-put_frame : goal.returns-then-put_frame
 returns-then-put_frame c = let put = c.put_frame.ensures in
-    due-put _ _ _ _ _ put.room put.put c.if-put_frame.true _ _
-    c.make_one-t.ensures c.into.ensures _ _ _
-    c.follows.ensures
+    due-put _ _ _ _ _ put.room put.put c.if-put_frame.true _ _ c.make_one-t.ensures _ _ _ c.follows.ensures
 
 pub returns : goal.returns
 returns c = search (rules, due-full)

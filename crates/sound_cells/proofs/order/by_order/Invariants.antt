@@ -1,13 +1,10 @@
-use Prim.Native.Nat.{◌≤◌, ◌-◌}
 use mathlib.Core.Path.{◌≡◌}
 use mathlib.Core.Bool.{true}
-use lib.ListN.{length}
+use Rattle.std.specs.Slice.Iter.{chunk_by_rest}
 use Rattle.receiver.specs.Queue.{next_in}
-use Rattle.sound_cells.proofs.Ordered.{Passed}
+use Rattle.sound_cells.proofs.OrderCases.{Going}
 use Rattle.sound_cells.proofs.order.by_order.Given as goal
 
-abbrev pub invariant-loop-i : goal.invariant-loop-i
-invariant-loop-i l = (l.i ≤ length l.rows) × (l.fresh ≡ true → Passed l.rows (next_in l.channels) l.seen l.greatest l.i)
-
-abbrev pub decreases-loop-i : goal.decreases-loop-i
-decreases-loop-i l = length l.rows - l.i
+abbrev pub invariant-loop-message : goal.invariant-loop-message
+invariant-loop-message l =
+    l.fresh ≡ true → Going l.rows (next_in l.channels) l.seen l.greatest (chunk_by_rest l.message-iterator)

@@ -4,9 +4,9 @@ ghost use Rattle.cells.specs.Sound.{sound_cells};
 ghost use Rattle.rows.specs.Rows.{cells_in};
 ghost use Rattle.receiver.specs.Queue.{next_in};
 
-use super::super::super::super::{PAIRS, SMALL, SOME, by_pairs};
-use super::super::super::by_order;
-use super::{SMALL_ENTRIES, by_entries, by_lists};
+use super::{FEW_ENTRIES, by_entries, by_lists};
+use crate::order::by_order;
+use crate::{FEW, PAIRS, by_pairs};
 use receiver::Channel;
 use rows::Row;
 
@@ -18,19 +18,15 @@ fn by_size(rows: &[Row], channels: &[Channel]) -> bool
     if n <= PAIRS {
         return by_pairs(rows, channels);
     }
-    if n <= SMALL {
-        return by_lists::<SMALL_ENTRIES>(rows, channels);
+    if n <= FEW {
+        return by_lists::<FEW_ENTRIES>(rows, channels);
     }
-    // Two calls, with different numbers: LLVM inlines a function that is called once, and every call would then have its large lists on the
-    // stack.
-    if n <= SOME {
-        return by_entries(rows, channels, n);
-    }
-    by_entries(rows, channels, n.max(base::MAX_CELLS))
+    by_entries(rows, channels)
 }
 
 // Are the cells' records sound beside these channels' next order numbers? The order of the rows tells it soonest, then sorted entries of
 // them. For these the slices are made anew: LLVM then keeps no copy of them in memory on the common path.
+#[tactic(auto, using(crate::proofs::EntryCases::told))]
 pub fn sound_cells(rows: &[Row], channels: &[Channel]) -> bool
     ensures { result ≡ sound_cells (cells_in rows.now) (next_in channels.now) }
 {

@@ -1,50 +1,57 @@
 use mathlib.Core.Path.{◌∙◌}
 use native.Mathlib.Omega.{arith}
-use borrow.Author.Rules.{rules}
 use Rattle.recv_steps.proofs.Beginning.{few_rows, may_begin}
 use Rattle.recv_steps.proofs.ReceivingAccepted.{number-small, beyond-reach, ran_out, all-fit, store-left, is-accepted}
 use Rattle.recv_steps.proofs.steps.datagram.receive.receive_frames.Goals as goal
 
 pub begin-turn-requires : goal.begin-turn-requires
-begin-turn-requires c = few_rows _ _ _ _ c.requires
+begin-turn-requires c =
+    let n = c.requires in
+    few_rows _ _ _ _ n
 
 pub frames-requires : goal.frames-requires
 frames-requires c =
+    let n = c.requires in
     let begun = c.begin-turn.ensures in
-    may_begin _ _ _ _ c.requires c.nexts_of-nexts.ensures begun.turn begun.rows
+    may_begin _ _ _ _ n n.channels c.nexts_of-nexts.ensures begun.turn begun.rows
+
+pub returns-in-Ok : goal.returns-in-Ok
+returns-in-Ok c =
+    let n = c.requires in
+    let begun = c.begin-turn.ensures in
+    let left = c.refuse.ensures in
+    rw left.is (ran_out _ _ _ _ n c.nexts_of-nexts.ensures _ _ begun.turn begun.rows _ _ _ _
+    c.frames.ensures _ c.in-Ok.is c.if-framed.true (c.frames.auto.rows ∙ c.begin-turn.auto.rows) left.rows)
 
 pub returns-in-Err : goal.returns-in-Err
 returns-in-Err c =
-    let left = c.refuse.ensures in
-    rw left.is (beyond-reach _ _ _ _ c.requires c.nexts_of-nexts.ensures _ _ _ _ _ _ c.frames.ensures
+    let n = c.requires in
+    let left = c.refuse-in-Err.ensures in
+    rw left.is (beyond-reach _ _ _ _ n c.nexts_of-nexts.ensures _ _ _ _ _ _ c.frames.ensures
     c.in-Err.is (c.frames.auto.rows ∙ c.begin-turn.auto.rows) left.rows)
-
-pub returns-then-framed : goal.returns-then-framed
-returns-then-framed c =
-    let begun = c.begin-turn.ensures in
-    let left = c.refuse-then-framed.ensures in
-    rw left.is (ran_out _ _ _ _ c.requires c.nexts_of-nexts.ensures _ _ begun.turn begun.rows _ _ _ _
-    c.frames.ensures _ c.in-Ok.is c.if-framed.true (c.frames.auto.rows ∙ c.begin-turn.auto.rows) left.rows)
 
 pub settle-requires-clause-all_fit : goal.settle-requires-clause-all_fit
 settle-requires-clause-all_fit c =
+    let n = c.requires in
     let begun = c.begin-turn.ensures in
-    all-fit _ _ _ _ c.requires c.nexts_of-nexts.ensures _ _ begun.turn begun.rows _ _ _ _
-    c.frames.ensures _ c.in-Ok.is
+    all-fit _ _ _ _ n c.nexts_of-nexts.ensures _ _ begun.turn begun.rows _ _ _ _ c.frames.ensures _ c.in-Ok.is
 
 pub settle-requires-clause-rows_bound : goal.settle-requires-clause-rows_bound
 settle-requires-clause-rows_bound c =
-    omega (arith, few_rows _ _ _ _ c.requires, c.frames.auto.rows, c.begin-turn.auto.rows)
+    let n = c.requires in
+    omega (arith, few_rows _ _ _ _ n, c.frames.auto.rows, c.begin-turn.auto.rows)
 
 pub settle-requires-clause-cell_size_in_bounds : goal.settle-requires-clause-cell_size_in_bounds
 settle-requires-clause-cell_size_in_bounds c =
+    let n = c.requires in
     let begun = c.begin-turn.ensures in
-    store-left _ _ _ _ c.requires c.nexts_of-nexts.ensures _ _ begun.turn begun.rows _ _ _ _
+    store-left _ _ _ _ n c.nexts_of-nexts.ensures _ _ begun.turn begun.rows _ _ _ _
     c.frames.ensures _ c.in-Ok.is (c.frames.auto.rows ∙ c.begin-turn.auto.rows)
 
-pub returns-else-framed : goal.returns-else-framed
-returns-else-framed c =
+pub returns : goal.returns
+returns c =
+    let n = c.requires in
     let begun = c.begin-turn.ensures in
-    is-accepted _ _ _ _ c.requires c.nexts_of-nexts.ensures _ _ begun.turn begun.rows _ _ _ _
-    c.frames.ensures _ c.in-Ok.is (c.frames.auto.rows ∙ c.begin-turn.auto.rows) (number-small _ c.type_inv.datagram) (omega arith)
-    c.settle.ensures.rows c.settle.ensures.store c.le24_at-number.ensures c.settle-in-Ok.ensures c.if-framed.false
+    is-accepted _ _ _ _ n c.nexts_of-nexts.ensures _ _ begun.turn begun.rows _ _ _ _
+    c.frames.ensures _ c.in-Ok.is (c.frames.auto.rows ∙ c.begin-turn.auto.rows) (number-small _ c.type_inv.datagram) n.channels
+    (omega arith) c.settle.ensures.rows c.settle.ensures.store c.settle-2.ensures c.if-framed.false

@@ -1,25 +1,17 @@
-use mathlib.Core.Path.{◌≡◌}
-use lib.ListN.{get_or}
+use mathlib.Core.Path.{refl, ◌∙◌}
+use native.Mathlib.Omega.{arith}
+use lib.ListN.{length}
 use borrow.Author.Rules.{rules}
-use Rattle.rows.proofs.Rows.{row_here}
-use Rattle.sound_cells.proofs.Numbered.{all_none, all_pass, all-fail, all_end}
-use Rattle.sound_cells.proofs.EntryCases.{due-next}
+use borrow.Author.Tests.{tests}
+use Rattle.std.proofs.lemmas.Iterator.{YieldsList-from_range}
+use Rattle.std.proofs.lemmas.Iterator.Search.{all_from_yields_List}
+use Rattle.sound_cells.specs.Sorted.{is_due}
+use Rattle.sound_cells.proofs.Numbered.{all-below}
 use Rattle.sound_cells.proofs.order.entries.sorted.all_due.Goals as goal
 
-pub loop-i-init : goal.loop-i-init
-loop-i-init c = all_none _
-
-pub loop-i-preserved : goal.loop-i-preserved
-loop-i-preserved c =
-    let m : c.unwrap_or.result ≡ get_or c.args.counts.now c.place_at-lead.result.lead 0 = search rules in
-    let due = due-next _ _ _ _ (row_here _ _ _ c.loop-i-test.true) c.place_at-lead.ensures m c.is_due_row.ensures in
-    all_pass _ _ c.loop-i.invariant due c.if-not-is_due_row.false
-
-pub returns-then-not-is_due_row : goal.returns-then-not-is_due_row
-returns-then-not-is_due_row c =
-    let m : c.unwrap_or.result ≡ get_or c.args.counts.now c.place_at-lead.result.lead 0 = search rules in
-    let due = due-next _ _ _ _ (row_here _ _ _ c.loop-i-test.true) c.place_at-lead.ensures m c.is_due_row.ensures in
-    all-fail _ _ _ c.loop-i-test.true due c.if-not-is_due_row.true
-
 pub returns : goal.returns
-returns c = all_end _ _ _ c.loop-i.auto.i-end c.loop-i-test.false c.loop-i.invariant
+returns c =
+    let n = length c.args.rows.now in
+    let due = is_due c.args.rows.now c.args.places.now c.args.counts.now in
+    all_from_yields_List due _ _ _ c.all.ensures.ran (YieldsList-from_range 0 n n refl (omega arith)) (λ i t q k. search (rules, tests))
+    ∙ all-below due n

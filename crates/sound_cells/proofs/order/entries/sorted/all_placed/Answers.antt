@@ -1,29 +1,18 @@
+use mathlib.Core.Path.{refl, ◌∙◌}
 use native.Mathlib.Omega.{arith}
-use Rattle.rows.proofs.Rows.{row_here}
-use Rattle.sound_cells.proofs.Numbered.{all_none, all_pass, all-fail, all_end}
-use Rattle.sound_cells.proofs.EntryCases.{nothing-told, tally-starts, tally-low, tally-more, tally-ends}
+use lib.ListN.{length}
+use borrow.Author.Rules.{rules}
+use borrow.Author.Tests.{tests}
+use Rattle.std.proofs.lemmas.Iterator.{YieldsList-from_range}
+use Rattle.std.proofs.lemmas.Iterator.Search.{all_from_yields_List}
+use Rattle.receiver.specs.Queue.{next_in}
+use Rattle.sound_cells.specs.Sorted.{is_placed_entry}
+use Rattle.sound_cells.proofs.Numbered.{all-below}
 use Rattle.sound_cells.proofs.order.entries.sorted.all_placed.Goals as goal
 
-pub loop-i-init : goal.loop-i-init
-loop-i-init c = record { all = all_none _; led = tally-starts _ _ _ }
-
-pub count_row-requires : goal.count_row-requires
-count_row-requires c = tally-low _ _ _ _ c.loop-i.invariant.led _ c.requires.1 (omega (arith, c.requires.0))
-
-pub loop-i-preserved : goal.loop-i-preserved
-loop-i-preserved c = record {
-  all = all_pass _ _ c.loop-i.invariant.all c.is_placed.ensures c.if-not-is_placed.false;
-  led = tally-more _ _ _ _ c.loop-i.invariant.led (row_here _ _ _ c.loop-i-test.true) c.place_at.ensures c.count_row.ensures;
-}
-
-pub returns-then-not-is_placed : goal.returns-then-not-is_placed
-returns-then-not-is_placed c = record {
-  is = all-fail _ _ _ c.loop-i-test.true c.is_placed.ensures c.if-not-is_placed.true;
-  led = λ e. nothing-told e;
-}
-
 pub returns : goal.returns
-returns c = record {
-  is = all_end _ _ _ c.loop-i.auto.i-end c.loop-i-test.false c.loop-i.invariant.all;
-  led = λ e. tally-ends _ _ _ _ c.loop-i.invariant.led _ c.loop-i.auto.i-end c.loop-i-test.false;
-}
+returns c =
+    let n = length c.args.rows.now in
+    let placed = is_placed_entry c.args.rows.now (next_in c.args.channels.now) c.args.entries.now c.args.places.now in
+    all_from_yields_List placed _ _ _ c.all.ensures.ran (YieldsList-from_range 0 n n refl (omega arith)) (λ i t q k. search (rules, tests))
+    ∙ all-below placed n
