@@ -29,6 +29,7 @@ pub enum Refusal {
 impl From<Refusal> for u32 {
     ghost from_gives = { λ r n. n ≡ number_of r };
 
+    // (`as`: an enum's own number.)
     fn from(r: Refusal) -> u32 {
         r as u32
     }

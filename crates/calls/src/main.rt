@@ -145,7 +145,7 @@ fn replay<R: Read>(
         replay::refused(rt, b"-", refusal);
         return Ok(());
     }
-    // Far more turns than any input has: a call takes three bytes or more.
+    // (`for`: what is read has no measure by which the turns end. These are far more than any input has: a call takes three bytes or more.)
     for _ in 0..u64::MAX {
         let Some((call, n)) = read_call(stdin, buffer)? else {
             return Ok(());

@@ -21,7 +21,8 @@ use base::Refusal;
 use frame::{Frame, FramesRead, Placed};
 use reliability::Profile;
 
-// The frame and where its body stands, and the place after it. As in `exports`, C lays out a number beside the values, and no `Result`.
+// The frame and where its body stands, and the place after it. As in `exports`, C lays out a number beside the values, here and in
+// the structs below, and no `Result`.
 #[repr(C)]
 #[derive(Clone, Copy, Debug, Default, PartialEq, Eq)]
 pub struct FrameFound {

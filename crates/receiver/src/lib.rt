@@ -19,6 +19,7 @@ pub struct Channel {
 // none. profile: 0 console, 1 C++; no other number is sound.
 // Numbers stand in place of an enum and an `Option`, and an array beside how much of it is filled: other languages lay it out in memory and
 // may lend any numbers, of which those that are not sound are refused (`NotSound`); and it lives in fixed memory, without a heap.
+// (`as usize`, here and below: a const can call no From.)
 #[repr(C)]
 #[derive(Clone, Copy, Debug, PartialEq, Eq)]
 pub struct RecvQueue {

@@ -39,7 +39,7 @@ fn advanced(mut channel: Channel, next: u32, newest: u32) -> Channel
 }
 
 // Every record is moved to the numbers of the one at its place: each where it stands, as document 01 asks, so the array is not copied. (The
-// numbers are read by their place: of `iter_mut().zip(..)` a proof learns nothing of the records.)
+// numbers are read by their place: of `iter_mut().zip(..)` a proof learns nothing of the records. `as usize`: a const can call no From.)
 #[tactic(auto, using(crate::proofs::Laws::one_more))]
 fn advance_each(
     channels: &mut [Channel; base::MAX_ORD_CHANS as usize],

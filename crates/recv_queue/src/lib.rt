@@ -1,7 +1,8 @@
 // "One record stands beside each cell, in a lent slice of structs": receive and take over such a slice, and the few functions that touch
 // it; the other calls are offered here too. The cores of receive and take work on rows.
-// (The calls are functions and no methods: a must-fail edit costs a check of its crate, so each call has a crate of its own, and a method
-// stands in its struct's. The queue, the records and the store are lent one by one, as other languages hold them apart.)
+// (The calls are functions and no methods: a method stands in the crate of its struct, and a must-fail edit costs a check of its whole
+// crate, so the calls have crates of their own. The queue, the records and the store are lent one by one, as other languages hold them
+// apart.)
 
 #![tactic(auto)]
 
@@ -122,7 +123,7 @@ const BLANK: Row = Row {
 };
 
 // f on the first k of so many blank rows. (f is lent, here and below: of an `FnMut` or `FnOnce` by value, the proof of what it leaves of
-// the caller's slices did not close.)
+// the caller's slices did not close. That it may be called on k rows each of the three has to ask: no type of a closure says it.)
 fn on_blank_rows<const CELLS: usize, R, F: FnMut(&mut [Row]) -> R>(k: usize, f: &mut F) -> R
     requires size { CELLS ≤ max_cells }
     requires few { k ≤ CELLS }

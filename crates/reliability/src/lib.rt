@@ -149,7 +149,7 @@ pub fn has_reliable(k: u8) -> bool
     Reliability::try_from(k).is_ok_and(Reliability::has_reliable)
 }
 
-// A kind's number, as frames have it.
+// A kind's number, as frames have it. (`as`, here and below: an enum's own number.)
 impl From<Reliability> for u8 {
     ghost from_gives = { λ k n. n ≡ kind_number k };
 

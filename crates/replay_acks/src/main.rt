@@ -59,7 +59,8 @@ fn show_step(rt: &impl Print, step: Step) {
     }
 }
 
-// Every step until one gives no record; a 16-bit count allows no more than these.
+// Every step until one gives no record. (`for`: that each step leaves fewer only the definition of a step says, which a `while` would need
+// unfolded; a 16-bit count allows no more than these.)
 fn read_records(rt: &impl Print, s: &[u8], first: AckCursor) {
     let mut records = first;
     for _ in 0..=u16::MAX {
@@ -140,6 +141,7 @@ fn replay_item(rt: &impl Print, tag: u8, p: &[u8]) {
     }
 }
 
+// (Three programs have this `main`, each with its own items: what they share is `replay::replay`, and the buffer is the program's.)
 fn main(rt: HostRuntime) -> io::Result<()> {
     let mut input = [0u8; INPUT];
     replay::replay(

@@ -194,6 +194,7 @@ fn replay_item(rt: &impl Print, tag: u8, p: &[u8]) {
     }
 }
 
+// (Three programs have this `main`, each with its own items: what they share is `replay::replay`, and the buffer is the program's.)
 fn main(rt: HostRuntime) -> io::Result<()> {
     let mut input = [0u8; INPUT];
     replay::replay(

@@ -31,7 +31,8 @@ pub fn is_held(c: &CellRecord, channel: u32, order: u32) -> bool
     (c.used == cells::HELD) & ((c.channel == channel) & (c.order == order))
 }
 
-// A cell of the ready message of this turn.
+// A cell of the ready message of this turn. (As `is_open`, of another use and field: one function for both would be given the field, and
+// the definitions, which have a case for each, would have to be joined to it.)
 pub fn is_ready(c: &CellRecord, turn: u32) -> bool
     ensures { result ≡ bears (ready_as turn) c.now }
 {

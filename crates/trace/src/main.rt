@@ -79,7 +79,7 @@ fn main(rt: HostRuntime) -> io::Result<()> {
     let mut input = [0u8; INPUT];
     let mut stdin = rt.stdin();
     let (mut x, _) = Receiver::new(CELLS, &store, Profile::Console);
-    // Far more turns than any input has: a turn takes two bytes or more.
+    // (`for`: what is read has no measure by which the turns end. These are far more than any input has: a turn takes two bytes or more.)
     for _ in 0..u64::MAX {
         let Some(len) = read_datagram(&mut stdin, &mut input)? else {
             return Ok(());

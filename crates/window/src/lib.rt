@@ -18,7 +18,7 @@ pub use words::missing_in;
 
 mod words;
 
-// A bit for each place.
+// A bit for each place. (`as usize`: a const can call no From.)
 const BYTES: usize = base::WINDOW_PLACES as usize / 8;
 
 #[repr(C)]

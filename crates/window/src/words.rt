@@ -61,7 +61,7 @@ fn highest(low: u32, bits: &[u8]) -> u32
 }
 
 // The numbers from n on whose bits are 1, the lowest first: one turn for each of them.
-// `while` stays: std has no iterator over the bits that are 1, and to count them first costs a step and says no more.
+// (`while`: std has no iterator over the bits of a number that are 1, and which turn is the last the number itself says.)
 fn put_ones(list: &mut [u32], p: usize, n: u32, ones: u64) -> usize
     requires { n < numbers24 }
     ensures { Run p (ones_from n word_places ones) list.old result list.new }

@@ -23,7 +23,7 @@ use window::ReliableWindow;
 pub mod receive;
 
 // What the frames begin with: all bodies stand in the store, and the ready messages' turns are 0, 1, 2, .. The next turn. (`as u32`: there
-// are at most 4,096 rows.)
+// are at most 4,096 rows, which no type of a slice says.)
 #[tactic(auto, using(crate::proofs::Beginning::begins_rows, crate::proofs::Beginning::turn_few))]
 fn begin(rows: &mut [Row]) -> u32
     requires { length rows.old ≤ max_cells }
