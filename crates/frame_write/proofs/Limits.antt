@@ -1,17 +1,16 @@
 -- What it means that a frame is within its limits, field by field.
 -- Assumes nothing.
-use mathlib.Core.Path.{◌≡◌, ◌∙◌, sym, refl}
-use mathlib.Core.Bool.{Bool, true, false}
+use mathlib.Core.Path.{◌≡◌, sym}
+use mathlib.Core.Bool.{Bool, true, false, ◌&&◌}
 use Prim.Native.Nat.{ℕ, ◌<◌, ◌≤◌}
-use native.Mathlib.Decide.{ℕ_discrete, dec_lt}
 use native.Mathlib.Omega.{arith}
 use lib.Dec.{ltb, eqb}
-use borrow.Author.Tests.{ltb-true, eqb-true}
+use borrow.Author.Tests.{ltb-true, leb-true, eqb-true}
 use Rattle.std.specs.Prelude.{Option, Some, None}
 use Rattle.std.proofs.lemmas.Option.{none-some}
-use Rattle.base.specs.If.{if_true, if_lt, if_eq}
+use Rattle.base.specs.If.{if_true}
 use Rattle.base.specs.Limits.{numbers24, max_ord_chans, max_frags, max_body}
-use Rattle.base.proofs.Ifs.{true-yes, true-no, lt_yes, lt_no, eq_yes, eq_no}
+use Rattle.base.proofs.Choices.{and_left, and_right}
 use Rattle.reliability.specs.Kinds.{fields_of, on_place}
 use Rattle.reliability.specs.declared.Profile.{Profile}
 use Rattle.frame.specs.declared.FragmentMeta.{FragmentMeta}
@@ -19,25 +18,9 @@ use Rattle.frame.specs.declared.Frame.{Frame}
 use Rattle.frame.specs.Read.{max_kind}
 use Rattle.frame_write.specs.Valid.{number_ok, channel_ok, fields_ok, meta_ok, within_limits}
 
--- ---- a test that came out true
-true-both : (a b : Bool) → if_true a b false ≡ true → (a ≡ true) × (b ≡ true)
-unfolding if_true
-true-both true b e = (refl, e)
-true-both false b e = cc
-
-lt_both : (m n : ℕ) (b : Bool) → if_lt m n false b ≡ true → (n ≤ m) × (b ≡ true)
-lt_both m n b e = go (dec_lt m n)
-  where
-    go : Dec (m < n) → (n ≤ m) × (b ≡ true)
-    go (yes h) = let z : false ≡ true = lt_yes m n false false b h refl ∙ e in absurd cc
-    go (no h) = (omega arith, lt_no m n b false b (omega arith) refl ∙ e)
-
-eq-both : (m n : ℕ) (b : Bool) → if_eq m n b false ≡ true → (m ≡ n) × (b ≡ true)
-eq-both m n b e = go (ℕ_discrete m n)
-  where
-    go : Dec (m ≡ n) → (m ≡ n) × (b ≡ true)
-    go (yes h) = (h, eq_yes m n b b false h refl ∙ e)
-    go (no h) = let z : false ≡ true = eq_no m n false b false h refl ∙ e in absurd cc
+-- ---- two tests that came out true
+both : (a b : Bool) → (a && b) ≡ true → (a ≡ true) × (b ≡ true)
+both a b e = (and_left a b e, and_right a b e)
 
 -- ---- fields
 -- a field below its limit, and 0 where the kind lacks it
@@ -57,17 +40,18 @@ pub record MetaFits (piece : Bool) (m : FragmentMeta) : Type 0 where
   pub lacks : piece ≡ false → (m.count ≡ 0) × (m.id ≡ 0) × (m.index ≡ 0)
 
 meta-fits : (piece : Bool) (m : FragmentMeta) → meta_ok piece m ≡ true → MetaFits piece m
-unfolding meta_ok
+unfolding meta_ok if_true
 meta-fits true m e =
-    let a = lt_both _ _ _ (true-yes true _ _ _ refl refl ∙ e) in
-    let b = lt_both _ _ _ a.1 in
-    let c : m.index < m.count = ltb-true _ _ b.1 in
-    record { count = b.0; index = omega arith; below = λ _. c; lacks = λ z. absurd cc }
+    let a = both _ _ e in
+    let c : m.index < m.count = ltb-true _ _ a.1 in
+    let b : m.count ≤ max_frags = leb-true _ _ (both _ _ a.0).1 in
+    record { count = b; index = omega arith; below = λ _. c; lacks = λ z. absurd cc }
 meta-fits false m e =
-    let a = eq-both _ _ _ (true-no false _ _ _ refl refl ∙ e) in
-    let b = eq-both _ _ _ a.1 in
-    let c : m.index ≡ 0 = eqb-true _ _ b.1 in
-    record { count = omega arith; index = omega arith; below = λ z. absurd cc; lacks = λ _. (a.0, b.0, c) }
+    let a = both _ _ e in
+    let b = both _ _ a.1 in
+    let x : m.count ≡ 0 = eqb-true _ _ a.0 in
+    let y : m.index ≡ 0 = eqb-true _ _ b.1 in
+    record { count = omega arith; index = omega arith; below = λ z. absurd cc; lacks = λ _. (x, eqb-true _ _ b.0, y) }
 
 -- ---- the whole frame, with a body of n bytes
 pub record Within (p : Profile) (f : Frame) (n : ℕ) : Type 0 where
@@ -83,18 +67,18 @@ pub record Within (p : Profile) (f : Frame) (n : ℕ) : Type 0 where
 pub within : (p : Profile) (f : Frame) (n : ℕ) → within_limits p f n ≡ true → Within p f n
 unfolding within_limits fields_ok number_ok channel_ok
 within p f n e =
-    let a = lt_both _ _ _ e in
-    let b = lt_both _ _ _ a.1 in
-    let c = true-both _ _ b.1 in
-    let r = true-both _ _ c.0 in
-    let s = true-both _ _ r.1 in
-    let o = true-both _ _ s.1 in
+    let a = both _ _ e in
+    let b = both _ _ a.0 in
+    let c = both _ _ b.0 in
+    let o = both _ _ b.1 in
+    let s = both _ _ o.0 in
+    let r = both _ _ s.0 in
     record {
-      kind = a.0;
-      body = b.0;
+      kind = leb-true _ _ c.0;
+      body = leb-true _ _ c.1;
       reliable = carried _ _ _ (omega arith) r.0;
-      sequence = carried _ _ _ (omega arith) s.0;
-      order = carried _ _ _ (omega arith) o.0;
+      sequence = carried _ _ _ (omega arith) r.1;
+      order = carried _ _ _ (omega arith) s.1;
       channel = carried _ _ _ (omega arith) o.1;
-      meta = meta-fits _ _ c.1;
+      meta = meta-fits _ _ a.1;
     }

@@ -1,13 +1,12 @@
 -- The cases of the writers, each with the facts as the code finds them.
 -- Assumes nothing.
 use mathlib.Core.Path.{◌≡◌, ◌∙◌, sym, refl}
-use mathlib.Core.Bool.{Bool, true, false, ◌&&◌}
+use mathlib.Core.Bool.{Bool, true, false}
 use mathlib.Core.Logic.{inl, inr}
 use mathlib.Core.List.{List, [], ◌∷◌, ◌++◌}
 use Prim.Native.Nat.{ℕ, ◌+◌, ◌-◌, ◌*◌, ◌/◌, ◌%◌, ◌<◌, ◌≤◌}
 use native.Mathlib.Omega.{arith}
-use lib.Dec.{ltb, leb, eqb}
-use borrow.Author.Tests.{tests}
+use lib.Dec.{leb}
 use lib.ListN.{length, take, drop, length-drop}
 use lib.Seq.{take_all}
 use Rattle.std.specs.Prelude.{Option, Some, None, Result, Ok, Err}
@@ -15,8 +14,7 @@ use Rattle.std.specs.Result.{is_ok}
 use Rattle.std.proofs.lemmas.Bool.Decides.{leb_tells}
 use Rattle.base.specs.Answer.{refused, gives}
 use Rattle.base.specs.Bytes.{be16_bytes, le24_bytes}
-use Rattle.base.specs.If.{if_true, if_lt, if_eq}
-use Rattle.base.specs.Limits.{max_frags, max_body}
+use Rattle.base.specs.Limits.{max_body}
 use Rattle.base.specs.Put.{Run}
 use Rattle.base.specs.Refusals.{number_of, answer}
 use Rattle.base.specs.declared.refusal.Refusal.{Refusal}
@@ -27,11 +25,10 @@ use Rattle.reliability.specs.Kinds.{fields_of, on_place, kind_named}
 use Rattle.reliability.specs.declared.KindFields.{KindFields}
 use Rattle.reliability.specs.declared.Profile.{Profile}
 use Rattle.reliability.specs.declared.Reliability.{Reliability}
-use Rattle.frame.specs.declared.FragmentMeta.{FragmentMeta}
 use Rattle.frame.specs.declared.Frame.{Frame}
-use Rattle.frame.specs.Read.{header_size, max_kind, piece_in_limits}
+use Rattle.frame.specs.Read.{header_size, max_kind}
 use Rattle.frame_write.specs.Write.{flags_of, start_bytes, number_bytes, field_bytes, frame_bytes}
-use Rattle.frame_write.specs.Valid.{number_ok, channel_ok, fields_ok, meta_ok, within_limits, size_of, by_frame_case, write_frame_of}
+use Rattle.frame_write.specs.Valid.{within_limits, size_of, by_frame_case, write_frame_of}
 use Rattle.frame_write.specs.Valid.{frame_written_of}
 use Rattle.frame_write.proofs.Limits.{within}
 
@@ -65,84 +62,21 @@ pub number-run : (p : ℕ) (off : Option ℕ) (x : ℕ) (bs l : List ℕ) (q : �
 unfolding number_bytes
 number-run p off x bs l q m a e = rw (low-bytes x bs e) at a
 
--- ---- tests that are all asked, as the definitions choose by them
-if-both : (a b : Bool) → (a && b) ≡ if_true a b false
-unfolding if_true
-if-both true b = refl
-if-both false b = refl
-
-if-three : (a b c : Bool) → (a && (b && c)) ≡ if_true a (if_true b c false) false
-unfolding if_true
-if-three true b c = if-both b c
-if-three false b c = refl
-
-if-four : (a b c d : Bool) → (((a && b) && c) && d) ≡ if_true a (if_true b (if_true c d false) false) false
-unfolding if_true
-if-four true true c d = if-both c d
-if-four true false c d = refl
-if-four false b c d = refl
-
-le-else : (a m : ℕ) (x : Bool) → (leb a m && x) ≡ if_lt m a false x
-le-else a m x = elim (leb_tells a m) [
-  | inl h ↦ rw h.0 (lt_no m a x false x h.1 refl)
-  | inr h ↦ rw h.0 (lt_yes m a false false x h.1 refl)
-]
-
-and-three : (a b c : Bool) → ((a && b) && c) ≡ (a && (b && c))
-and-three true b c = refl
-and-three false b c = refl
-
--- ---- count, id and index
-module _ (piece : Bool) (m : FragmentMeta) where
-  pub meta-some : piece ≡ true → (r : Bool) → r ≡ piece_in_limits m → r ≡ meta_ok piece m
-  unfolding meta_ok
-  meta-some t r e =
-      let x : Bool = ltb m.index m.count in
-      let h = and-three (leb 1 m.count) (leb m.count max_frags) x in
-      true-yes _ _ _ _ t (e ∙ h ∙ rw (le-else m.count max_frags x) (le-else 1 m.count (if_lt max_frags m.count false x)))
-
-  pub meta-none : piece ≡ false → (d : FragmentMeta) → d.count ≡ 0 → d.id ≡ 0 → d.index ≡ 0
-      → (r : Bool) → r ≡ (eqb m.count d.count && (eqb m.id d.id && eqb m.index d.index)) → r ≡ meta_ok piece m
-  unfolding meta_ok if_eq if_true
-  meta-none t d c i x r e =
-      let h : r ≡ (eqb m.count 0 && (eqb m.id 0 && eqb m.index 0)) = rw (c, i, x) at e in
-      true-no _ _ _ _ t (h ∙ if-three (eqb m.count 0) (eqb m.id 0) (eqb m.index 0))
-
 -- ---- the limits
-pub fields_all : (k : KindFields) (f : Frame) (r s o c : Bool) → r ≡ number_ok k.reliable f.reliable → s ≡ number_ok k.sequence f.sequence
-    → o ≡ number_ok k.order f.order → c ≡ channel_ok k.channel f.channel → (((r && s) && o) && c) ≡ fields_ok k f
-unfolding fields_ok
-fields_all k f r s o c er es eo ec = rw (← er, ← es, ← eo, ← ec) (if-four r s o c)
-
-and-last : (a b c d : Bool) → (((a && b) && c) && d) ≡ (a && (b && (c && d)))
-and-last true true c d = refl
-and-last true false c d = refl
-and-last false b c d = refl
-
 -- a number is a kind's where it is below its limit
-is-kind : (n : ℕ) (r : Result Reliability Refusal) → answer r ≡ kind_named n → is_ok r ≡ leb n max_kind
-is-kind n (Ok k) e = elim (leb_tells n max_kind) [
+pub is_kind : (n : ℕ) (r : Result Reliability Refusal) → answer r ≡ kind_named n → is_ok r ≡ leb n max_kind
+is_kind n (Ok k) e = elim (leb_tells n max_kind) [
   | inl h ↦ sym h.0
   | inr h ↦
       let other : gives k ≡ refused 15 = e ∙ sym (named_none n (omega (arith, h.1))) in
       absurd cc
 ]
-is-kind n (Err m) e = elim (leb_tells n max_kind) [
+is_kind n (Err m) e = elim (leb_tells n max_kind) [
   | inl h ↦ absurd (omega (arith, h.1, none_told n (number_of m) e))
   | inr h ↦ sym h.0
 ]
 
 module _ (p : Profile) (f : Frame) (n : ℕ) where
-  pub limits_all : (r : Result Reliability Refusal) (k : KindFields) (t m : Bool) → answer r ≡ kind_named f.kind
-      → k ≡ fields_of p f.kind → t ≡ fields_ok k f → m ≡ meta_ok f.piece f.meta
-      → (((is_ok r && leb n max_body) && t) && m) ≡ within_limits p f n
-  unfolding within_limits
-  limits_all r k t m er e et em =
-      let x : Bool = if_true (fields_ok (fields_of p f.kind) f) (meta_ok f.piece f.meta) false in
-      let h : (t && m) ≡ x = if-both t m ∙ rw (et, em, e) in
-      and-last (is_ok r) (leb n max_body) t m
-      ∙ rw (is-kind f.kind r er, h, le-else n max_body x) (le-else f.kind max_kind (if_lt max_body n false x))
-
   -- what the limits say of kind and body
   pub limits-kind : (t : Bool) → t ≡ within_limits p f n → t ≡ true → f.kind ≤ max_kind
   limits-kind t e g = (within p f n (sym e ∙ g)).kind
@@ -209,8 +143,6 @@ module _ (p : Profile) (l : List ℕ) (at : ℕ) (f : Frame) (body : List ℕ) (
       rw (m.is, r) (put_back l at (frame_bytes p f body) g) ∙ has_room p (length l) at f (length body) _ _ _ (sym i ∙ e) (omega arith)
 
 -- ---- what the check goes by
-pub ruleset metas = (meta-some, tests)
-
 pub ruleset writes = (
   limits-kind,
   limits-body,

@@ -1,16 +1,16 @@
 -- Document 01's call "Write frame": "15 kind, number, channel, piece field or body over its limit (body 8,191), or an uncarried field not
 -- 0; 12." Which fields a kind carries goes by the profile (document 02, request 2).
-use Rattle.std.specs.Prelude.{ℕ, ◌+◌, Bool, false, List, length, ltb, eqb, Option}
+use Rattle.std.specs.Prelude.{ℕ, ◌+◌, Bool, ◌&&◌, List, length, leb, ltb, eqb, Option}
 use Rattle.base.specs.Answer.{Answer, refused, gives}
-use Rattle.base.specs.If.{if_true, if_lt, if_eq}
-use Rattle.base.specs.Limits.{numbers24, max_ord_chans, max_frags, max_body}
+use Rattle.base.specs.If.{if_true, if_lt}
+use Rattle.base.specs.Limits.{numbers24, max_ord_chans, max_body}
 use Rattle.base.specs.Put.{put}
 use Rattle.reliability.specs.Kinds.{fields_of, on_place}
 use Rattle.reliability.specs.declared.KindFields.{KindFields}
 use Rattle.reliability.specs.declared.Profile.{Profile}
 use Rattle.frame.specs.declared.FragmentMeta.{FragmentMeta}
 use Rattle.frame.specs.declared.Frame.{Frame}
-use Rattle.frame.specs.Read.{max_kind, header_size}
+use Rattle.frame.specs.Read.{max_kind, header_size, piece_in_limits}
 use Rattle.frame_write.specs.Write.{frame_bytes}
 
 -- a number below 2^24; one that the kind lacks is 0
@@ -23,25 +23,15 @@ channel_ok off x = on_place off (eqb x 0) (λ _. ltb x max_ord_chans)
 
 unfoldable pub fields_ok : KindFields → Frame → Bool
 fields_ok k f =
-    if_true (number_ok k.reliable f.reliable)
-    (if_true (number_ok k.sequence f.sequence)
-    (if_true (number_ok k.order f.order) (channel_ok k.channel f.channel) false)
-    false)
-    false
+    number_ok k.reliable f.reliable && number_ok k.sequence f.sequence && number_ok k.order f.order && channel_ok k.channel f.channel
 
--- "piece count 1 to 1,024, index below it"; all three are 0 where the frame is no piece
+-- a piece's count and index are within their limits; all three are 0 where the frame is no piece
 unfoldable pub meta_ok : Bool → FragmentMeta → Bool
-meta_ok piece m =
-    if_true piece
-    (if_lt m.count 1 false (if_lt max_frags m.count false (ltb m.index m.count)))
-    (if_eq m.count 0 (if_eq m.id 0 (eqb m.index 0) false) false)
+meta_ok piece m = if_true piece (piece_in_limits m) (eqb m.count 0 && (eqb m.id 0 && eqb m.index 0))
 
 -- a frame with a body of n bytes is one that may be written: 15 is due where this is false
 unfoldable pub within_limits : Profile → Frame → ℕ → Bool
-within_limits p f n =
-    if_lt max_kind f.kind false
-    (if_lt max_body n false
-    (if_true (fields_ok (fields_of p f.kind) f) (meta_ok f.piece f.meta) false))
+within_limits p f n = leb f.kind max_kind && leb n max_body && fields_ok (fields_of p f.kind) f && meta_ok f.piece f.meta
 
 -- how many bytes a frame with a body of n bytes takes
 unfoldable pub size_of : Profile → Frame → ℕ → ℕ

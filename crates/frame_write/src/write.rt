@@ -43,7 +43,7 @@ fn field_ok(place: Option<usize>, x: u32, limit: u32) -> bool
     if place.is_some() { x < limit } else { x == 0 }
 }
 
-#[tactic(auto, using(crate::proofs::WriteCases::fields_all), unfolding(crate::specs::Valid::number_ok, crate::specs::Valid::channel_ok))]
+#[tactic(auto, unfolding(crate::specs::Valid::fields_ok, crate::specs::Valid::number_ok, crate::specs::Valid::channel_ok))]
 fn fields_ok(k: KindFields, frame: Frame) -> bool
     ensures { result ≡ fields_ok k frame }
 {
@@ -59,7 +59,7 @@ fn fields_ok(k: KindFields, frame: Frame) -> bool
 
 // A piece's count and index are within their limits; a frame that is no piece has none of the three. (Flag and value, and no
 // `Option`: of such a frame the value is tested too.)
-#[tactic(auto, using(crate::proofs::WriteCases::metas))]
+#[tactic(auto, unfolding(crate::specs::Valid::meta_ok, base::specs::If::if_true))]
 fn meta_ok(piece: bool, meta: FragmentMeta) -> bool
     ensures { result ≡ meta_ok piece meta }
 {
@@ -69,7 +69,7 @@ fn meta_ok(piece: bool, meta: FragmentMeta) -> bool
     meta == FragmentMeta::default()
 }
 
-#[tactic(auto, using(crate::proofs::WriteCases::limits_all))]
+#[tactic(auto, using(crate::proofs::WriteCases::is_kind), unfolding(crate::specs::Valid::within_limits))]
 fn within_limits(p: Profile, frame: Frame, n: usize) -> bool
     ensures { result ≡ within_limits p frame n }
 {
