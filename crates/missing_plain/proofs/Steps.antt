@@ -3,9 +3,10 @@
 use mathlib.Core.Path.{◌≡◌, ◌∙◌, sym, refl}
 use mathlib.Core.Bool.{Bool, true, false}
 use mathlib.Core.List.{List, [], ◌∷◌}
-use Prim.Native.Nat.{ℕ, zero, suc, ◌+◌, ◌-◌, ◌<◌}
+use Prim.Native.Nat.{ℕ, zero, suc, ◌+◌, ◌-◌, ◌<◌, ◌≤◌}
 use native.Mathlib.Nat.{not-suc-le-zero}
 use native.Mathlib.Numerals.{add-one, sub-one}
+use native.Mathlib.Omega.{arith}
 use Rattle.base.specs.If.{if_true}
 use Rattle.base.specs.Put.{Run}
 use Rattle.base.proofs.Ifs.{by-yes, by-no}
@@ -16,7 +17,7 @@ use Rattle.window.specs.Window.{window_of, accepted}
 use Rattle.window.specs.Missing.{highest, unless_accepted, missing_of, searched, missing}
 use Rattle.window.specs.declared.ReliableWindow.{ReliableWindow}
 
--- ---- the highest accepted number: the scan ends at a set place
+-- ---- the highest accepted number: the scan ends at a set place, or with no place left
 pub scan-set : (k low : ℕ) (bits : List ℕ) (t : ℕ) (b : Bool) → 0 < k → b ≡ place_set bits (low + k) → b ≡ true
     → highest (window_of low bits) k ≡ t → k ≡ t
 unfolding highest if_true
@@ -28,6 +29,10 @@ pub scan-clear : (k low : ℕ) (bits : List ℕ) (t : ℕ) (b : Bool) → 0 < k 
 unfolding highest if_true
 scan-clear zero low bits t b z p q e = absurd (not-suc-le-zero z)
 scan-clear (suc k) low bits t b z p q e = rw sub-one (rw (sym p ∙ q) at e)
+
+pub scan-done : (k : ℕ) (w : ReliableWindow) (t : ℕ) → k ≤ 0 → highest w k ≡ t → 0 ≡ t
+unfolding highest
+scan-done k w t h e = let z : k ≡ 0 = omega arith in (rw z at e)
 
 -- ---- the missing numbers, one after another, up to the highest and below the limit
 module _ (w : ReliableWindow) (k : ℕ) (b : Bool) (e : b ≡ accepted w (ahead w.low k)) (l : List ℕ) (q : ℕ) (L : List ℕ)

@@ -13,7 +13,7 @@ use Rattle.base.proofs.Puts.{run_none}
 use Rattle.base.specs.Numbers.{following}
 use Rattle.window.specs.Places.{place_set, set_place, clear_place}
 use Rattle.window.specs.Window.{window_of, advance, accept}
-use Rattle.window.specs.Missing.{highest, missing_of, searched, missing}
+use Rattle.window.specs.Missing.{missing_of, searched, missing}
 use Rattle.window.specs.declared.ReliableWindow.{ReliableWindow}
 
 -- ---- low moves past accepted numbers: the loop ends with no turn left, or at a clear place; a set place is passed
@@ -46,11 +46,6 @@ accept_low w v n a h e f = eq_yes _ _ _ _ _ h (rw e at f)
 pub accept_above : (low n : ℕ) (bits m : List ℕ) → (n ≡ low → ⊥) → m ≡ set_place bits n → window_of low m ≡ accept (window_of low bits) n
 unfolding accept
 accept_above low n bits m h e = eq_no _ _ _ _ _ h (ap (window_of low) e)
-
--- ---- the highest accepted number: the scan ends at a set place, or with no place left
-pub scan-done : (k : ℕ) (w : ReliableWindow) (t : ℕ) → k ≤ 0 → highest w k ≡ t → 0 ≡ t
-unfolding highest
-scan-done k w t h e = let z : k ≡ 0 = omega arith in (rw z at e)
 
 -- ---- nothing is missing where low is past the limit
 pub run-past-limit : (w : ReliableWindow) (l : List ℕ) → numbers24 ≤ w.low → Run 0 (missing w) l 0 l

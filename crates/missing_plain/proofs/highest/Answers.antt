@@ -1,6 +1,5 @@
 use borrow.Author.Rules.{rules}
-use Rattle.window.proofs.Steps.{scan-done}
-use Rattle.missing_plain.proofs.Steps.{scan-set, scan-clear}
+use Rattle.missing_plain.proofs.Steps.{scan-set, scan-clear, scan-done}
 use Rattle.missing_plain.proofs.highest.Goals as goal
 
 pub returns-then-place_set : goal.returns-then-place_set
