@@ -1,4 +1,5 @@
 /* Makes every call of include/poghduka.h and prints every field of every answer: what fields.rs prints, and what fields.txt has. */
+#include <inttypes.h>
 #include <stdio.h>
 #include <string.h>
 
@@ -205,6 +206,12 @@ static void taken(size_t room) {
     show_bytes(t.joined ? joined : store + t.start, t.len);
 }
 
+static void dropped(size_t store_len, uint32_t n) {
+    PoghdukaQueueDropped d = poghduka_drop_unfinished(&lent.queue, lent.records, CELLS, store, store_len, n);
+    if (done("drop", d.number))
+        printf("freed %u\n", d.freed);
+}
+
 static void unsent(size_t room) {
     PoghdukaAckWritten w = poghduka_write_unsent(&lent.queue, out, room);
     if (done("unsent", w.number))
@@ -234,7 +241,8 @@ static void state(void) {
         if (r->used == 0)
             continue;
         printf("cell used %u kind %u channel %u id %u index %u ", r->used, r->kind, r->channel, r->id, r->index);
-        printf("count %u length %u sequence %u order %u turn %u\n", r->count, r->length, r->sequence, r->order, r->turn);
+        printf("count %u length %u sequence %u order %u ", r->count, r->length, r->sequence, r->order);
+        printf("turn %u age %" PRIu64 "\n", r->turn, r->age);
     }
     if (memcmp(lent.after, "\xff\xff\xff\xff", 4) != 0)
         printf("written beyond the records\n");
@@ -337,6 +345,39 @@ static void cpp_receiving(void) {
     unsent(sizeof out);
 }
 
+/* Two pieces of a message without reliable numbers and one of a message with one: the two go where more than n datagrams were accepted
+ * after the second. The age of a free cell is not looked at; that of an unfinished message is at most 2^32. */
+static void unfinished(uint32_t profile) {
+    PoghdukaFrame preview = {.kind = 0, .piece = true, .meta = {3, 0x0a0b, 0}}, sure = {.kind = 2, .piece = true, .meta = {2, 0x0c0d, 0}};
+    made(STORE, profile);
+    poghduka_write_head(out, sizeof out, 0);
+    received(out, add(add(4, preview, "one"), sure, "sure"));
+    poghduka_write_head(out, sizeof out, 1);
+    preview.meta.index = 2;
+    received(out, add(4, preview, "three"));
+    for (uint32_t i = 2; i < 5; i++) {
+        poghduka_write_head(out, sizeof out, i);
+        received(out, 4);
+    }
+    state();
+    dropped(STORE - 1, 2);
+    dropped(STORE, UINT32_MAX);
+    dropped(STORE, 3);
+    dropped(STORE, 2);
+    state();
+    dropped(STORE, 0);
+    lent.records[0].age = 5;
+    dropped(STORE, 0);
+    for (int i = 0; i < CELLS; i++)
+        if (lent.records[i].used != 0)
+            lent.records[i].age = (uint64_t)1 << 32;
+    dropped(STORE, 0);
+    for (int i = 0; i < CELLS; i++)
+        if (lent.records[i].used != 0)
+            lent.records[i].age++;
+    dropped(STORE, 0);
+}
+
 /* A number that is no profile's is refused by 9, with 0 beside it and nothing written; a line is printed only where it is not. (In Rust no
  * call takes such a number.) */
 static void no_profile(uint32_t profile) {
@@ -365,6 +406,8 @@ int main(void) {
     all_pieces();
     all_receiving();
     cpp_receiving();
+    unfinished(POGHDUKA_CONSOLE);
+    unfinished(POGHDUKA_CPP);
     no_profile(2);
     no_profile(256);
     no_profile(UINT32_MAX);

@@ -177,6 +177,11 @@ impl Receiver {
         });
     }
 
+    fn dropped(&mut self, store_len: usize, n: u32) {
+        let answer = drop_unfinished(&self.queue, &mut self.records, &self.store[..store_len], n);
+        line("drop", answer, |freed| format!("freed {freed}"));
+    }
+
     fn unsent(&mut self, out: &mut [u8]) {
         line("unsent", write_unsent(&mut self.queue, out), |s| format!("{}\nof {}", hex(&s[..s.len().min(64)]), s.len()));
     }
@@ -194,7 +199,8 @@ impl Receiver {
         println!("newest{newest} {} unsent{unsent}", q.newest);
         for r in self.records.iter().filter(|r| r.used != 0) {
             print!("cell used {} kind {} channel {} id {} index {} ", r.used, r.kind, r.channel, r.id, r.index);
-            println!("count {} length {} sequence {} order {} turn {}", r.count, r.length, r.sequence, r.order, r.turn);
+            print!("count {} length {} sequence {} order {} ", r.count, r.length, r.sequence, r.order);
+            println!("turn {} age {}", r.turn, r.age);
         }
     }
 
@@ -305,6 +311,39 @@ fn cpp_receiving(receiver: &mut Receiver, out: &mut [u8]) {
     receiver.unsent(out);
 }
 
+/// Two pieces of a message without reliable numbers and one of a message with one: the two go where more than n datagrams were accepted
+/// after the second. The age of a free cell is not looked at; that of an unfinished message is at most 2^32.
+fn unfinished(receiver: &mut Receiver, profile: Profile, out: &mut [u8]) {
+    let meta = FragmentMeta { count: 3, id: 0x0a0b, index: 0 };
+    let preview = Frame { kind: 0, piece: true, meta, ..Frame::default() };
+    let sure = Frame { kind: 2, piece: true, meta: FragmentMeta { count: 2, id: 0x0c0d, index: 0 }, ..Frame::default() };
+    receiver.made(STORE, profile);
+    write_head(out, 0).expect("a head is written");
+    let at = add(profile, out, 4, preview, b"one");
+    let end = add(profile, out, at, sure, b"sure");
+    receiver.received(&out[..end]);
+    write_head(out, 1).expect("a head is written");
+    let end = add(profile, out, 4, Frame { meta: FragmentMeta { index: 2, ..meta }, ..preview }, b"three");
+    receiver.received(&out[..end]);
+    for i in 2..5 {
+        write_head(out, i).expect("a head is written");
+        receiver.received(&out[..4]);
+    }
+    receiver.state();
+    receiver.dropped(STORE - 1, 2);
+    receiver.dropped(STORE, u32::MAX);
+    receiver.dropped(STORE, 3);
+    receiver.dropped(STORE, 2);
+    receiver.state();
+    receiver.dropped(STORE, 0);
+    receiver.records[0].age = 5;
+    receiver.dropped(STORE, 0);
+    receiver.records.iter_mut().filter(|r| r.used != 0).for_each(|r| r.age = 1 << 32);
+    receiver.dropped(STORE, 0);
+    receiver.records.iter_mut().filter(|r| r.used != 0).for_each(|r| r.age += 1);
+    receiver.dropped(STORE, 0);
+}
+
 fn main() {
     let mut out = [0xee; LIST_BYTES];
     let mut receiver = Receiver { queue: RecvQueue::BLANK, records: [CellRecord::UNUSED; CELLS], store: [0; STORE], joined: [0; STORE] };
@@ -315,4 +354,6 @@ fn main() {
     all_pieces();
     all_receiving(&mut receiver, &mut out);
     cpp_receiving(&mut receiver, &mut out);
+    unfinished(&mut receiver, Console, &mut out);
+    unfinished(&mut receiver, Cpp, &mut out);
 }

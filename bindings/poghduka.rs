@@ -80,9 +80,6 @@ pub struct RecvQueue {
     pub profile: u32,
 }
 
-// The libraries lay them out so.
-const _: () = assert!(core::mem::size_of::<Channel>() == 8 && core::mem::size_of::<RecvQueue>() == 4884);
-
 /// One record stands beside each cell; `used` is 0 where the cell is free.
 #[repr(C)]
 #[derive(Clone, Copy)]
@@ -97,7 +94,13 @@ pub struct CellRecord {
     pub sequence: u32,
     pub order: u32,
     pub turn: u32,
+    /// Of an unfinished message: datagrams accepted since the last that a piece of it was kept from; at most 2^32.
+    pub age: u64,
 }
+
+// The libraries lay them out so.
+const _: () = assert!(core::mem::size_of::<Channel>() == 8 && core::mem::size_of::<RecvQueue>() == 4884);
+const _: () = assert!(core::mem::size_of::<CellRecord>() == 48);
 
 impl ReliableWindow {
     /// A window that has accepted nothing.
@@ -119,7 +122,7 @@ impl RecvQueue {
 
 impl CellRecord {
     pub const UNUSED: CellRecord =
-        CellRecord { used: 0, kind: 0, channel: 0, id: 0, index: 0, count: 0, length: 0, sequence: 0, order: 0, turn: 0 };
+        CellRecord { used: 0, kind: 0, channel: 0, id: 0, index: 0, count: 0, length: 0, sequence: 0, order: 0, turn: 0, age: 0 };
 }
 
 /// Messages made ready, frames dropped, and bytes after the last frame that fits.
@@ -163,6 +166,14 @@ pub fn take<'a>(queue: &RecvQueue, records: &mut [CellRecord], store: &'a [u8], 
     let t = unsafe { linked::poghduka_take(queue, records.as_mut_ptr(), cells, store.as_ptr(), bytes, joined.as_mut_ptr(), room) };
     let from = if t.joined { &*joined } else { store };
     refused(t.number, Message { kind: t.kind, channel: t.channel, order: t.order, body: &from[t.start..t.start + t.len] })
+}
+
+/// Drops every unfinished message whose kind carries no reliable number, and since whose last kept piece more than n further datagrams were
+/// accepted; how many cells it freed. Refusals: 9.
+pub fn drop_unfinished(queue: &RecvQueue, records: &mut [CellRecord], store: &[u8], n: u32) -> Result<u32, Refused> {
+    let (cells, bytes) = (records.len(), store.len());
+    let d = unsafe { linked::poghduka_drop_unfinished(queue, records.as_mut_ptr(), cells, store.as_ptr(), bytes, n) };
+    refused(d.number, d.freed)
 }
 
 /// The unsent acknowledgements as an ACK; none is unsent afterwards. Refusals: 9, 12.
@@ -335,6 +346,12 @@ mod linked {
     }
 
     #[repr(C)]
+    pub struct QueueDropped {
+        pub number: u32,
+        pub freed: u32,
+    }
+
+    #[repr(C)]
     pub struct AckWritten {
         pub number: u32,
         pub len: usize,
@@ -427,6 +444,14 @@ mod linked {
             joined: *mut u8,
             joined_len: usize,
         ) -> QueueTaken;
+        pub fn poghduka_drop_unfinished(
+            queue: *const RecvQueue,
+            records: *mut CellRecord,
+            cells: usize,
+            store: *const u8,
+            store_len: usize,
+            n: u32,
+        ) -> QueueDropped;
         pub fn poghduka_write_unsent(queue: *mut RecvQueue, out: *mut u8, out_len: usize) -> AckWritten;
         pub fn poghduka_write_missing(queue: *const RecvQueue, out: *mut u8, out_len: usize) -> AckWritten;
 

@@ -2,7 +2,7 @@
  *
  * Three static libraries have them. Each stands alone, and needs memcpy and memset:
  *
- *     exports_queue     the receiver: make_new, receive, take, write_unsent, write_missing
+ *     exports_queue     the receiver: make_new, receive, take, drop_unfinished, write_unsent, write_missing
  *     exports_frames    frames and a datagram's head: read_frames, read_frame, write_frame, write_head
  *     exports           windows, ACKs and splits: window_*, write_list, read_ack_*, split_piece
  *
@@ -112,7 +112,7 @@ typedef struct {
     uint32_t profile; /* POGHDUKA_CONSOLE or POGHDUKA_CPP; any other number is unsound */
 } PoghdukaRecvQueue;
 
-/* One record stands beside each cell, 40 bytes. poghduka_make_new fills them in, the calls change them, and nobody else writes them. */
+/* One record stands beside each cell, 48 bytes. poghduka_make_new fills them in, the calls change them, and nobody else writes them. */
 typedef struct {
     uint32_t used; /* 0: the cell is free */
     uint32_t kind;
@@ -124,6 +124,7 @@ typedef struct {
     uint32_t sequence;
     uint32_t order;
     uint32_t turn;
+    uint64_t age; /* of an unfinished message: datagrams accepted since the last that a piece of it was kept from; at most 2^32 */
 } PoghdukaCellRecord;
 
 typedef struct {
@@ -143,6 +144,11 @@ typedef struct {
     size_t start;
     size_t len;
 } PoghdukaQueueTaken;
+
+typedef struct {
+    uint32_t number;
+    uint32_t freed; /* cells */
+} PoghdukaQueueDropped;
 
 /* `len` bytes were written, from the output's start on. */
 typedef struct {
@@ -164,6 +170,11 @@ PoghdukaQueueReceived poghduka_receive(PoghdukaRecvQueue *queue, PoghdukaCellRec
  * Refusals: 9, 20, 12. */
 PoghdukaQueueTaken poghduka_take(const PoghdukaRecvQueue *queue, PoghdukaCellRecord *records, size_t cells, const uint8_t *store,
                                  size_t store_len, uint8_t *joined, size_t joined_len);
+
+/* Drops every unfinished message whose kind carries no reliable number, and since whose last kept piece more than n further datagrams were
+ * accepted. Its cells are free then, and `freed` says how many they are. n is any number. Refusals: 9. */
+PoghdukaQueueDropped poghduka_drop_unfinished(const PoghdukaRecvQueue *queue, PoghdukaCellRecord *records, size_t cells,
+                                              const uint8_t *store, size_t store_len, uint32_t n);
 
 /* The unsent acknowledgements as an ACK; none is unsent afterwards. Refusals: 9, 12. */
 PoghdukaAckWritten poghduka_write_unsent(PoghdukaRecvQueue *queue, uint8_t *out, size_t out_len);
@@ -310,7 +321,7 @@ POGHDUKA_FIELD(PoghdukaRecvQueue, pending, 4872);
 POGHDUKA_FIELD(PoghdukaRecvQueue, newest, 4876);
 POGHDUKA_FIELD(PoghdukaRecvQueue, profile, 4880);
 
-POGHDUKA_SIZE(PoghdukaCellRecord, 40);
+POGHDUKA_SIZE(PoghdukaCellRecord, 48);
 POGHDUKA_FIELD(PoghdukaCellRecord, kind, 4);
 POGHDUKA_FIELD(PoghdukaCellRecord, channel, 8);
 POGHDUKA_FIELD(PoghdukaCellRecord, id, 12);
@@ -320,6 +331,7 @@ POGHDUKA_FIELD(PoghdukaCellRecord, length, 24);
 POGHDUKA_FIELD(PoghdukaCellRecord, sequence, 28);
 POGHDUKA_FIELD(PoghdukaCellRecord, order, 32);
 POGHDUKA_FIELD(PoghdukaCellRecord, turn, 36);
+POGHDUKA_FIELD(PoghdukaCellRecord, age, 40);
 
 POGHDUKA_SIZE(PoghdukaQueueReceived, 24);
 POGHDUKA_FIELD(PoghdukaQueueReceived, ready, 4);
@@ -333,6 +345,9 @@ POGHDUKA_FIELD(PoghdukaQueueTaken, order, 8);
 POGHDUKA_FIELD(PoghdukaQueueTaken, joined, 12);
 POGHDUKA_FIELD(PoghdukaQueueTaken, start, 16);
 POGHDUKA_FIELD(PoghdukaQueueTaken, len, 24);
+
+POGHDUKA_SIZE(PoghdukaQueueDropped, 8);
+POGHDUKA_FIELD(PoghdukaQueueDropped, freed, 4);
 
 POGHDUKA_SIZE(PoghdukaAckWritten, 16);
 POGHDUKA_FIELD(PoghdukaAckWritten, len, 8);

@@ -1,7 +1,7 @@
 #!/usr/bin/env bash
 # examples.sh SEED N: checks N random examples of each kind against the definitions, by computation, in a copy of the repository in a folder
-# of its own, which goes at the end; crates that are proved already are not proved again. The few that crates/examples keeps were made with
-# seed 14.
+# of its own, which goes at the end; crates that are proved already are not proved again. The few that crates/examples keeps say in their
+# heads which seed made them.
 set -eu
 cd "$(dirname "$0")/.."
 copy=$(mktemp -d)

@@ -1,10 +1,11 @@
 #!/usr/bin/env python3
-"""A receiver of its own, written from the sentences of document 01 and of document 02's requests 1 and 2, and not from the crates: it makes
-the stored input and the expected output of the programs trace and calls.
+"""A receiver of its own, written from the sentences of document 01 and of document 02's requests 1, 2 and 4, and not from the crates: it
+makes the stored input and the expected output of the programs trace and calls.
 
   receiver.py recording FILE      a recording for trace (datagrams, each after a 16-bit big-endian length)
   receiver.py list FILE SEED N    a list for calls: N random ones to a console receiver, half as many to a C++ one, among both levers that
-                                  come late; then new receivers in mid list (stored: seed 26, 700 calls)
+                                  come late; then new receivers in mid list; then previews that lack pieces, and drops of them (stored:
+                                  seed 26, 700 calls)
   receiver.py trace FILE          what trace prints for the recording
   receiver.py calls FILE          what calls prints for the list
 """
@@ -83,6 +84,7 @@ class State:
         # the highest sequence number made ready: of kind 1 by channel; of kind 4 under None, in C++ by channel too ("its channel's memory")
         self.newest = {}
         self.line = []  # ready and not yet taken: kind, channel, order number, bodies
+        self.history = []  # of each accepted datagram, the ids that a piece was kept for
 
     def used(self):
         pieces = sum(len(m["pieces"]) for m in self.open.values())
@@ -160,6 +162,7 @@ def receive(s, d):
     if s.used() + sum(x[2] for x in done) > s.cells:
         raise Refused(8)
     t.unsent = sorted(t.unsent + [n])
+    t.history.append([f["id"] for f, x in zip(frames, done) if f["piece"] and x[2]])
     return t, sum(x[0] for x in done), sum(x[1] for x in done), left
 
 
@@ -172,6 +175,19 @@ def take(s, room):
         raise Refused(12)
     s.line.pop(0)
     return body, kind, channel, number
+
+
+def drop_unfinished(s, n):
+    """How many cells a drop frees."""
+    def further(ident):
+        """The datagrams accepted since the last that a piece was kept for the id in."""
+        back = 0
+        while ident not in s.history[-1 - back]:
+            back += 1
+        return back
+
+    old = [ident for ident, m in s.open.items() if m["alike"][1] not in RELIABLE and further(ident) > n]
+    return sum(len(s.open.pop(ident)["pieces"]) for ident in old)
 
 
 def written(first, numbers, room):
@@ -230,11 +246,12 @@ def run(data, cells):
     while at + 3 <= len(data):
         what, n = data[at], int.from_bytes(data[at + 1:at + 3], "big")
         at += 3
-        d = data[at:at + n] if what == 0 else b""
-        if what > 4 or what == 0 and len(d) < n or what == 4 and n > 1:
+        more = {0: n, 5: 2}.get(what, 0)
+        d = data[at:at + more]
+        if what > 5 or len(d) < more or what == 4 and n > 1:
             break
-        at += len(d)
-        letter = "rtumn"[what]
+        at += more
+        letter = "rtumnx"[what]
         try:
             if what == 0:
                 s, ready, dropped, left = receive(s, d)
@@ -245,6 +262,8 @@ def run(data, cells):
             elif what == 4:
                 s = State(cells, n)
                 out.append("n 0")
+            elif what == 5:
+                out.append(f"x 0 {drop_unfinished(s, n * 65536 + int.from_bytes(d, 'big'))}")
             else:
                 w = written(0xC0, s.unsent, n) if what == 2 else written(0xA0, s.datagrams.missing(), n)
                 s.unsent = [] if what == 2 else s.unsent
@@ -431,8 +450,79 @@ def late_levers(s, number, reliable):
     return out + with_takes(s, late(number, reliable, s.cells - s.used()))
 
 
+def drop(n):
+    return b"\5" + n.to_bytes(4, "big")
+
+
+def previews(profile, cells):
+    """Calls to a receiver just made (meant for 24 to 240 cells): messages that lack pieces grow old, and drops come just too early or just
+    in time."""
+    number, reliable = 0, 0
+
+    def piece(kind, ident, index, count=3, order=0):
+        nonlocal reliable
+        reliable += 1
+        return frame(kind, b"%d" % index, reliable - 1, 1, order, kind, (count, ident, index), profile=profile)
+
+    def send(*frames):
+        nonlocal number
+        number += 1
+        return b"\0" + put(datagram(number - 1, *frames))
+
+    def refused(*frames, at=None, **first):
+        return b"\0" + put(datagram(number if at is None else at, *frames, **first))
+
+    def empty(n):
+        return b"".join(send() for _ in range(n))
+
+    def hums(n):
+        return [frame(0, b"hum")] * n
+
+    # nothing is open; then a piece of each kind, of which four carry no reliable number
+    out = drop(0) + drop(TOP * 256 - 1)
+    out += send(*(piece(kind, kind, 0) for kind in range(8))) + drop(0) + empty(1) + drop(1)
+    # refused datagrams do not count: 4, 3, 1, 2, 5, 7, 8
+    out += refused(at=0) + refused(first=0x7F) + b"\0" + put(b"\x84\0\0") + b"\0" + put(bytes(1501)) + refused(at=number + REACH + 2)
+    out += refused(frame(2, b"far", reliable=9000)) + refused(*hums(cells)) + drop(1) + drop(0) + drop(0)
+    # those with one stay, and are finished; the others begin again, and of their new pieces none is the old one
+    out += empty(3) + drop(0) + send(*(piece(kind, kind, i) for kind in (2, 3, 4, 7) for i in (1, 2))) + TAKE * 5
+    out += send(piece(0, 0, 1), piece(0, 0, 2)) + TAKE + send(piece(0, 0, 0)) + TAKE * 2
+    # the last kept piece counts, and all pieces of its id go
+    out += send(piece(5, 20, 0)) + empty(2) + send(piece(5, 20, 1)) + drop(0) + empty(2) + drop(3) + drop(2) + drop(1)
+    # pieces that are dropped renew nothing: an index again, another count, kind or order number, an index over its limit
+    out += send(piece(6, 21, 0)) + send(piece(6, 21, 0)) + send(piece(6, 21, 1, 4)) + send(piece(0, 21, 1)) + send(piece(6, 21, 3))
+    out += drop(4) + drop(3) + send(piece(1, 21, 0)) + send(piece(1, 21, 1, order=1)) + drop(1) + drop(0)
+    # nor do pieces of another id, nor those of a refused datagram
+    out += send(piece(0, 22, 0)) + send(piece(0, 23, 0), piece(0, 23, 1)) + drop(0) + empty(1) + drop(1) + drop(0)
+    out += send(piece(0, 24, 0)) + refused(piece(0, 24, 1), *hums(cells)) + empty(1) + drop(1) + drop(0)
+    # an id is finished and begins again in one datagram; it is dropped and begins again
+    out += send(piece(1, 25, 0, 2)) + empty(1) + send(piece(1, 25, 1, 2), piece(1, 25, 0, 2)) + drop(0) + empty(1) + drop(0) + TAKE * 2
+    out += send(piece(5, 25, 1, 2)) + empty(1) + drop(0) + send(piece(6, 25, 0, 2)) + drop(0) + empty(1) + drop(1) + drop(0)
+    # held and ready messages are not unfinished
+    late = frame(3, b"late", reliable, order=1, channel=30, profile=profile)
+    reliable += 1
+    out += send(late, piece(0, 26, 0, 2), piece(0, 26, 1, 2), *hums(2)) + empty(2) + drop(0)
+    out += send(frame(3, b"due", reliable, order=0, channel=30, profile=profile)) + TAKE * 6
+    reliable += 1
+    # datagrams count as they are accepted, whatever their numbers
+    number += 5
+    out += send(piece(0, 27, 0))
+    number -= 4
+    out += empty(2) + drop(2) + drop(1)
+    number += 2
+    # the number's halves and bytes; an age above 255
+    out += send(piece(6, 28, 0), piece(3, 29, 0)) + empty(260) + drop(4 << 8) + drop(260 << 16) + drop(1 << 31) + drop(TOP * 256 - 1)
+    out += drop(260) + drop(259) + UNSENT + MISSING
+    # all cells in use: no room until some are given back
+    out += send(piece(0, 30, 0), piece(5, 31, 2), piece(5, 31, 1)) + send(*hums(cells - 4))
+    out += refused(*hums(1)) + drop(1) + refused(*hums(1)) + drop(0) + send(*hums(3)) + refused(*hums(1))
+    # a new receiver has accepted none
+    return out + new(profile) + drop(0) + b"\0" + put(datagram(0, piece(0, 30, 0))) + drop(0) + b"\0" + put(datagram(1)) + drop(1) + drop(0)
+
+
 class Console:
     """Random frames of a few senders to a console receiver."""
+    calls = (60, 25, 8, 7, 0)
 
     def __init__(self, r):
         self.r, self.reliable, self.ident = r, 0, 0
@@ -495,15 +585,36 @@ class Cpp(Console):
         return cpp(kind, body, reliable=self.reliable_number(), sequence=sequence, order=o, channel=channel, piece=piece, bits=bits)
 
 
-def random_calls(r, before, sender, count, spent):
+class Previews(Console):
+    """Pieces above all, most of kinds without reliable numbers, which are the same in both profiles; many are lost."""
+    calls = (60, 10, 4, 4, 22)
+
+    def __init__(self, r):
+        super().__init__(r)
+        self.splits = {}
+
+    def frame(self):
+        r, ident = self.r, self.r.randrange(6)
+        if ident not in self.splits or r.random() < 0.15:
+            self.splits[ident] = [r.choice((0, 0, 1, 5, 6, 6, 2, 3)), r.choice((2, 2, 3, 4)), self.sequence(1, 0)]
+        kind, count, sequence = self.splits[ident]
+        piece = (count, ident, r.randrange(count)) if r.random() < 0.85 else None
+        return frame(kind, r.randbytes(r.choice((0, 1, 9))), self.reliable_number(), sequence, 0, 0, piece)
+
+
+def random_calls(r, before, sender, count, spent=None):
     """Calls of all kinds after those before, to a receiver just made: a few senders' worth of frames, reordered, doubled, lost, damaged.
-    After two thirds of them lever positions that come late, for which so many datagram and reliable numbers are left out."""
+    After two thirds of them, where numbers are spent on it, lever positions that come late, for which so many datagram and reliable numbers
+    are left out."""
     out, kept, number = before, [], 0
     for i in range(count):
-        if i == 2 * count // 3:
+        if spent and i == 2 * count // 3:
             out += late_levers(run(out, int.from_bytes(out[:2], "big"))[1], number + 1, sender.reliable + 1)
             number, sender.reliable = number + spent[0], sender.reliable + spent[1]
-        what = r.choices((0, 1, 2, 3), (60, 25, 8, 7))[0]
+        what = r.choices((0, 1, 2, 3, 5), sender.calls)[0]
+        if what == 5:
+            out += drop(r.choice((0, 0, 1, 1, 2, 3, 5, 1 << 16, TOP, TOP * 256 - 1)))
+            continue
         if what:
             room = r.choice((0, 2, 3, 7, 10, 20, 100, 1500, 20000, 65535))
             out += bytes([what]) + room.to_bytes(2, "big")
@@ -549,6 +660,9 @@ def random_list(seed, count):
     for before, after in ((CPP, CPP), (CPP, CONSOLE), (CONSOLE, CPP)):
         out += new(before) + in_use(before, 0) + new(after) + TAKE + UNSENT + MISSING + other_half(3) + TAKE * 3 + UNSENT + MISSING
         out += in_use(after, 0) + in_use(after, 4) + TAKE * 5 + UNSENT + MISSING
+    for profile in (CONSOLE, CPP):
+        out += new(profile) + previews(profile, cells)
+        out = random_calls(r, out + new(profile), Previews(r), count // 4)
     # no profile: the list ends there
     return out + new(CPP + 1) + other_half(9) + TAKE + UNSENT + MISSING
 

@@ -1,7 +1,7 @@
 //! Document 01's bare receiver, without cells, and its line. The model with cells is held against it in every comparison.
 use crate::model::{ordered, over_limit, Message};
 use crate::wire::{self, Frame, Profile};
-use std::collections::{BTreeMap, HashMap, HashSet};
+use std::collections::{BTreeMap, BTreeSet, HashMap, HashSet};
 
 /// What the pieces of one id agree on: count, kind, sequence number, order number, channel.
 type Agreed = (u32, u8, u32, u32, u8);
@@ -13,11 +13,19 @@ enum Memory {
     KindFour,
 }
 
+/// A piece as it is kept: its body, and at which count of accepted datagrams that was.
+struct Kept {
+    at: u64,
+    body: Vec<u8>,
+}
+
 pub struct Bare {
     /// "The bare receiver has its list's profile."
     profile: Profile,
+    /// "it counts the accepted datagrams"
+    fed: u64,
     reliables: HashSet<u32>,
-    open: HashMap<u16, (Agreed, BTreeMap<u32, Vec<u8>>)>,
+    open: HashMap<u16, (Agreed, BTreeMap<u32, Kept>)>,
     next: HashMap<u8, u32>,
     held: HashMap<(u8, u32), Message>,
     /// "Document 01's bare receiver remembers the same": newest sequence numbers.
@@ -28,15 +36,35 @@ pub struct Bare {
 impl Bare {
     pub fn new(profile: Profile) -> Bare {
         let (reliables, open, next, held, newest) = Default::default();
-        Bare { profile, reliables, open, next, held, newest, line: Vec::new() }
+        Bare { profile, fed: 0, reliables, open, next, held, newest, line: Vec::new() }
     }
 
     /// An accepted datagram: how many messages it made ready and how many frames it dropped.
     pub fn feed(&mut self, datagram: &[u8]) -> (u32, u32) {
+        self.fed += 1;
         let before = self.line.len();
         let (frames, _) = wire::frames(self.profile, &datagram[4..]);
         let dropped = frames.into_iter().map(|f| self.frame(f)).filter(|kept| !kept).count();
         ((self.line.len() - before) as u32, dropped as u32)
+    }
+
+    /// "document 01's bare receiver drops the same unfinished messages at it, counting back over the accepted datagrams": how many pieces
+    /// go.
+    pub fn drop_unfinished(&mut self, n: u32) -> u32 {
+        let mut gone = 0;
+        let (fed, profile) = (self.fed, self.profile);
+        self.open.retain(|_, ((_, kind, ..), pieces)| {
+            let recent = pieces.values().any(|piece| fed - piece.at <= n as u64);
+            let stays = profile.fields(*kind).reliable || recent;
+            gone += if stays { 0 } else { pieces.len() as u32 };
+            stays
+        });
+        gone
+    }
+
+    /// The ids and indices of the open ids' pieces.
+    pub fn open_pieces(&self) -> BTreeSet<(u16, u32)> {
+        self.open.iter().flat_map(|(id, (_, pieces))| pieces.keys().map(|index| (*id, *index))).collect()
     }
 
     /// The four steps; false where the frame or the message that it completed is dropped.
@@ -57,12 +85,12 @@ impl Bare {
         if *known != agreed || pieces.contains_key(&p.index) {
             return false;
         }
-        pieces.insert(p.index, f.body);
+        pieces.insert(p.index, Kept { at: self.fed, body: f.body });
         if pieces.len() < p.count as usize {
             return true;
         }
         let (_, pieces) = self.open.remove(&p.id).unwrap();
-        self.put(message(pieces.into_values().flatten().collect()), sequence)
+        self.put(message(pieces.into_values().flat_map(|piece| piece.body).collect()), sequence)
     }
 
     /// Step 4, on a message and its sequence number.

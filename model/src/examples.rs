@@ -1,6 +1,7 @@
 //! Random examples for the definitions, as a file of proofs by computation: what every call is told and the state after it, from the model.
 use crate::bare::Bare;
-use crate::model::{Cell, Message, Receiver, Use, CHANNELS, MEMORIES};
+use crate::gen::about_an_age;
+use crate::model::{Cell, Message, Receiver, Use, CHANNELS, MEMORIES, OLDEST};
 use crate::rng::Rng;
 use crate::sender::datagram;
 use crate::sound::{sound_cells, sound_values};
@@ -37,12 +38,17 @@ fn use_number(used: Use) -> u8 {
     }
 }
 
-fn slot(c: &Cell) -> String {
-    if *c == Cell::default() {
+/// A cell and its record, which keeps an age.
+fn slot((c, age): (&Cell, &u64)) -> String {
+    if *c == Cell::default() && *age == 0 {
         return "empty_slot".to_string();
     }
     let Cell { id, index, kind, channel, count, sequence, order, turn, .. } = c;
-    format!("slot {} {id} {index} {kind} {channel} {count} {sequence} {order} {turn} {}", use_number(c.used), arg(&c.body))
+    format!("slot {} {id} {index} {kind} {channel} {count} {sequence} {order} {turn} {age} {}", use_number(c.used), arg(&c.body))
+}
+
+fn slots(cells: &[Cell], ages: &[u64]) -> String {
+    arg(cells.iter().zip(ages).map(slot))
 }
 
 fn frame(f: &Frame) -> String {
@@ -62,19 +68,23 @@ struct Small {
     profile: Profile,
     kinds: &'static [u8],
     channels: &'static [u8],
+    /// How many frames of twenty are pieces.
+    pieces: usize,
+    /// How many of the other pieces, of a hundred, get lost.
+    lost: usize,
     reliable: u32,
     waiting: Vec<Frame>,
 }
 
 impl Small {
-    /// All kinds; or lever positions above all, on two channels.
+    /// All kinds; or lever positions above all, on two channels; or previews: pieces above all, most without reliable numbers, many lost.
     fn new(rng: &mut Rng, profile: Profile) -> Small {
-        let (kinds, channels): (&[u8], &[u8]) = if rng.percent(40) {
-            (&[1, 1, 1, 4, 4, 3], &[0, 0, 0, 1])
-        } else {
-            (&[0, 1, 1, 2, 3, 3, 3, 3, 4, 4, 5, 6, 7, 7], &[0, 0, 0, 0, 0, 1, 1, 31, 32])
+        let (kinds, channels, pieces, lost): (&[u8], &[u8], usize, usize) = match rng.below(10) {
+            0..=2 => (&[1, 1, 1, 4, 4, 3], &[0, 0, 0, 1], 7, 0),
+            3..=6 => (&[0, 0, 1, 5, 6, 6, 3], &[0, 0, 1], 13, 60),
+            _ => (&[0, 1, 1, 2, 3, 3, 3, 3, 4, 4, 5, 6, 7, 7], &[0, 0, 0, 0, 0, 1, 1, 31, 32], 7, 0),
         };
-        Small { profile, kinds, channels, reliable: 0, waiting: Vec::new() }
+        Small { profile, kinds, channels, pieces, lost, reliable: 0, waiting: Vec::new() }
     }
 
     fn reliable(&mut self, rng: &mut Rng) -> u32 {
@@ -108,20 +118,22 @@ impl Small {
         let mut f = Frame { kind, reliable, sequence, order, channel, piece: None, body: body(rng) };
         match rng.below(20) {
             0 => f.piece = Some(Piece { count: rng.pick(&[0, 1023, 1024, 1025]), id: 7, index: rng.pick(&[0, 1023, 1024]) }),
-            1..=7 => self.split(rng, &mut f),
+            n if n <= self.pieces => self.split(rng, &mut f),
             _ => {}
         }
         f
     }
 
-    /// The frame becomes one piece; the others wait.
+    /// The frame becomes one piece; the others wait or get lost.
     fn split(&mut self, rng: &mut Rng, f: &mut Frame) {
         let count = rng.pick(&[1, 2, 2, 2, 3]);
-        let id = rng.pick(&[0, 7]);
+        let id = rng.pick(&[0, 7, 7, 300]);
         let first = rng.below(count as usize) as u32;
         f.piece = Some(Piece { count, id, index: first });
         for index in (0..count).filter(|i| *i != first) {
-            self.waiting.push(Frame { piece: Some(Piece { count, id, index }), body: body(rng), ..f.clone() });
+            if !rng.percent(self.lost) {
+                self.waiting.push(Frame { piece: Some(Piece { count, id, index }), body: body(rng), ..f.clone() });
+            }
         }
     }
 
@@ -173,7 +185,7 @@ fn cells_example(rng: &mut Rng, name: &str) -> String {
                 Ok(m) => format!("(took ({}))", message(&m)),
             }
         };
-        seen.push(format!("saw {told} {}", arg(r.cells.iter().map(slot))));
+        seen.push(format!("saw {told} {}", slots(&r.cells, &r.ages())));
     }
     let line = format!("line.seen {} {}", arg(&counts), arg(bare.line.iter().map(message)));
     format!(
@@ -235,17 +247,25 @@ fn told(letter: &str, answer: Result<String, u8>) -> String {
 /// The missing are written only where they are no more than so many: the checker's steps are limited, and a list of thousands takes too many.
 const MISSING: usize = 64;
 
+/// Calls by their byte in `calls`, each as often as it stands here: on a receiver of all kinds of frames, and on one of previews.
+const CALLS: [u8; 10] = [0, 0, 0, 0, 0, 1, 1, 1, 2, 3];
+const PREVIEW_CALLS: [u8; 12] = [0, 0, 0, 0, 0, 0, 1, 2, 5, 5, 5, 5];
+
 /// One call: its text, and what it is told.
 fn bytes_call(rng: &mut Rng, small: &mut Small, r: &mut Receiver) -> (String, String) {
     let room = rng.pick(&[0, 2, 3, 6, 7, 10, 14]);
     let zeros = format!("(replicate {room} 0)");
-    match rng.below(10) {
-        0..=2 => {
+    match rng.pick(if small.lost > 0 { &PREVIEW_CALLS } else { &CALLS[..] }) {
+        1 => {
             let answer = r.take(room).map(|m| format!("{} {} {} {}", m.kind, m.channel, m.order, arg(&m.body)));
             (format!("take_with {zeros}"), told("took", answer))
         }
-        3 => (format!("write_unsent {zeros}"), told("wrote", r.write_unsent(room).map(|b| hex(&b)))),
-        4 if r.datagrams.missing().len() <= MISSING => (format!("write_missing {zeros}"), told("wrote", r.write_missing(room).map(|b| hex(&b)))),
+        2 => (format!("write_unsent {zeros}"), told("wrote", r.write_unsent(room).map(|b| hex(&b)))),
+        3 if r.datagrams.missing().len() <= MISSING => (format!("write_missing {zeros}"), told("wrote", r.write_missing(room).map(|b| hex(&b)))),
+        5 => {
+            let n = about_an_age(rng, r);
+            (format!("drop_unfinished {n}"), told("freed", Ok(r.drop_unfinished(n).to_string())))
+        }
         _ => {
             let d = small_datagram(rng, small, r);
             let answer = r.receive(&d).map(|report| format!("{} {} {}", report.ready, report.dropped, report.left));
@@ -256,28 +276,31 @@ fn bytes_call(rng: &mut Rng, small: &mut Small, r: &mut Receiver) -> (String, St
 
 /// Bytes on a receiver: every call's answer and the whole state after it.
 fn bytes_example(rng: &mut Rng, name: &str) -> String {
-    let cells = rng.from_to(1, 4);
     let profile = rng.pick(&PROFILES);
-    let mut r = Receiver::new(cells, profile);
     let mut small = Small::new(rng, profile);
+    let (cells, most) = if small.lost > 0 { (rng.from_to(3, 6), 10) } else { (rng.from_to(1, 4), 6) };
+    let mut r = Receiver::new(cells, profile);
     let (mut calls, mut seen) = (Vec::new(), Vec::new());
-    for _ in 0..rng.from_to(2, 6) {
+    for _ in 0..rng.from_to(most / 2, most) {
         let (call, told) = bytes_call(rng, &mut small, &mut r);
         let lows = arg([r.datagrams.low, r.reliables.low]);
         let nexts = arg([r.next[0], r.next[1]]);
         let memories = arg([0, 1, MEMORIES - 1].map(|m| stored(r.newest[m])));
-        seen.push(format!("saw {told} {lows} {} {nexts} {memories} {}", arg(&r.unsent), arg(r.cells.iter().map(slot))));
+        seen.push(format!("saw {told} {lows} {} {nexts} {memories} {}", arg(&r.unsent), slots(&r.cells, &r.ages())));
         calls.push(call);
     }
     format!("pub {name} :\n    run {profile:?} {cells} ({})\n    ≡ {}\nunfolding run\n{name} = refl\n", lines(&calls), lines(&seen))
 }
 
-/// A random field of a random cell is changed.
-fn spoil(rng: &mut Rng, cells: &mut [Cell]) {
+/// A random field of a random cell is changed, or its record's age, or an open record's, or that of all open records of an id.
+fn spoil(rng: &mut Rng, cells: &mut [Cell], ages: &mut [u64]) {
     let at = rng.below(cells.len());
-    let c = &mut cells[at];
     let small = rng.below(4) as u32;
-    match rng.below(10) {
+    let age = rng.pick(&[0, 1, 2, OLDEST - 1, OLDEST, OLDEST + 1]);
+    let open: Vec<usize> = (0..cells.len()).filter(|i| cells[*i].used == Use::Open).collect();
+    let id = if open.is_empty() { 0 } else { cells[rng.pick(&open)].id };
+    let c = &mut cells[at];
+    match rng.below(15) {
         0 => c.used = rng.pick(&[Use::Unused, Use::Open, Use::Held, Use::Ready, Use::Released]),
         1 => c.id = rng.pick(&[0, 7]),
         2 => c.index = small,
@@ -287,9 +310,13 @@ fn spoil(rng: &mut Rng, cells: &mut [Cell]) {
         6 => c.sequence = rng.pick(&[0, 1, (1 << 24) - 1, 1 << 24]),
         7 => c.order = rng.pick(&[0, 1, 2, 3, (1 << 24) - 1, 1 << 24]),
         8 => c.turn = small,
+        9 => ages[at] = age,
+        10..=12 if !open.is_empty() => ages[rng.pick(&open)] = age,
+        13 => open.iter().filter(|i| cells[**i].id == id).for_each(|i| ages[*i] = age),
         _ => {
             let from = rng.below(cells.len());
             cells[at] = cells[from].clone();
+            ages[at] = ages[from];
         }
     }
 }
@@ -299,6 +326,7 @@ fn sound_example(rng: &mut Rng, name: &str) -> String {
     let profile = rng.pick(&PROFILES);
     let mut r = Receiver::new(rng.from_to(2, 6), profile);
     let mut small = Small::new(rng, profile);
+    small.lost = small.lost.min(30);
     for number in 0..rng.from_to(3, 8) as u32 {
         let all = small.frames(rng, 4);
         let _ = r.receive(&bytes_of(profile, number, &all, 0));
@@ -306,12 +334,12 @@ fn sound_example(rng: &mut Rng, name: &str) -> String {
     let mut states = Vec::new();
     let next = rng.pick(&[0, 0, 1]);
     for changes in [0, 1, 1, 1, 2] {
-        let mut cells = r.cells.clone();
+        let (mut cells, mut ages) = (r.cells.clone(), r.ages());
         for _ in 0..changes {
-            spoil(rng, &mut cells);
+            spoil(rng, &mut cells, &mut ages);
         }
-        let verdict = if sound_cells(&[next; 256], &cells) { "true" } else { "false" };
-        states.push(format!("(sound_at {next} {} ≡ {verdict})", arg(cells.iter().map(slot))));
+        let verdict = if sound_cells(&[next; 256], &cells, &ages) { "true" } else { "false" };
+        states.push(format!("(sound_at {next} {} ≡ {verdict})", slots(&cells, &ages)));
     }
     let proofs = vec!["refl"; states.len()].join(", ");
     format!("pub {name} :\n    {}\nunfolding run sound_at\n{name} = ({proofs})\n", states.join("\n    × "))
@@ -350,8 +378,8 @@ use Rattle.reliability.specs.declared.Profile.TheVariants.{Console, Cpp}
 use Rattle.bare.proofs.Shown as line
 use Rattle.bare.proofs.Shown.{msg}
 use Rattle.cells.specs.Cell.{empty_slot}
-use Rattle.cells.proofs.Shown.{slot, receive, take, gave, took, refused, saw, run, run_as}
-use Rattle.examples.proofs.Shown.{whole, part}
+use Rattle.cells.proofs.Shown.{receive, take, gave, took, refused, saw, run, run_as}
+use Rattle.examples.proofs.Shown.{whole, part, slot}
 ";
 
 const BYTES_HEAD: &str = "use mathlib.Core.Path.{◌≡◌, refl}
@@ -359,16 +387,16 @@ use mathlib.Core.List.{[], ◌∷◌}
 use lib.ListN.{replicate}
 use Rattle.reliability.specs.declared.Profile.TheVariants.{Console, Cpp}
 use Rattle.cells.specs.Cell.{empty_slot}
-use Rattle.cells.proofs.Shown.{slot}
-use Rattle.receiver.specs.Calls.{receive, take_with, write_unsent, write_missing}
-use Rattle.examples.proofs.Shown.{run, saw, gave, took, wrote, no}
+use Rattle.receiver.specs.Calls.{receive, take_with, write_unsent, write_missing, drop_unfinished}
+use Rattle.examples.proofs.Shown.{slot, run, saw, gave, took, wrote, freed, no}
 ";
 
 const SOUND_HEAD: &str = "use mathlib.Core.Path.{◌≡◌, refl}
 use mathlib.Core.Bool.{true, false}
 use mathlib.Core.List.{[], ◌∷◌}
 use Rattle.cells.specs.Cell.{empty_slot}
-use Rattle.cells.proofs.Shown.{slot, run, sound_at}
+use Rattle.cells.proofs.Shown.{run, sound_at}
+use Rattle.examples.proofs.Shown.{slot}
 ";
 
 const VALUES_HEAD: &str = "use mathlib.Core.Path.{◌≡◌, refl}

@@ -1,6 +1,7 @@
 //! A recording for `trace` and a list of calls for `calls`, from a seed.
 use crate::model::Receiver;
-use crate::programs::{call_line, new_item, other_item, receive_item, trace_lines, with_length, Input, Program, CALLS_CELLS, TRACE_CELLS};
+use crate::programs::{call_line, drop_item, new_item, other_item, receive_item, trace_lines, with_length};
+use crate::programs::{Input, Program, CALLS_CELLS, TRACE_CELLS};
 use crate::rng::Rng;
 use crate::sender::datagram;
 use crate::session::Session;
@@ -21,11 +22,29 @@ pub fn mode_of(seed: u64) -> Mode {
     }
 }
 
+/// At most so many datagrams.
+fn datagrams(rng: &mut Rng, mode: Mode) -> usize {
+    match mode {
+        Mode::Full => 1030,
+        Mode::Previews => rng.from_to(30, 120),
+        _ => rng.from_to(5, 60),
+    }
+}
+
+/// A sender's messages.
+fn messages(rng: &mut Rng, mode: Mode) -> usize {
+    if mode == Mode::Previews {
+        rng.from_to(20, 80)
+    } else {
+        rng.from_to(3, 40)
+    }
+}
+
 pub fn trace(seed: u64) -> Input {
     let rng = &mut Rng::new(2 * seed);
     let mode = mode_of(seed);
-    let messages = rng.from_to(3, 40);
-    let most = if mode == Mode::Full { 1030 } else { rng.from_to(5, 60) };
+    let messages = messages(rng, mode);
+    let most = datagrams(rng, mode);
     let mut stream = Stream::new(rng, Profile::Console, mode, messages);
     let mut live = Session::new(TRACE_CELLS, false);
     let mut items = Vec::new();
@@ -56,9 +75,28 @@ fn about(rng: &mut Rng, needed: usize) -> usize {
     n.min(65535)
 }
 
-/// A take or a writing, with a length about the one that it needs.
+/// A number for a drop: about an open id's age, small, an end, or the age with its bytes at other places.
+pub fn about_an_age(rng: &mut Rng, live: &Receiver) -> u32 {
+    let open: Vec<u16> = live.open().map(|c| c.id).collect();
+    let age = if open.is_empty() { 0 } else { live.age(rng.pick(&open)) as u32 };
+    match rng.below(20) {
+        0..=2 => 0,
+        3 | 4 => 1,
+        5 | 6 => 2,
+        7 => u32::MAX,
+        8 => rng.pick(&[255, 256, 65535, 65536, u32::MAX - 1, 1 << 31]),
+        9 => rng.pick(&[age << 8, age << 16, age.swap_bytes()]),
+        10 => rng.next() as u32,
+        11..=14 => age.saturating_sub(1),
+        15 | 16 => age + 1,
+        _ => age,
+    }
+}
+
+/// A take or a writing, with a length about the one that it needs; or a drop.
 pub fn other_call(rng: &mut Rng, live: &Receiver, what: u8) -> Vec<u8> {
     let needed = match what {
+        5 => return drop_item(about_an_age(rng, live)),
         1 => live.earliest().map_or(0, |cells| cells.iter().map(|i| live.cells[*i].body.len()).sum()),
         2 => live.clone().write_unsent(usize::MAX).map_or(0, |b| b.len()),
         _ => live.write_missing(usize::MAX).map_or(0, |b| b.len()),
@@ -83,23 +121,25 @@ impl List {
     }
 }
 
-/// How often a list takes, writes the unsent and writes the missing after a datagram, of a hundred.
+/// How often a list takes, writes the unsent, writes the missing and drops the unfinished after a datagram, of a hundred.
 struct Habits {
     take: usize,
     unsent: usize,
     missing: usize,
+    drop: usize,
 }
 
 fn habits(rng: &mut Rng, mode: Mode) -> Habits {
     if mode == Mode::Full {
-        return Habits { take: 0, unsent: 0, missing: 1 };
+        return Habits { take: 0, unsent: 0, missing: 1, drop: rng.pick(&[0, 0, 1]) };
     }
-    Habits { take: rng.pick(&[5, 40, 60, 75]), unsent: rng.pick(&[2, 20]), missing: rng.pick(&[5, 25]) }
+    let drop = if mode == Mode::Previews { rng.pick(&[30, 60]) } else { rng.pick(&[0, 3, 15]) };
+    Habits { take: rng.pick(&[5, 40, 60, 75]), unsent: rng.pick(&[2, 20]), missing: rng.pick(&[5, 25]), drop }
 }
 
 /// The end of a full list: the unsent sent, then room again.
 fn full_end(rng: &mut Rng, list: &mut List) {
-    for what in [3, 2, 2, 0, 2, 3] {
+    for what in [3, 5, 5, 2, 2, 0, 2, 3, 5] {
         if what == 0 {
             list.put(receive_item(&datagram(0x84, list.live.receiver.datagrams.low, &[])));
         } else {
@@ -122,17 +162,21 @@ fn receiver_calls(rng: &mut Rng, list: &mut List, stream: &mut Stream, habits: &
         if rng.percent(habits.missing) {
             list.other(rng, 3);
         }
+        while rng.percent(habits.drop) {
+            list.other(rng, 5);
+        }
     }
 }
 
-/// A cut call, a cut datagram, a byte that is no call's, a number that is no profile's.
+/// A cut call or drop, a cut datagram, a byte that is no call's, a number that is no profile's.
 fn calls_tail(rng: &mut Rng) -> Vec<u8> {
-    match rng.below(16) {
+    match rng.below(18) {
         0 => vec![1, 0],
         1 => vec![0, 0, 5, 0x84, 0, 0, 0],
-        2 => vec![rng.pick(&[5, 9, 255]), 0, 0, 2, 0, 3],
+        2 => vec![rng.pick(&[6, 9, 255]), 0, 0, 2, 0, 3],
         3 => vec![4, 0],
         4..=6 => [vec![4], rng.pick(&[[0, 2], [0, 3], [1, 0], [1, 1], [255, 255]]).to_vec(), vec![2, 0, 3]].concat(),
+        7 | 8 => [5, 0, 0, 0][..rng.from_to(1, 4)].to_vec(),
         _ => Vec::new(),
     }
 }
@@ -144,7 +188,7 @@ pub fn calls(seed: u64) -> Input {
     let mode = mode_of(seed);
     let few = [1, 2, 3, 4, 5, 8, 16, 32, 32, 64, 100, 255, 256];
     let cells: usize = if rng.percent(1) { rng.pick(&[0, 257, 4096, 65535]) } else { rng.pick(&few) };
-    let most = if mode == Mode::Full { 1030 } else { rng.from_to(5, 60) };
+    let most = datagrams(rng, mode);
     let mut list = List { live: Session::new(cells.min(CALLS_CELLS), false), items: Vec::new() };
     let receivers = if mode == Mode::Full { 1 } else { rng.pick(&[1, 1, 2, 3]) };
     for i in 0..receivers {
@@ -154,7 +198,7 @@ pub fn calls(seed: u64) -> Input {
         }
         let made_for = list.live.receiver.made_for();
         let senders = if rng.percent(7) { rng.pick(&PROFILES) } else { made_for };
-        let messages = rng.from_to(3, 40);
+        let messages = messages(rng, mode);
         let habits = habits(rng, mode);
         let mut stream = Stream::new(rng, senders, mode, messages);
         receiver_calls(rng, &mut list, &mut stream, &habits, most / receivers + 1);

@@ -5,7 +5,7 @@
 //! model gen-trace SEED FILE               writes the recording of a seed
 //! model gen-calls SEED FILE               writes the list of calls of a seed
 //! model compare TRACE CALLS FROM TO       compares two commands with the model on the seeds FROM up to, not including, TO
-//! model examples KIND SEED N             prints a file of N examples (cells, bytes, sound or values) for the crate examples
+//! model examples KIND SEED N              prints a file of N examples (cells, bytes, sound or values) for the crate examples
 //! model top WHICH COMMAND [NUMBER]        compares one on a long input whose numbers run up to 2^24 (or a smaller number):
 //!                                         step or reliable for trace, cpp or datagram for calls
 mod bare;

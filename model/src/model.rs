@@ -1,5 +1,5 @@
-//! The receiver of document 01 with its cells, and document 02's requests 1 and 2; written from their sentences alone, nothing here comes
-//! from crates/.
+//! The receiver of document 01 with its cells, and document 02's requests 1, 2 and 4; written from their sentences alone, nothing here
+//! comes from crates/. It keeps no ages: each piece remembers which accepted datagram carried it.
 use crate::window::Window;
 use crate::wire::{self, Frame, Profile};
 
@@ -7,6 +7,9 @@ pub const CHANNELS: u8 = 32;
 pub const MAX_FRAGS: u32 = 1024;
 pub const UNSENT: usize = 1024;
 pub const CELL_BYTES: usize = 1500;
+
+/// "the age kept for an id stops at 2^32"
+pub const OLDEST: u64 = 1 << 32;
 
 /// A memory for each channel, and the last for the whole receiver.
 pub const MEMORIES: usize = CHANNELS as usize + 1;
@@ -34,6 +37,8 @@ pub struct Cell {
     pub count: u32,
     pub index: u32,
     pub turn: u32,
+    /// Which of the accepted datagrams carried it, the first being 1.
+    pub carried_by: u64,
     pub body: Vec<u8>,
 }
 
@@ -82,6 +87,8 @@ pub struct Receiver {
     /// The highest sequence numbers made ready: by kind 1 (in C++ by kind 4 too) on each channel, then by kind 4 of a console.
     pub newest: [Option<u32>; MEMORIES],
     pub unsent: Vec<u32>,
+    /// How many datagrams were accepted.
+    pub accepted: u64,
     pub cells: Vec<Cell>,
     /// Over the accepted datagrams.
     pub fates: Fates,
@@ -117,6 +124,7 @@ impl Receiver {
             next: [0; CHANNELS as usize],
             newest: [None; MEMORIES],
             unsent: Vec::new(),
+            accepted: 0,
             cells: vec![Cell::default(); cells],
             fates: [[[0; FATES]; 8]; 2],
         }
@@ -195,10 +203,39 @@ impl Receiver {
         }
         let first = &self.cells[cells[0]];
         let message = Message { kind: first.kind, channel: first.channel, order: first.order, body };
-        for i in cells {
-            self.cells[i] = Cell::default();
-        }
+        self.free(&cells);
         Ok(message)
+    }
+
+    fn free(&mut self, cells: &[usize]) {
+        for i in cells {
+            self.cells[*i] = Cell::default();
+        }
+    }
+
+    /// The pieces of unfinished messages.
+    pub fn open(&self) -> impl Iterator<Item = &Cell> {
+        self.cells.iter().filter(|c| c.used == Use::Open)
+    }
+
+    /// How many further datagrams were accepted since an open id's last kept piece, counted back from the last one; it stops at 2^32.
+    pub fn age(&self, id: u16) -> u64 {
+        let last = self.open().filter(|c| c.id == id).map(|c| c.carried_by).max().expect("an open id");
+        (self.accepted - last).min(OLDEST)
+    }
+
+    /// The age that each cell's record has where records keep ages: an open one its id's, another 0.
+    pub fn ages(&self) -> Vec<u64> {
+        self.cells.iter().map(|c| if c.used == Use::Open { self.age(c.id) } else { 0 }).collect()
+    }
+
+    /// "every unfinished message whose kind carries no reliable number, and since whose last kept piece more than n further datagrams were
+    /// accepted, is dropped, and the call returns how many cells it freed. It refuses by 9 alone", which no receiver here gives.
+    pub fn drop_unfinished(&mut self, n: u32) -> u32 {
+        let goes = |c: &Cell| c.used == Use::Open && !wire::reliable(c.kind) && self.age(c.id) > n as u64;
+        let cells: Vec<usize> = (0..self.cells.len()).filter(|i| goes(&self.cells[*i])).collect();
+        self.free(&cells);
+        cells.len() as u32
     }
 
     /// "Sending the unsent empties them."
@@ -231,7 +268,9 @@ enum Channel {
 }
 
 impl Pass {
-    fn over(receiver: Receiver) -> Pass {
+    /// One more datagram is accepted, unless the frames refuse it: then nothing of this is kept.
+    fn over(mut receiver: Receiver) -> Pass {
+        receiver.accepted += 1;
         let unused = (0..receiver.cells.len()).rev().filter(|i| receiver.cells[*i].used == Use::Unused).collect();
         let turn = receiver.cells.iter().map(|c| c.turn + 1).max().unwrap_or(0);
         Pass { profile: receiver.made_for(), receiver, unused, turn, ready: 0, dropped: 0 }
@@ -351,6 +390,7 @@ impl Pass {
             count: p.count,
             index: p.index,
             turn: 0,
+            carried_by: self.receiver.accepted,
             body: f.body.clone(),
         };
         Ok(cell)

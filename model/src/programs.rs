@@ -60,6 +60,11 @@ pub fn made_by(item: &[u8]) -> Option<Profile> {
     (item[0] == 4).then(|| Profile::of(big16(&item[1..]) as u32))?
 }
 
+/// A call that drops the unfinished of the number n, which stands in two halves: "n · 65,536 + the two bytes (big-endian)".
+pub fn drop_item(n: u32) -> Vec<u8> {
+    [other_item(5, (n >> 16) as usize), (n as u16).to_be_bytes().to_vec()].concat()
+}
+
 /// Another call: its byte and the length of its buffer or output.
 pub fn other_item(what: u8, n: usize) -> Vec<u8> {
     [vec![what], (n as u16).to_be_bytes().to_vec()].concat()
@@ -134,6 +139,7 @@ pub fn call_line(session: &mut Session, item: &[u8]) -> String {
         },
         2 => written('u', session.write_unsent(n)),
         3 => written('m', session.write_missing(n)),
+        5 => format!("x 0 {}\n", session.drop_unfinished((n as u32) << 16 | big16(&item[3..]) as u32)),
         _ => {
             session.renew(made_by(item).expect("a call that makes a receiver"));
             "n 0\n".to_string()
@@ -148,6 +154,7 @@ fn call_item(input: &[u8]) -> Option<usize> {
         0 => 3 + big16(&head[1..]),
         1..=3 => 3,
         4 if made_by(head).is_some() => 3,
+        5 => 5,
         _ => return None,
     };
     (size <= input.len()).then_some(size)

@@ -42,6 +42,18 @@ pub const IN_PIECES: Style = Style {
     per_datagram: 8,
 };
 
+/// Scene previews above all: pieces without reliable numbers, of few ids.
+pub const PREVIEWS: Style = Style {
+    kinds: &[0, 0, 1, 5, 5, 6, 6, 2, 3],
+    channels: &[0, 5],
+    lengths: &[0, 1, 30],
+    split: 75,
+    pieces: 6,
+    chunks: &[0, 1, 20, 300],
+    ids: 5,
+    per_datagram: 3,
+};
+
 /// Lever positions above all, on few channels, whole and in pieces.
 pub const LEVERS: Style = Style {
     kinds: &[1, 1, 1, 4, 4, 3],

@@ -2,21 +2,63 @@
 use crate::bare::Bare;
 use crate::model::{Message, Receiver, Report};
 use crate::sound::sound;
-use crate::wire::Profile;
-use std::collections::BTreeMap;
+use crate::wire::{self, Profile};
+use std::collections::{BTreeMap, BTreeSet};
 
 /// A joining buffer that no message outgrows.
 const PLENTY: usize = 1 << 20;
 
-/// The bare receiver fed with the accepted datagrams, and what the takes handed out.
+/// The bare receiver fed with the accepted datagrams and the drops, and what the takes handed out.
 struct Checks {
     bare: Bare,
     handed: Vec<Message>,
+    /// The receiver as it would be without the drops, since one that freed something; until one of the two alone accepts a datagram.
+    undropped: Option<Receiver>,
 }
 
 impl Checks {
     fn new(profile: Profile) -> Checks {
-        Checks { bare: Bare::new(profile), handed: Vec::new() }
+        Checks { bare: Bare::new(profile), handed: Vec::new(), undropped: None }
+    }
+
+    /// Was a datagram accepted that without the drops would have been refused with 8?
+    fn made_room(&mut self, datagram: &[u8], answer: &Result<Report, u8>) -> bool {
+        let without = self.undropped.as_mut().map(|r| r.receive(datagram));
+        if without.is_some_and(|w| w.is_err() != answer.is_err()) {
+            self.undropped = None;
+        }
+        answer.is_ok() && without == Some(Err(8))
+    }
+}
+
+/// Drops by what they did, and how many datagrams were accepted after one that would have been refused with 8 without it.
+#[derive(Clone, Copy, Default)]
+pub struct Drops {
+    pub freed: u64,
+    pub freed_none_of_open: u64,
+    pub left_unreliable: u64,
+    pub left_old_reliable: u64,
+    pub made_room: u64,
+}
+
+impl Drops {
+    pub fn add(&mut self, more: &Drops) {
+        self.freed += more.freed;
+        self.freed_none_of_open += more.freed_none_of_open;
+        self.left_unreliable += more.left_unreliable;
+        self.left_old_reliable += more.left_old_reliable;
+        self.made_room += more.made_room;
+    }
+
+    fn count(&mut self, before: &Receiver, after: &Receiver, n: u32) {
+        let ids = |r: &Receiver| r.open().map(|c| c.id).collect::<BTreeSet<u16>>().len();
+        let freed = ids(after) < ids(before);
+        let left_unreliable = after.open().any(|c| !wire::reliable(c.kind));
+        let left_old_reliable = after.open().any(|c| wire::reliable(c.kind) && after.age(c.id) > n as u64);
+        self.freed += freed as u64;
+        self.freed_none_of_open += (!freed && ids(before) > 0) as u64;
+        self.left_unreliable += (freed && left_unreliable) as u64;
+        self.left_old_reliable += left_old_reliable as u64;
     }
 }
 
@@ -25,6 +67,7 @@ pub struct Session {
     checks: Option<Checks>,
     /// How often each call gave each number.
     pub answers: BTreeMap<(char, u8), u64>,
+    pub drops: Drops,
     pub longest_missing: usize,
     pub longest_unsent: usize,
     pub longest_message: usize,
@@ -37,6 +80,7 @@ impl Session {
             receiver: Receiver::new(cells, Profile::Console),
             checks: checked.then(|| Checks::new(Profile::Console)),
             answers: BTreeMap::new(),
+            drops: Drops::default(),
             longest_missing: 0,
             longest_unsent: 0,
             longest_message: 0,
@@ -65,6 +109,7 @@ impl Session {
             if let Ok(report) = answer {
                 assert_eq!(checks.bare.feed(datagram), (report.ready, report.dropped), "the model's counts are not the line's");
             }
+            self.drops.made_room += checks.made_room(datagram, &answer) as u64;
             assert!(sound(&self.receiver), "the model's receiver is not sound");
         }
         self.longest_unsent = self.longest_unsent.max(self.receiver.unsent.len());
@@ -78,6 +123,7 @@ impl Session {
             self.longest_message = self.longest_message.max(message.body.len());
             if let Some(checks) = &mut self.checks {
                 checks.handed.push(message.clone());
+                checks.undropped.as_mut().map(|r| r.take(room));
                 assert!(sound(&self.receiver), "the model's receiver is not sound");
             }
         }
@@ -85,8 +131,30 @@ impl Session {
         answer
     }
 
+    /// The call with a number n: how many cells it freed.
+    pub fn drop_unfinished(&mut self, n: u32) -> u32 {
+        let before = self.receiver.clone();
+        let freed = self.receiver.drop_unfinished(n);
+        self.drops.count(&before, &self.receiver, n);
+        self.count('x', None);
+        let Some(checks) = &mut self.checks else { return freed };
+        let line = checks.bare.line.len();
+        assert_eq!(checks.bare.drop_unfinished(n), freed, "the model frees more or fewer cells than pieces are dropped");
+        assert_eq!(checks.bare.line.len(), line, "a drop changes the line");
+        let open: BTreeSet<(u16, u32)> = self.receiver.open().map(|c| (c.id, c.index)).collect();
+        assert!(open == checks.bare.open_pieces(), "the model frees other cells than those of the pieces dropped");
+        assert!(sound(&self.receiver), "the model's receiver is not sound");
+        if freed > 0 {
+            checks.undropped.get_or_insert(before);
+        }
+        freed
+    }
+
     pub fn write_unsent(&mut self, room: usize) -> Result<Vec<u8>, u8> {
         let answer = self.receiver.write_unsent(room);
+        if let Some(r) = self.checks.as_mut().and_then(|checks| checks.undropped.as_mut()) {
+            let _ = r.write_unsent(room);
+        }
         self.count('u', answer.as_ref().err().copied());
         answer
     }

@@ -1,6 +1,6 @@
 //! A smaller input on which a program and the model still differ.
 use crate::compare::differs;
-use crate::programs::{made_by, Input, Program};
+use crate::programs::{drop_item, made_by, Input, Program};
 use crate::wire::{frame_bytes, frames, Profile};
 
 /// Where in an item its datagram begins, if it has one.
@@ -84,6 +84,21 @@ fn fewer_frames(command: &str, input: &mut Input) {
     }
 }
 
+/// Lowers the numbers of drops.
+fn lower_drops(command: &str, input: &mut Input) {
+    for i in 0..input.items.len() {
+        for n in 0..8 {
+            let mut tried = input.clone();
+            tried.items[i] = drop_item(n);
+            let is_drop = input.program == Program::Calls && input.items[i][0] == 5;
+            if is_drop && tried.items[i] < input.items[i] && differs(command, &tried) {
+                *input = tried;
+                break;
+            }
+        }
+    }
+}
+
 fn fewer_cells(command: &str, input: &mut Input) {
     for cells in 1..16u16 {
         let mut tried = input.clone();
@@ -107,6 +122,7 @@ pub fn smallest(command: &str, from: &Input) -> Input {
         fewer_items(command, &mut input);
         fewer_frames(command, &mut input);
         fewer_cells(command, &mut input);
+        lower_drops(command, &mut input);
         if input.bytes() == before {
             return input;
         }

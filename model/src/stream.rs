@@ -1,9 +1,9 @@
 //! Datagrams by mode: what a sender, a network and a vandal make. The receiver as it stands is looked at, so that numbers fall on its edges.
-use crate::model::{memory, Cell, Receiver, Use};
+use crate::model::{memory, Cell, Receiver, MAX_FRAGS};
 use crate::rng::Rng;
-use crate::sender::{datagram, Sender, Style, IN_PIECES, LEVERS, MAX_DATAGRAM, ORDERED, PLAIN};
+use crate::sender::{datagram, Sender, Style, IN_PIECES, LEVERS, MAX_DATAGRAM, ORDERED, PLAIN, PREVIEWS};
 use crate::window::{Window, NUMBERS, REACH};
-use crate::wire::{frame_bytes, Frame, Piece, Profile};
+use crate::wire::{frame_bytes, reliable, Frame, Piece, Profile};
 use std::collections::VecDeque;
 
 #[derive(Clone, Copy, PartialEq, Debug)]
@@ -18,11 +18,12 @@ pub enum Mode {
     Edges,
     Crowded,
     Levers,
+    Previews,
     Full,
     Mixed,
 }
 
-pub const MODES: [Mode; 12] = [
+pub const MODES: [Mode; 13] = [
     Mode::Valid,
     Mode::Reordered,
     Mode::Duplicated,
@@ -33,6 +34,7 @@ pub const MODES: [Mode; 12] = [
     Mode::Edges,
     Mode::Crowded,
     Mode::Levers,
+    Mode::Previews,
     Mode::Full,
     Mode::Mixed,
 ];
@@ -105,7 +107,7 @@ fn wild_frame(rng: &mut Rng, profile: Profile, live: &Receiver, reliable: u32, p
 /// A frame that meets an open message: one more of its pieces, perhaps with another order number or channel; or a whole message with its
 /// channel, order and sequence number (or the sequence number after it), which makes it late.
 fn follow(rng: &mut Rng, profile: Profile, live: &Receiver, reliable: u32) -> Option<Vec<u8>> {
-    let open: Vec<&Cell> = live.cells.iter().filter(|c| c.used == Use::Open).collect();
+    let open: Vec<&Cell> = live.open().collect();
     if open.is_empty() {
         return None;
     }
@@ -194,6 +196,8 @@ fn style(rng: &mut Rng, mode: Mode) -> Style {
         Mode::Pieces => Style { pieces: rng.pick(&[2, 4, 12, 40]), ..IN_PIECES },
         Mode::Crowded => ORDERED,
         Mode::Levers => LEVERS,
+        Mode::Previews => PREVIEWS,
+        Mode::Mixed if rng.percent(30) => PREVIEWS,
         _ => PLAIN,
     }
 }
@@ -226,6 +230,12 @@ fn overtake(rng: &mut Rng, sender: &mut Sender, frames: &mut Vec<Frame>) {
             frames.insert(at, whole);
         }
     }
+}
+
+/// Pieces without reliable numbers that get lost: nobody sends them again.
+fn lost(rng: &mut Rng, frames: &mut Vec<Frame>) {
+    let loss = rng.pick(&[10, 30, 60]);
+    frames.retain(|f| reliable(f.kind) || f.piece.is_none() || !rng.percent(loss));
 }
 
 /// Puts pieces among the others that do not agree with them: another count, sequence number, order number or channel.
@@ -263,13 +273,18 @@ fn planned(rng: &mut Rng, profile: Profile, mode: Mode, messages: usize) -> Vec<
             overtake(rng, &mut sender, &mut frames);
             stray(rng, &mut sender, &mut frames);
         }
+        Mode::Previews => {
+            rng.shuffle(&mut frames, span);
+            lost(rng, &mut frames);
+            stray(rng, &mut sender, &mut frames);
+        }
         Mode::Crowded => frames.reverse(),
         _ => {}
     }
     let mut all = sender.pack(rng, style, &frames);
     match mode {
         Mode::Reordered => rng.shuffle(&mut all, span),
-        Mode::Levers if rng.percent(30) => again(rng, &mut sender, style, &frames, &mut all),
+        Mode::Levers | Mode::Previews if rng.percent(30) => again(rng, &mut sender, style, &frames, &mut all),
         Mode::Duplicated => again(rng, &mut sender, style, &frames, &mut all),
         Mode::Lossy | Mode::Mixed => {
             let loss = rng.from_to(5, 40);
@@ -290,8 +305,9 @@ fn planned(rng: &mut Rng, profile: Profile, mode: Mode, messages: usize) -> Vec<
     all
 }
 
-/// Bare numbers until the unsent list is full: in a row, every second one, or any.
-fn full(rng: &mut Rng) -> Vec<Vec<u8>> {
+/// Bare numbers until the unsent list is full: in a row, every second one, or any. The first ones and few others carry a piece, which may
+/// grow old.
+fn full(rng: &mut Rng, profile: Profile) -> Vec<Vec<u8>> {
     let mut numbers: Vec<u32> = match rng.below(3) {
         0 => (0..1030).collect(),
         1 => (0..1030).map(|i| 2 * i + 2).collect(),
@@ -300,14 +316,27 @@ fn full(rng: &mut Rng) -> Vec<Vec<u8>> {
     let span = rng.pick(&[1, 8, 2048]);
     rng.shuffle(&mut numbers, span);
     numbers.truncate(1030);
-    numbers.into_iter().map(|n| datagram(0x84, n, &[])).collect()
+    let first = rng.pick(&[0, 1, 3]);
+    let mut all = Vec::new();
+    for (i, n) in numbers.into_iter().enumerate() {
+        let piece = (i < first || rng.below(500) == 0).then(|| long_piece(rng, profile, n));
+        all.push(datagram(0x84, n, piece.as_slice()));
+    }
+    all
+}
+
+/// A piece of a message of many, so that it stays unfinished.
+fn long_piece(rng: &mut Rng, profile: Profile, reliable: u32) -> Vec<u8> {
+    let piece = Piece { count: MAX_FRAGS, id: rng.below(3) as u16, index: rng.below(MAX_FRAGS as usize) as u32 };
+    let kind = [0, 6, 2][piece.id as usize];
+    frame_bytes(profile, &Frame { kind, reliable, sequence: 0, order: 0, channel: 0, piece: Some(piece), body: Vec::new() }, 0, 0)
 }
 
 impl Stream {
     pub fn new(rng: &mut Rng, profile: Profile, mode: Mode, messages: usize) -> Stream {
         let planned = match mode {
             Mode::Wild | Mode::Edges => Vec::new(),
-            Mode::Full => full(rng),
+            Mode::Full => full(rng, profile),
             _ => planned(rng, profile, mode, messages),
         };
         Stream { mode, profile, planned: planned.into(), sent: Vec::new() }

@@ -2,6 +2,7 @@
 use crate::gen::mode_of;
 use crate::model::{Fates, FATES};
 use crate::programs::{expected, Input, Program};
+use crate::session::Drops;
 use crate::wire::PROFILES;
 use std::collections::BTreeMap;
 
@@ -25,6 +26,7 @@ pub struct Tally {
     trace: BTreeMap<u8, u64>,
     calls: BTreeMap<(char, u8), u64>,
     fates: Fates,
+    drops: Drops,
     longest: [usize; 3],
 }
 
@@ -46,6 +48,7 @@ impl Tally {
                 *sum += n;
             }
         }
+        self.drops.add(&run.drops);
         for (longest, now) in self.longest.iter_mut().zip([run.longest_missing, run.longest_unsent, run.longest_message]) {
             *longest = now.max(*longest);
         }
@@ -74,6 +77,13 @@ impl Tally {
                 println!("  {name:15} {}", by_kind.join(" "));
             }
         }
+        let Drops { freed, freed_none_of_open, left_unreliable, left_old_reliable, made_room } = self.drops;
+        println!("drops of unfinished messages:");
+        println!("  {freed:7} freed cells");
+        println!("  {freed_none_of_open:7} freed none, though ids were open");
+        println!("  {left_unreliable:7} freed cells and left other ids of a kind without a reliable number");
+        println!("  {left_old_reliable:7} left an id older than n of a kind with one");
+        println!("  {made_room:7} datagrams accepted after one that would have been refused with 8 without it");
         let [missing, unsent, message] = self.longest;
         println!("longest: missing list {missing}, unsent list {unsent}, message {message} bytes");
     }

@@ -2,13 +2,13 @@
 //! trace with reliable numbers alone; calls with reliable numbers alone, by kind 4 to a C++ receiver; calls with datagram numbers alone. The
 //! first and the last have 2^24 datagrams.
 use crate::gen::other_call;
-use crate::programs::{call_line, new_item, receive_item, trace_lines, with_length, Program, TRACE_CELLS};
+use crate::programs::{call_line, drop_item, new_item, receive_item, trace_lines, with_length, Program, TRACE_CELLS};
 use crate::rng::Rng;
 use crate::sender::{datagram, Sender, Style, PLAIN};
 use crate::session::Session;
 use crate::stream::{Mode, Stream};
 use crate::window::NUMBERS;
-use crate::wire::{frame_bytes, Frame, Profile};
+use crate::wire::{frame_bytes, Frame, Piece, Profile};
 use std::io::{Read, Write};
 use std::process::{Child, ChildStdin, ChildStdout, Command, Stdio};
 use std::sync::mpsc;
@@ -82,7 +82,7 @@ impl Feed {
                     self.datagram(&d);
                 }
                 if self.program == Program::Calls && rng.percent(20) {
-                    let what = rng.pick(&[1, 1, 2, 3]);
+                    let what = rng.pick(&[1, 1, 2, 3, 5]);
                     self.call(&other_call(rng, &self.live.receiver, what));
                 }
             }
@@ -149,11 +149,31 @@ fn reliable_cpp(feed: &mut Feed, rng: &mut Rng, below: u32) {
     reliable_alone(feed, rng, below);
 }
 
-/// Bare datagrams; the last ones come out of order, with gaps, among writings.
+/// The first of two pieces of kinds without reliable numbers, and of one with.
+fn halves(reliable: u32) -> Vec<Vec<u8>> {
+    let half = |kind: u8| {
+        let piece = Some(Piece { count: 2, id: kind as u16, index: 0 });
+        frame_bytes(Profile::Console, &Frame { kind, reliable, sequence: 0, order: 0, channel: 0, piece, body: vec![kind] }, 0, 0)
+    };
+    [0, 1, 2, 5, 6].map(half).to_vec()
+}
+
+/// So many datagrams go by until halves are dropped, and others come.
+const HALVES: u32 = 300_000;
+
+/// Bare datagrams, few of them with halves of messages that grow old; the last ones come out of order, with gaps, among writings.
 fn datagrams_alone(feed: &mut Feed, rng: &mut Rng, below: u32) {
     for n in 0..below - LAST {
-        feed.datagram(&datagram(0x84, n, &[]));
+        let age = n % HALVES;
+        if age == 0 {
+            for n in [HALVES - 1, HALVES - 2] {
+                feed.call(&drop_item(n));
+            }
+        }
+        let frames = if age == 0 { halves(n / HALVES) } else { Vec::new() };
+        feed.datagram(&datagram(0x84, n, &frames));
         if n % 1000 == 999 {
+            feed.call(&drop_item(age));
             feed.call(&other_call(rng, &feed.live.receiver, 3));
             feed.call(&[2, 0xFF, 0xFF]);
         }

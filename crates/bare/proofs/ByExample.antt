@@ -10,6 +10,7 @@ use Rattle.base.specs.Lists.{only}
 use Rattle.reliability.specs.declared.Profile.TheVariants.{Console}
 use Rattle.bare.specs.Frame.{Frame, carries_reliable, ordered}
 use Rattle.bare.specs.Bare.{Out, queue}
+use Rattle.bare.specs.Unfinished.{datagram}
 use Rattle.bare.specs.Order.{on_channel, line_of}
 use Rattle.bare.proofs.Shown.{whole-frame, piece-frame, msg, gave, seen, run}
 
@@ -39,8 +40,8 @@ unfolding run
 gaps-and-channels = refl
 
 -- The ordered part of the line, channel by channel; kind 1 on channel 0 is no part of it.
-pub by-channel : map (λ (c : ℕ). line_of Console c (whole-frame 3 0 1 0 20 ∷ whole-frame 1 0 0 7 5 ∷ whole-frame 3 1 0 0 10
-    ∷ whole-frame 7 2 1 1 21 ∷ [])) (0 ∷ 1 ∷ 2 ∷ [])
+pub by-channel : map (λ (c : ℕ). line_of Console c (datagram (whole-frame 3 0 1 0 20 ∷ whole-frame 1 0 0 7 5 ∷ whole-frame 3 1 0 0 10
+    ∷ whole-frame 7 2 1 1 21 ∷ []) ∷ [])) (0 ∷ 1 ∷ 2 ∷ [])
     ≡ (msg 3 0 0 (10 ∷ []) ∷ []) ∷ (msg 3 1 0 (20 ∷ []) ∷ msg 7 1 1 (21 ∷ []) ∷ []) ∷ [] ∷ []
 unfolding run line_of only on_channel
 by-channel = refl

@@ -7,6 +7,7 @@ use mathlib.Core.List.{List, [], ◌∷◌, map, Memᴰ}
 use Rattle.base.specs.Lists.{every, pairs, below}
 use Rattle.reliability.specs.declared.Profile.{Profile}
 use Rattle.bare.specs.Frame.{Frame}
+use Rattle.bare.specs.Unfinished.{Event, frames_of}
 use Rattle.bare.specs.Order.{Within, InOrder}
 use Rattle.bare.proofs.InOrder.{in_order}
 use Rattle.bare.proofs.IsBook.{implies, same_message, two_pieces, two_of_id, two_reliable, fit, index_there, stands, is_book, is_book-sound}
@@ -26,10 +27,11 @@ pub pages-pass : is_book pages ≡ true
 unfolding pages books
 pages-pass = refl
 
--- So the order theorem speaks of it: in whatever order these frames are read, some of them or all, some of them twice.
-pub pages-in-order : (p : Profile) (fs : List Frame) → Within (λ f. Memᴰ f pages) fs → (c : ℕ)
-    → InOrder p (λ f. Memᴰ f pages) fs c
-pages-in-order p fs w c = in_order p (λ f. Memᴰ f pages) (is_book-sound pages pages-pass) fs w c
+-- So the order theorem speaks of it: in whatever order these frames are read, some of them or all, some of them twice, and whatever calls
+-- of request 4 come in between.
+pub pages-in-order : (p : Profile) (es : List Event) → Within (λ f. Memᴰ f pages) (frames_of es) → (c : ℕ)
+    → InOrder p (λ f. Memᴰ f pages) es c
+pages-in-order p es w c = in_order p (λ f. Memᴰ f pages) (is_book-sound pages pages-pass) es w c
 
 -- No books: a reliable number twice; a message that is whole and split; two counts; an index twice; an index lacking; an id of two
 -- messages; a whole message twice; an ordered frame over its limits.

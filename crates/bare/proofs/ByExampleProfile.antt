@@ -7,7 +7,8 @@ use mathlib.Core.List.{List, [], ◌∷◌, map}
 use Rattle.base.specs.Lists.{only}
 use Rattle.reliability.specs.declared.Profile.TheVariants.{Console, Cpp}
 use Rattle.bare.specs.Frame.{Frame}
-use Rattle.bare.specs.Sequenced.{numbered_as, put_by, numbered_from, numbered_line, sequences_of, sequenced_on}
+use Rattle.bare.specs.Unfinished.{datagram}
+use Rattle.bare.specs.Sequenced.{numbered_as, put_by, numbered_by, numbered_from, numbered_line, sequences_of, sequenced_on}
 use Rattle.bare.proofs.Shown.{whole-frame, msg, gave, seen, run_as}
 use Rattle.bare.proofs.ByExampleSequenced.{lever}
 
@@ -45,9 +46,9 @@ unfolding run_as lever shared
 one-memory-of-kind-4 = refl
 
 -- The numbers that the theorem speaks of: kinds 1 and 4 together, channel by channel.
-pub numbers-a-channel : map (λ (c : ℕ). sequences_of (sequenced_on c) (numbered_line Cpp shared)) (2 ∷ 3 ∷ [])
-    ≡ (5 ∷ 6 ∷ 9 ∷ []) ∷ (1 ∷ []) ∷ []
-unfolding run_as shared lever numbered_line numbered_from put_by numbered_as sequences_of sequenced_on only
+pub numbers-a-channel : map (λ (c : ℕ). sequences_of (sequenced_on c) (numbered_line Cpp (map (λ (f : Frame). datagram (f ∷ [])) shared)))
+    (2 ∷ 3 ∷ []) ≡ (5 ∷ 6 ∷ 9 ∷ []) ∷ (1 ∷ []) ∷ []
+unfolding run_as shared lever numbered_line numbered_from numbered_by put_by numbered_as sequences_of sequenced_on only
 numbers-a-channel = refl
 
 -- Kind 4 has a channel now, so step 2 has its limit: channel 32 is dropped, and its reliable number is spent; 31 is within it.

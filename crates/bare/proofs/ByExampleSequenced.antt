@@ -7,7 +7,8 @@ use mathlib.Core.List.{List, [], ◌∷◌, map}
 use Rattle.base.specs.Lists.{only}
 use Rattle.reliability.specs.declared.Profile.TheVariants.{Console}
 use Rattle.bare.specs.Frame.{Frame, sequenced}
-use Rattle.bare.specs.Sequenced.{numbered_as, put_by, numbered_from, numbered_line, sequences_of, kind1_on, kind4}
+use Rattle.bare.specs.Unfinished.{datagram}
+use Rattle.bare.specs.Sequenced.{numbered_as, put_by, numbered_by, numbered_from, numbered_line, sequences_of, kind1_on, kind4}
 use Rattle.bare.proofs.Shown.{whole-frame, msg, gave, seen, run}
 
 -- A whole frame of a sequenced kind: its reliable number (0 for kind 1), channel (0 for kind 4) and sequence number, and one byte.
@@ -98,8 +99,8 @@ unfoldable pub some-levers : List Frame
 some-levers = half 1 0 2 5 7 0 10 ∷ lever 1 0 2 6 11 ∷ lever 4 0 0 3 12 ∷ half 1 0 2 5 7 1 13 ∷ lever 1 0 3 1 14 ∷ half 1 0 2 8 7 1 15
     ∷ lever 1 0 2 7 16 ∷ half 1 0 2 8 7 0 17 ∷ lever 4 1 0 9 18 ∷ lever 4 2 0 9 19 ∷ []
 
-pub numbers-in-the-line : (sequences_of (kind1_on 2) (numbered_line Console some-levers) ≡ 6 ∷ 7 ∷ 8 ∷ [])
-    × (sequences_of (kind1_on 3) (numbered_line Console some-levers) ≡ 1 ∷ [])
-    × (sequences_of kind4 (numbered_line Console some-levers) ≡ 3 ∷ 9 ∷ [])
-unfolding run some-levers lever half numbered_line numbered_from put_by numbered_as sequences_of kind1_on kind4 only
+pub numbers-in-the-line : (sequences_of (kind1_on 2) (numbered_line Console (datagram some-levers ∷ [])) ≡ 6 ∷ 7 ∷ 8 ∷ [])
+    × (sequences_of (kind1_on 3) (numbered_line Console (datagram some-levers ∷ [])) ≡ 1 ∷ [])
+    × (sequences_of kind4 (numbered_line Console (datagram some-levers ∷ [])) ≡ 3 ∷ 9 ∷ [])
+unfolding run some-levers lever half numbered_line numbered_from numbered_by put_by numbered_as sequences_of kind1_on kind4 only
 numbers-in-the-line = (refl, refl, refl)

@@ -14,12 +14,14 @@ use Rattle.base.proofs.Choices.{cases, neither}
 use Rattle.base.proofs.EachAt.{EachAt-length, EachAt-get, EachAt-at}
 use Rattle.reliability.specs.declared.Profile.{Profile}
 use Rattle.bare.specs.Frame.{Frame, Message, piece_of}
-use Rattle.bare.specs.Bare.{Bare, new, feed}
+use Rattle.bare.specs.Bare.{Bare}
+use Rattle.bare.specs.Unfinished.{new_dated, Event, after_events, frames_of}
 use Rattle.bare.specs.Book.{Of, Book, Joins, Written, Arrived}
 use Rattle.bare.specs.Order.{line_for, line_of, Within, HasArrived, InOrder}
 use Rattle.bare.proofs.Channel.{Passed}
 use Rattle.bare.proofs.Join.{joined-there}
-use Rattle.bare.proofs.Invariant.{Inv, all-inv}
+use Rattle.bare.proofs.Invariant.{Inv}
+use Rattle.bare.proofs.Events.{all-inv}
 
 module _ (B : Frame → Type 0) (book : Book B) where
   -- The order number next on a channel has not arrived.
@@ -94,59 +96,60 @@ module _ (B : Frame → Type 0) (book : Book B) where
       )
 
 -- Where all frames read stand in a sender's book, the line has of each channel exactly the book's messages before the first order number
--- not arrived, in order, once each.
-pub in_order : (p : Profile) (B : Frame → Type 0) → Book B → (fs : List Frame) → Within B fs → (c : ℕ) → InOrder p B fs c
+-- not arrived, in order, once each, whatever calls of request 4 were among the datagrams.
+pub in_order : (p : Profile) (B : Frame → Type 0) → Book B → (es : List Event) → Within B (frames_of es) → (c : ℕ) → InOrder p B es c
 unfolding line_of line_for
-in_order p B book fs h c =
-    let v = all-inv B book p fs h in
-    let b = (feed (new p) fs).after in
+in_order p B book es h c =
+    let v = all-inv B book p es h in
+    let b = (after_events (new_dated p) es).bare in
     let run = v.chan.line-good c in
     record {
       first_absent = b.out.next c;
       absent = next-absent B book _ b v c;
       before = λ o lt. (EachAt-at _ (b.out.next c) _ run o lt).1.arrived;
-      long = EachAt-length _ (b.out.next c) (line_of p c fs) run;
-      at = λ o lt d. (EachAt-get _ (b.out.next c) (line_of p c fs) run o lt d).written;
+      long = EachAt-length _ (b.out.next c) (line_of p c es) run;
+      at = λ o lt d. (EachAt-get _ (b.out.next c) (line_of p c es) run o lt d).written;
     }
 
 -- Where no less arrived, the first order number not arrived is no lower.
-no-later-absent : {p q : Profile} {B : Frame → Type 0} {fs gs : List Frame} {c : ℕ} (v : InOrder p B fs c) (w : InOrder q B gs c)
-    → ((o : ℕ) → HasArrived B fs c o → HasArrived B gs c o) → v.first_absent ≤ w.first_absent
+no-later-absent : {p q : Profile} {B : Frame → Type 0} {es es' : List Event} {c : ℕ} (v : InOrder p B es c) (w : InOrder q B es' c)
+    → ((o : ℕ) → HasArrived B (frames_of es) c o → HasArrived B (frames_of es') c o) → v.first_absent ≤ w.first_absent
 no-later-absent v w up = cases (ltb w.first_absent v.first_absent)
     (λ t. absurd (w.absent (up _ (v.before _ (ltb-true _ _ t)))))
     (λ t. ltb-false _ _ t)
 
 -- Two lines, the first no longer, agree as far as the first goes: the book says what they have, whatever the receivers' profiles.
-agree-so-far : {p q : Profile} {B : Frame → Type 0} → Book B → {fs gs : List Frame} {c : ℕ} (v : InOrder p B fs c) (w : InOrder q B gs c)
-    → v.first_absent ≤ w.first_absent → line_of p c fs ≡ take v.first_absent (line_of q c gs)
-agree-so-far {p} {q} {B} book {fs} {gs} {c} v w le = ext_get_or blank (line_of p c fs) (take v.first_absent (line_of q c gs))
-    (v.long ∙ sym (length-take-le v.first_absent (line_of q c gs) (omega (arith, w.long))))
+agree-so-far : {p q : Profile} {B : Frame → Type 0} → Book B → {es es' : List Event} {c : ℕ} (v : InOrder p B es c) (w : InOrder q B es' c)
+    → v.first_absent ≤ w.first_absent → line_of p c es ≡ take v.first_absent (line_of q c es')
+agree-so-far {p} {q} {B} book {es} {es'} {c} v w le = ext_get_or blank (line_of p c es) (take v.first_absent (line_of q c es'))
+    (v.long ∙ sym (length-take-le v.first_absent (line_of q c es') (omega (arith, w.long))))
     (λ i lt.
     let lt' : i < v.first_absent = omega (arith, v.long) in
-    rw (get_or-take v.first_absent (line_of q c gs) i blank lt')
+    rw (get_or-take v.first_absent (line_of q c es') i blank lt')
     (Written-unique B book c i _ _ (v.at i lt' blank) (w.at i (omega arith) blank)))
   where
     blank : Message
     blank = record { kind = 0; channel = 0; order = 0; body = [] }
 
--- Equal arrivals give equal lines, whatever the order they came in and whatever the profiles.
-pub same_line : (p q : Profile) (B : Frame → Type 0) → Book B → (fs gs : List Frame) → Within B fs → Within B gs → (c : ℕ)
-    → ((o : ℕ) → HasArrived B fs c o → HasArrived B gs c o) → ((o : ℕ) → HasArrived B gs c o → HasArrived B fs c o) → line_of p c fs
-    ≡ line_of q c gs
-same_line p q B book fs gs h k c up down =
-    let v = in_order p B book fs h c in
-    let w = in_order q B book gs k c in
+-- Equal arrivals give equal lines, whatever the order they came in, the calls of request 4 among them and the profiles.
+pub same_line : (p q : Profile) (B : Frame → Type 0) → Book B → (es es' : List Event) → Within B (frames_of es)
+    → Within B (frames_of es') → (c : ℕ) → ((o : ℕ) → HasArrived B (frames_of es) c o → HasArrived B (frames_of es') c o)
+    → ((o : ℕ) → HasArrived B (frames_of es') c o → HasArrived B (frames_of es) c o) → line_of p c es ≡ line_of q c es'
+same_line p q B book es es' h k c up down =
+    let v = in_order p B book es h c in
+    let w = in_order q B book es' k c in
     let le : v.first_absent ≤ w.first_absent = no-later-absent v w up in
     let ge : w.first_absent ≤ v.first_absent = no-later-absent w v down in
-    agree-so-far book v w le ∙ take_all v.first_absent (line_of q c gs) (omega (arith, w.long))
+    agree-so-far book v w le ∙ take_all v.first_absent (line_of q c es') (omega (arith, w.long))
 
 -- Where all that arrived of a channel in the first list also arrived in the second, the first's begin the second's.
-pub begins : (p q : Profile) (B : Frame → Type 0) → Book B → (fs gs : List Frame) → Within B fs → Within B gs → (c : ℕ)
-    → ((o : ℕ) → HasArrived B fs c o → HasArrived B gs c o) → (rest : List Message) × (line_of q c gs ≡ line_of p c fs ++ rest)
-begins p q B book fs gs h k c up =
-    let v = in_order p B book fs h c in
-    let w = in_order q B book gs k c in (
-      drop v.first_absent (line_of q c gs),
+pub begins : (p q : Profile) (B : Frame → Type 0) → Book B → (es es' : List Event) → Within B (frames_of es) → Within B (frames_of es')
+    → (c : ℕ) → ((o : ℕ) → HasArrived B (frames_of es) c o → HasArrived B (frames_of es') c o)
+    → (rest : List Message) × (line_of q c es' ≡ line_of p c es ++ rest)
+begins p q B book es es' h k c up =
+    let v = in_order p B book es h c in
+    let w = in_order q B book es' k c in (
+      drop v.first_absent (line_of q c es'),
       rw (agree-so-far book v w (no-later-absent v w up))
-          (sym (take-append-drop v.first_absent (line_of q c gs))),
+          (sym (take-append-drop v.first_absent (line_of q c es'))),
     )

@@ -75,7 +75,7 @@ module _ (B : Frame → Type 0) (book : Book B) where
   }
 
   -- The invariant is one about which frames were read, however that is said.
-  Inv-same : {R S : Frame → Type 0} (b : Bare) → ((f : Frame) → R f → S f) → ((f : Frame) → S f → R f) → Inv R b → Inv S b
+  pub Inv-same : {R S : Frame → Type 0} (b : Bare) → ((f : Frame) → R f → S f) → ((f : Frame) → S f → R f) → Inv R b → Inv S b
   Inv-same b h k v = record {
     sub = λ f s. v.sub f (k f s);
     numbers = record {
@@ -356,8 +356,8 @@ module _ (B : Frame → Type 0) (book : Book B) where
       old r f (inl q) = q
       old r f (inr e) = subst R (sym e) r
 
-  -- All frames.
-  feed-inv : (R : Frame → Type 0) (b : Bare) → Inv R b → (fs : List Frame) → ((f : Frame) → Memᴰ f fs → B f)
+  -- A datagram's frames.
+  pub feed-inv : (R : Frame → Type 0) (b : Bare) → Inv R b → (fs : List Frame) → ((f : Frame) → Memᴰ f fs → B f)
       → Inv (λ f. R f ⊎ Memᴰ f fs) (feed b fs).after
   unfolding feed
   feed-inv R b v [] h = Inv-same b (λ f r. inl r) old v
@@ -381,7 +381,7 @@ module _ (B : Frame → Type 0) (book : Book B) where
       back f (inl r) = inl (inl r)
       back f (inr i) = back' f (Memᴰ.cases_cons i)
 
-  new-inv : (p : Profile) → Inv (λ f. ⊥) (new p)
+  pub new-inv : (p : Profile) → Inv (λ f. ⊥) (new p)
   unfolding new only
   new-inv p = record {
     sub = λ f r. absurd r;
@@ -394,10 +394,3 @@ module _ (B : Frame → Type 0) (book : Book B) where
       line-good = λ c. refl;
     };
   }
-
-  pub all-inv : (p : Profile) (fs : List Frame) → ((f : Frame) → Memᴰ f fs → B f) → Inv (λ f. Memᴰ f fs) (feed (new p) fs).after
-  all-inv p fs h = Inv-same _ there (λ f i. inr i) (feed-inv (λ f. ⊥) (new p) (new-inv p) fs h)
-    where
-      there : (f : Frame) → ⊥ ⊎ Memᴰ f fs → Memᴰ f fs
-      there f (inl r) = absurd r
-      there f (inr i) = i

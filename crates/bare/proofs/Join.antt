@@ -2,15 +2,15 @@
 -- Assumes nothing.
 use Prim.Native.Nat.{ℕ, zero, suc, ◌<◌}
 use mathlib.Core.Path.{◌≡◌, refl, sym, ◌∙◌}
-use mathlib.Core.Bool.{true}
+use mathlib.Core.Bool.{Bool, true}
 use mathlib.Core.Option.{Option, none, some}
 use mathlib.Core.List.{List, [], ◌∷◌, ◌++◌, Memᴰ}
 use native.Mathlib.Omega.{arith}
 use lib.Dec.{eqb}
 use borrow.Author.Tests.{eqb-true, eqb-false}
 use Rattle.base.specs.Lists.{option, find, without}
-use Rattle.base.proofs.Choices.{cases, neither}
-use Rattle.base.proofs.Lists.{find-some, find_none, find-without}
+use Rattle.base.proofs.Choices.{cases, case_option, neither}
+use Rattle.base.proofs.Lists.{find-some, find_none, find-without, without-mem}
 use Rattle.bare.specs.Frame.{Frame, Piece, piece_of}
 use Rattle.bare.specs.Bare.{is_piece_at, has_id, joined}
 use Rattle.bare.specs.Book.{Of, Joins}
@@ -29,7 +29,7 @@ joined-skip f l id n h = joined_same (f ∷ l) l id n (λ i. rw (is_piece-other 
 
 pub joined-without : (c : ℕ) (l : List Piece) (id n : ℕ) → (id ≡ c → ⊥) → joined (without (has_id c) l) id n ≡ joined l id n
 joined-without c l id n h = joined_same _ l id n
-    (λ i. find-without _ _ l (λ g e. is_piece-other id i g (λ q. h (sym q ∙ has_id-true c g e))))
+    (λ i. find-without _ _ l (λ g m e. is_piece-other id i g (λ q. h (sym q ∙ has_id-true c g e))))
 
 -- What a join is made of.
 pub joined-piece : (l : List Piece) (id n : ℕ) (body : List ℕ) → joined l id n ≡ some body → (i : ℕ) → i < n → (g : Piece) × Memᴰ g l
@@ -82,3 +82,8 @@ joined-there l id (suc n) h e = go (joined l id n) refl (find (is_piece_at id n)
     go (some b) q none r e rest = let k = h n (omega arith) in neither (is_piece_at id n k.0) (is_piece-there id n k.0 k.2 k.3)
         (find_none _ _ r k.0 k.1)
     go (some b) q (some g) r e rest = let z : ◌≡◌ {A = ℕ} 0 1 = cc in omega arith
+
+-- Fewer pieces make no join that lacked one.
+pub joined-fewer : (p : Piece → Bool) (l : List Piece) (id n : ℕ) → joined l id n ≡ none → joined (without p l) id n ≡ none
+joined-fewer p l id n e = case_option (joined (without p l) id n) (λ t. t) (λ body t. absurd (joined-there l id n
+    (λ i lt. let k = joined-piece (without p l) id n body t i lt in (k.0, (without-mem p l k.0 k.1).0, k.2, k.3)) e))

@@ -2,9 +2,10 @@ pub mod OrderedKinds
 pub mod Tests
 pub mod Channel
 pub mod Join
+pub mod Unfinished
 pub mod Invariant
+pub mod Events
 pub mod InOrder
-pub mod Feed
 pub mod Profile
 pub mod Same
 pub mod Sequenced
@@ -13,4 +14,5 @@ pub mod Shown
 pub mod ByExample
 pub mod ByExampleSequenced
 pub mod ByExampleProfile
+pub mod ByExampleAges
 pub mod ByExampleBook

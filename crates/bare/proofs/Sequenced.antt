@@ -1,10 +1,10 @@
 -- Late sequenced messages are discarded: the sequence numbers in the line rise.
 -- Assumes nothing.
 use Prim.Native.Nat.{ℕ, zero, suc, ◌≤◌}
-use mathlib.Core.Path.{◌≡◌, refl, sym, ◌∙◌, ap}
+use mathlib.Core.Path.{◌≡◌, refl, sym, ◌∙◌, ap, subst}
 use mathlib.Core.Bool.{Bool, true, false, ◌||◌, false≢true}
 use mathlib.Core.List.Memᴰ
-use mathlib.Core.List.{List, [], ◌∷◌, ◌++◌, map, append_assoc, append-nil, Memᴰ}
+use mathlib.Core.List.{List, [], ◌∷◌, ◌++◌, map, map-append, append_assoc, append-nil, Memᴰ}
 use native.Mathlib.Omega.{arith}
 use native.Mathlib.Numerals.{add-one}
 use lib.ListN.{length}
@@ -22,9 +22,10 @@ use Rattle.bare.specs.Bare.{Out, Bare, Sent, Fed, new, is_at, emit, follow, quie
 use Rattle.bare.specs.Bare.{remember, ready, sequence, deliver, Kept, refused, waiting, complete, assemble, seen_before}
 use Rattle.bare.specs.Bare.{drop_in, finish, step, feed}
 use Rattle.bare.specs.Order.{line_for}
-use Rattle.bare.specs.Sequenced.{NumberedMessage, numbered_as, put_by, numbered_from, numbered_line, sequences_of, kind1_on, kind4}
-use Rattle.bare.specs.Sequenced.{sequenced_on, RisesFrom}
-use Rattle.bare.proofs.Profile.{step-profile}
+use Rattle.bare.specs.Sequenced.{NumberedMessage, numbered_as, put_by, numbered_by, numbered_from, numbered_line, sequences_of, kind1_on}
+use Rattle.bare.specs.Sequenced.{kind4, sequenced_on, RisesFrom}
+use Rattle.bare.specs.Unfinished.{Dated, new_dated, receive_dated, drop_stale, Event, datagram, drop_past, happens, after_events}
+use Rattle.bare.proofs.Profile.{step-profile, feed-profile}
 
 -- No kind is both ordered and sequenced.
 pub ordered-unsequenced : (k : ℕ) → ordered k ≡ true → sequenced k ≡ false
@@ -158,7 +159,29 @@ module _ (profile : Profile) (p : Message → Bool) (i : ℕ) (own : (m : Messag
       same : Puts f.sequence b.out b.out
       same = others_put f.sequence b.out b.out (others_same b.out h)
 
-  -- The numbers of the messages that a frame put, before those of the frames after it.
+  -- The messages of l were put at the end of the line: the numbers of the memory's rise from what it was, before any that follow.
+  record Numbers (o o' : Out) (l : List NumberedMessage) : Type 0 where
+    pub line : o.line ++ map (λ (x : NumberedMessage). x.message) l ≡ o'.line
+    pub held : AllOrdered o'.held
+    pub rises : (rest : List NumberedMessage) → RisesFrom (o'.newest i) (sequences_of p rest)
+        → RisesFrom (o.newest i) (sequences_of p (l ++ rest))
+
+  no-numbers : (o : Out) → AllOrdered o.held → Numbers o o []
+  no-numbers o h = record { line = append-nil o.line; held = h; rises = λ rest r. r }
+
+  numbers-then : (o o' o'' : Out) (l l' : List NumberedMessage) → Numbers o o' l → Numbers o' o'' l' → Numbers o o'' (l ++ l')
+  numbers-then o o' o'' l l' v w = record {
+    line = rw (
+      map-append (λ (x : NumberedMessage). x.message) l l',
+      ← append_assoc o.line (map (λ (x : NumberedMessage). x.message) l) (map (λ (x : NumberedMessage). x.message) l'),
+      v.line,
+    )
+        w.line;
+    held = w.held;
+    rises = λ rest r. rw (append_assoc l l' rest) (v.rises (l' ++ rest) (w.rises rest r));
+  }
+
+  -- The messages that a frame put have its number.
   numbers-cons : (n : ℕ) (l : List Message) (rest : List NumberedMessage) → sequences_of p (map (numbered_as n) l ++ rest)
       ≡ map (λ (m : Message). n) (only p l) ++ sequences_of p rest
   unfolding sequences_of only numbered_as
@@ -166,44 +189,49 @@ module _ (profile : Profile) (p : Message → Bool) (i : ℕ) (own : (m : Messag
   numbers-cons n (m ∷ l) rest = cases (p m) (λ t. rw t (ap (λ (x : List ℕ). n ∷ x) (numbers-cons n l rest)))
       (λ t. rw t (numbers-cons n l rest))
 
-  from-rises : (b : Bare) (fs : List Frame) → b.out.profile ≡ profile → AllOrdered b.out.held
-      → RisesFrom (b.out.newest i) (sequences_of p (numbered_from b fs))
-  unfolding numbered_from put_by
-  from-rises b [] q h = unfold sequences_of only in tt
-  from-rises b (f ∷ fs) q h =
-      let v = step-puts b f q h in
-      rw (v.line, drop-append_seam b.out.line v.put, numbers-cons f.sequence v.put (numbered_from (step b f).after fs))
-      (v.rises _ (from-rises (step b f).after fs (step-profile b f ∙ q) v.held))
+  messages : (n : ℕ) (l : List Message) → map (λ (x : NumberedMessage). x.message) (map (numbered_as n) l) ≡ l
+  unfolding numbered_as
+  messages n [] = refl
+  messages n (m ∷ l) = ap (λ (x : List Message). m ∷ x) (messages n l)
 
-  pub memory-rises : (fs : List Frame) → RisesFrom 0 (sequences_of p (numbered_line profile fs))
-  unfolding numbered_line new
-  memory-rises fs = from-rises (new profile) fs refl (λ m j. absurd (Memᴰ.not-nil j))
+  step-numbers : (b : Bare) (f : Frame) → b.out.profile ≡ profile → AllOrdered b.out.held
+      → Numbers b.out (step b f).after.out (map (numbered_as f.sequence) (put_by b f))
+  unfolding put_by
+  step-numbers b f q h =
+      let v = step-puts b f q h in
+      rw (v.line, drop-append_seam b.out.line v.put) (record {
+        line = rw (messages f.sequence v.put) (sym v.line);
+        held = v.held;
+        rises = λ rest r. rw (numbers-cons f.sequence v.put rest) (v.rises _ r);
+      })
+
+  by-numbers : (b : Bare) (fs : List Frame) → b.out.profile ≡ profile → AllOrdered b.out.held
+      → Numbers b.out (feed b fs).after.out (numbered_by b fs)
+  unfolding numbered_by feed
+  by-numbers b [] q h = no-numbers b.out h
+  by-numbers b (f ∷ fs) q h =
+      let v = step-numbers b f q h in
+      numbers-then _ _ _ _ _ v (by-numbers (step b f).after fs (step-profile b f ∙ q) v.held)
+
+  from-numbers : (d : Dated) (es : List Event) → d.bare.out.profile ≡ profile → AllOrdered d.bare.out.held
+      → Numbers d.bare.out (after_events d es).bare.out (numbered_from d es)
+  unfolding numbered_from after_events happens receive_dated drop_stale
+  from-numbers d [] q h = no-numbers d.bare.out h
+  from-numbers d (datagram fs ∷ es) q h =
+      let v = by-numbers d.bare fs q h in
+      numbers-then _ _ _ _ _ v (from-numbers (receive_dated fs d) es (feed-profile d.bare fs ∙ q) v.held)
+  from-numbers d (drop_past n ∷ es) q h = from-numbers (drop_stale n d) es q h
+
+  pub memory-rises : (es : List Event) → RisesFrom 0 (sequences_of p (numbered_line profile es))
+  unfolding numbered_line new_dated new
+  memory-rises es = subst (λ (l : List NumberedMessage). RisesFrom 0 (sequences_of p l)) (append-nil (numbered_line profile es))
+      ((from-numbers (new_dated profile) es refl (λ m j. absurd (Memᴰ.not-nil j))).rises [] (unfold sequences_of only in tt))
 
 -- The messages of the numbered line are the line's, in its order.
-numbered-from : (b : Bare) (fs : List Frame) → AllOrdered b.out.held
-    → b.out.line ++ map (λ (x : NumberedMessage). x.message) (numbered_from b fs) ≡ (feed b fs).after.out.line
-unfolding numbered_from put_by feed numbered_as
-numbered-from b [] h = append-nil b.out.line
-numbered-from b (f ∷ fs) h =
-    let v = step-puts b.out.profile (λ m. false) 0 (λ m e. absurd (false≢true e)) b f refl h in
-    rw (
-      v.line,
-      drop-append_seam b.out.line v.put,
-      messages v.put (numbered_from (step b f).after fs),
-      ← append_assoc b.out.line v.put (map (λ (x : NumberedMessage). x.message) (numbered_from (step b f).after fs)),
-      ← v.line,
-    )
-    (numbered-from (step b f).after fs v.held)
-  where
-    messages : (l : List Message) (rest : List NumberedMessage)
-        → map (λ (x : NumberedMessage). x.message) (map (numbered_as f.sequence) l ++ rest)
-        ≡ l ++ map (λ (x : NumberedMessage). x.message) rest
-    messages [] rest = refl
-    messages (m ∷ l) rest = ap (λ (x : List Message). m ∷ x) (messages l rest)
-
-pub line-numbered : (p : Profile) (fs : List Frame) → map (λ (x : NumberedMessage). x.message) (numbered_line p fs) ≡ line_for p fs
-unfolding numbered_line line_for new
-line-numbered p fs = numbered-from (new p) fs (λ m j. absurd (Memᴰ.not-nil j))
+pub line-numbered : (p : Profile) (es : List Event) → map (λ (x : NumberedMessage). x.message) (numbered_line p es) ≡ line_for p es
+unfolding numbered_line line_for new_dated new
+line-numbered p es = (from-numbers p (λ m. false) 0 (λ m e. absurd (false≢true e)) (new_dated p) es refl
+    (λ m j. absurd (Memᴰ.not-nil j))).line
 
 -- Kind 1 uses its channel's memory in either profile.
 kind-1-memory : (p : Profile) (kind channel : ℕ) → kind ≡ 1 → memory_of p kind channel ≡ channel
@@ -212,18 +240,18 @@ kind-1-memory Console kind channel k = rw k
 kind-1-memory Cpp kind channel k = refl
 
 -- On one channel the sequence numbers of the kind 1 messages in the line rise strictly: none comes late, none twice.
-pub kind-1-rises : (p : Profile) (fs : List Frame) (c : ℕ) → RisesFrom 0 (sequences_of (kind1_on c) (numbered_line p fs))
+pub kind-1-rises : (p : Profile) (es : List Event) (c : ℕ) → RisesFrom 0 (sequences_of (kind1_on c) (numbered_line p es))
 unfolding kind1_on sequenced
-kind-1-rises p fs c = memory-rises p (kind1_on c) c (λ m e. let k : m.kind ≡ 1 = eqb-true m.kind 1 (and_left (eqb m.kind 1) _ e) in
-    (rw k, kind-1-memory p m.kind m.channel k ∙ eqb-true m.channel c (and_right (eqb m.kind 1) _ e))) fs
+kind-1-rises p es c = memory-rises p (kind1_on c) c (λ m e. let k : m.kind ≡ 1 = eqb-true m.kind 1 (and_left (eqb m.kind 1) _ e) in
+    (rw k, kind-1-memory p m.kind m.channel k ∙ eqb-true m.channel c (and_right (eqb m.kind 1) _ e))) es
 
 -- In the console profile those of the kind 4 messages rise strictly in the whole line;
-pub kind-4-rises : (fs : List Frame) → RisesFrom 0 (sequences_of kind4 (numbered_line Console fs))
+pub kind-4-rises : (es : List Event) → RisesFrom 0 (sequences_of kind4 (numbered_line Console es))
 unfolding kind4 sequenced memory_of
-kind-4-rises fs = memory-rises Console kind4 max_ord_chans (λ m e. let k : m.kind ≡ 4 = eqb-true m.kind 4 e in (rw k, rw k)) fs
+kind-4-rises es = memory-rises Console kind4 max_ord_chans (λ m e. let k : m.kind ≡ 4 = eqb-true m.kind 4 e in (rw k, rw k)) es
 
 -- in the C++ profile, on one channel, those of kinds 1 and 4 together.
-pub kinds-1-and-4-rise : (fs : List Frame) (c : ℕ) → RisesFrom 0 (sequences_of (sequenced_on c) (numbered_line Cpp fs))
+pub kinds-1-and-4-rise : (es : List Event) (c : ℕ) → RisesFrom 0 (sequences_of (sequenced_on c) (numbered_line Cpp es))
 unfolding sequenced_on memory_of
-kinds-1-and-4-rise fs c = memory-rises Cpp (sequenced_on c) c
-    (λ m e. (and_left (sequenced m.kind) _ e, eqb-true m.channel c (and_right (sequenced m.kind) _ e))) fs
+kinds-1-and-4-rise es c = memory-rises Cpp (sequenced_on c) c
+    (λ m e. (and_left (sequenced m.kind) _ e, eqb-true m.channel c (and_right (sequenced m.kind) _ e))) es

@@ -156,7 +156,7 @@ assemble f l = cond f.piece (keep f l) (complete l (message f f.body))
 
 -- ---- steps 1 and 2
 
--- "Reliable number accepted before: drop. Else accept_reliable it."
+-- "Reliable number accepted before: drop. Else accept it."
 unfoldable pub seen_before : Frame → (ℕ → Bool) → Bool
 seen_before f a = carries_reliable f.kind && a f.reliable
 

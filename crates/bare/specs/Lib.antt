@@ -1,5 +1,6 @@
 pub mod Frame
 pub mod Bare
+pub mod Unfinished
 pub mod Book
 pub mod Order
 pub mod Sequenced

@@ -3,7 +3,8 @@ use Rattle.std.specs.Prelude.{ℕ, suc, ◌≤◌, Bool, ◌&&◌, List, [], ◌
 use Rattle.base.specs.Lists.{only}
 use Rattle.reliability.specs.declared.Profile.{Profile}
 use Rattle.bare.specs.Frame.{Frame, Message, sequenced}
-use Rattle.bare.specs.Bare.{Bare, new, step}
+use Rattle.bare.specs.Bare.{Bare, step}
+use Rattle.bare.specs.Unfinished.{Dated, new_dated, receive_dated, drop_stale, Event, datagram, drop_past}
 
 -- a message of the line, with the sequence number of the frame that put it there
 pub record NumberedMessage : Type 0 where
@@ -17,13 +18,19 @@ numbered_as n m = record { sequence = n; message = m }
 unfoldable pub put_by : Bare → Frame → List Message
 put_by b f = drop (length b.out.line) (step b f).after.out.line
 
--- what frames read put at the end of the line, each message with the sequence number of the frame that put it there
-unfoldable pub numbered_from : Bare → List Frame → List NumberedMessage
-numbered_from b [] = []
-numbered_from b (f ∷ fs) = map (numbered_as f.sequence) (put_by b f) ++ numbered_from (step b f).after fs
+-- what a datagram's frames put at the end of the line, each message with the sequence number of the frame that put it there
+unfoldable pub numbered_by : Bare → List Frame → List NumberedMessage
+numbered_by b [] = []
+numbered_by b (f ∷ fs) = map (numbered_as f.sequence) (put_by b f) ++ numbered_by (step b f).after fs
 
-unfoldable pub numbered_line : Profile → List Frame → List NumberedMessage
-numbered_line p fs = numbered_from (new p) fs
+-- the same of all that a list told the bare receiver
+unfoldable pub numbered_from : Dated → List Event → List NumberedMessage
+numbered_from d [] = []
+numbered_from d (datagram fs ∷ es) = numbered_by d.bare fs ++ numbered_from (receive_dated fs d) es
+numbered_from d (drop_past n ∷ es) = numbered_from (drop_stale n d) es
+
+unfoldable pub numbered_line : Profile → List Event → List NumberedMessage
+numbered_line p es = numbered_from (new_dated p) es
 
 -- the sequence numbers of the messages that pass, in the line's order
 unfoldable pub sequences_of : (Message → Bool) → List NumberedMessage → List ℕ

@@ -8,8 +8,8 @@ use mathlib.Core.List.Memᴰ
 use mathlib.Core.List.{List, [], ◌∷◌, map, Memᴰ}
 use native.Mathlib.Omega.{arith}
 use lib.ListN.{length}
-use Rattle.base.specs.Lists.{any, count_of}
-use Rattle.base.proofs.Choices.{or_left, or_right, neither}
+use Rattle.base.specs.Lists.{any, count_of, without}
+use Rattle.base.proofs.Choices.{cases, or_left, or_right, neither}
 
 module _ {A : Type 0} where
   pub count_map : (p q : A → Bool) (h : A → A) (l : List A) → ((x : A) → Memᴰ x l → p (h x) ≡ q x) → count_of p (map h l) ≡ count_of q l
@@ -112,3 +112,25 @@ module _ {A : Type 0} where
           cond (not t) (suc (count_of (λ x. not (p x)) l)) (count_of (λ x. not (p x)) l)
       go true e = omega arith
       go false e = omega arith
+
+  -- Of a list without those that pass q: what passes p, and did not pass q.
+  pub count-without : (p q : A → Bool) (l : List A) → count_of p (without q l) ≡ count_of (λ x. p x && not (q x)) l
+  unfolding count_of without
+  count-without p q [] = refl
+  count-without p q (x ∷ l) = go (q x) (p x) refl (count-without p q l)
+    where
+      go : (t u : Bool) → p x ≡ u → count_of p (without q l) ≡ count_of (λ x. p x && not (q x)) l
+          → count_of p (cond t (without q l) (x ∷ without q l))
+          ≡ cond (u && not t) (suc (count_of (λ x. p x && not (q x)) l)) (count_of (λ x. p x && not (q x)) l)
+      go true true y e = e
+      go true false y e = e
+      go false true y e = rw y (ap suc e)
+      go false false y e = rw (y, e)
+
+-- Where as many pass in the one list as in the other, any passes in both or in neither.
+pub any-counted : {A B : Type 0} (p : A → Bool) (q : B → Bool) (l : List A) (m : List B) → count_of p l ≡ count_of q m → any p l ≡ any q m
+any-counted p q l m e = cases (any p l)
+    (λ y. cases (any q m) (λ z. y ∙ sym z)
+    (λ z. let a = count-some p l y in let b = count_none q m z in absurd (omega arith)))
+    (λ y. cases (any q m) (λ z. let a = count_none p l y in let b = count-some q m z in absurd (omega arith))
+    (λ z. y ∙ sym z))

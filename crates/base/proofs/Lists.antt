@@ -3,7 +3,7 @@
 use Prim.Native.Nat.{ℕ, zero, suc, ◌≤◌, ◌<◌}
 use mathlib.Core.Path.{◌≡◌, refl, sym, ◌∙◌, ap}
 use mathlib.Core.Logic.{◌⊎◌, inl, inr}
-use mathlib.Core.Bool.{Bool, true, false, cond, not, ◌&&◌, ◌||◌, true≢false, false≢true}
+use mathlib.Core.Bool.{Bool, true, false, cond, ◌&&◌, ◌||◌, true≢false, false≢true}
 use mathlib.Core.Option.{Option, none, some}
 use mathlib.Core.List.Memᴰ
 use mathlib.Core.List.{List, [], ◌∷◌, ◌++◌, map, append-nil, Memᴰ}
@@ -85,13 +85,13 @@ module _ {A : Type 0} where
       go false t (inr m') rest = Memᴰ.tail (rest m')
 
   -- What a test finds is not changed by taking out elements that it fails.
-  pub find-without : (p q : A → Bool) (l : List A) → ((x : A) → q x ≡ true → p x ≡ false) → find p (without q l) ≡ find p l
+  pub find-without : (p q : A → Bool) (l : List A) → ((x : A) → Memᴰ x l → q x ≡ true → p x ≡ false) → find p (without q l) ≡ find p l
   unfolding find without
   find-without p q [] h = refl
-  find-without p q (y ∷ ys) h = go (q y) refl (find-without p q ys h)
+  find-without p q (y ∷ ys) h = go (q y) refl (find-without p q ys (λ x m. h x (Memᴰ.tail m)))
     where
       go : (t : Bool) → q y ≡ t → find p (without q ys) ≡ find p ys → find p (cond t (without q ys) (y ∷ without q ys)) ≡ find p (y ∷ ys)
-      go true t r = rw (h y t) r
+      go true t r = rw (h y (Memᴰ.head refl) t) r
       go false t r = ap (cond (p y) (some y)) r
 
   pub length-without-le : (p : A → Bool) (l : List A) → length (without p l) ≤ length l
@@ -151,18 +151,6 @@ module _ {A : Type 0} where
 
   pub find-no : (p : A → Bool) (l : List A) → any p l ≡ false → find p l ≡ none
   find-no p l e = case_option (find p l) (λ t. t) (λ x t. let i = find-some p l t in neither (p x) i.1 (any_false p l e x i.0))
-
-  pub any-without : (p q : A → Bool) (l : List A) → any p (without q l) ≡ any (λ x. p x && not (q x)) l
-  unfolding any without
-  any-without p q [] = refl
-  any-without p q (x ∷ l) = go (q x) (p x) refl (any-without p q l)
-    where
-      go : (t u : Bool) → p x ≡ u → any p (without q l) ≡ any (λ x. p x && not (q x)) l → any p (cond t (without q l) (x ∷ without q l))
-          ≡ ((u && not t) || any (λ x. p x && not (q x)) l)
-      go true true y e = e
-      go true false y e = e
-      go false true y e = rw y
-      go false false y e = rw (y, e)
 
   -- A test after a change of every element.
   pub any-map : (p q : A → Bool) (h : A → A) (l : List A) → ((x : A) → Memᴰ x l → p (h x) ≡ q x) → any p (map h l) ≡ any q l

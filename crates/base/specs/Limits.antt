@@ -65,3 +65,7 @@ max_datagram = 1500
 -- "1,024 unsent acknowledgements"
 abbrev pub max_unsent : ℕ
 max_unsent = 1024
+
+-- request 4, "the age kept for an id stops at 2^32, which no n reaches"; "n has 32 bits": n is below it
+abbrev pub max_age : ℕ
+max_age = 4294967296

@@ -43,6 +43,8 @@ pub const MAX_DATAGRAM: usize = 1500;
 
 pub const MAX_UNSENT: u32 = 1024;
 
+pub const MAX_AGE: u64 = 4294967296;
+
 // Reading is total: a byte past the end is 0. The readers below, the places of a window and the programs that replay files read by it.
 pub fn byte(s: &[u8], p: usize) -> u8
     ensures { result ≡ get_or s.now p 0 }

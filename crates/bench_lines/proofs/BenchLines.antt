@@ -35,7 +35,7 @@ unfolding if_true if_lt if_le if_eq be16 be32 le24 profile_of
     frames.end_from frames.frames_of frames.end_of
     places.bit places.place_set window.new_window window.accepted
     line.carries_reliable line.in_limits bare.seen_before
-    datagram.drop_one datagram.accept_in datagram.frame datagram.frames datagram.begin datagram.datagram
+    datagram.place datagram.drop_one datagram.accept_in datagram.frame datagram.frames datagram.begin datagram.grow datagram.datagram
     queue.new_queue queue.profile_in receive.frame_in receive.frames_in receive.bytes_left receive.accept_all receive.state_of
     receive.accepted_result
     receive.receive_of calls.made

@@ -16,6 +16,7 @@ use Rattle.window.specs.Window as window
 use Rattle.bare.specs.Frame as line
 use Rattle.bare.specs.Bare as bare
 use Rattle.cells.specs.Cell as cell
+use Rattle.cells.specs.Ages as ages
 use Rattle.cells.specs.Datagram as datagram
 use Rattle.cells.specs.Records as cells
 use Rattle.cells.specs.Sound as sound
@@ -37,13 +38,13 @@ unfolding if_true if_lt if_le if_eq be16 le24 be16_bytes le24_bytes and_then
     ack.id_of ack.ack_header_bytes ack.list_bytes ack.some_over ack.too_large ack.ascending ack.by_list_case ack.write_list_of
     places.bit places.place_set window.new_window window.accepted window.advance window.accept
     line.carries_reliable line.ordered line.in_limits bare.bump bare.seen_before bare.accept_reliable
-    cell.bears cell.at cell.of cell.sits cell.is_free cell.is_ready cell.join cell.message_of cell.message_at
+    cell.bears cell.at cell.of cell.sits cell.is_free cell.is_open cell.is_ready cell.join cell.message_of cell.message_at
     cell.mark cell.mark_cell cell.empty_cell cell.empty_slot cell.change cell.map_if cell.turn_to cell.freed cell.put_slot cell.slot_of
     datagram.place datagram.made datagram.rise datagram.accept_in datagram.is_held datagram.go_on datagram.cascade datagram.follows
     datagram.fate datagram.fate_of datagram.roomy datagram.whole datagram.keep_in datagram.frame datagram.frames
-    datagram.is_first datagram.renumber datagram.sweep datagram.begin datagram.end datagram.datagram
+    datagram.is_first datagram.renumber datagram.sweep datagram.begin datagram.end ages.grown datagram.grow datagram.datagram
     cells.index_of ready.lower ready.earliest
-    sound.key_of sound.limits sound.agree sound.lacks_none sound.sound_cell sound.lengths
+    sound.key_of sound.age_of sound.limits sound.agree sound.alike sound.lacks_none sound.sound_cell sound.lengths
     store.cell_size store.cell_body store.slots_of store.cells_of store.laid store.store_of
     queue.next_in queue.next_of queue.memories_in queue.newest_of queue.unsent_of queue.new_queue queue.profile_in
     queue.places_within queue.sound_window

@@ -2,10 +2,11 @@
 //
 // Input: the number of cells, 16 bits big-endian, 1 to 256 (else `- 9` is printed and nothing else); then per call one byte and 16 bits n
 // big-endian: 0 receive, followed by n bytes; 1 take with a joining buffer of n bytes; 2 write the unsent, 3 write the missing, each into
-// an output of n bytes; 4 a new receiver over the same cells, of profile n (0 console, 1 C++; above 1 ends the list). The first receiver is
-// a console's. A cut call ends the input, as does another first byte. Output, one line a call: `r 0 READY DROPPED LEFT`,
-// `t 0 LENGTH SUM KIND CHANNEL ORDER`, `u 0 LENGTH SUM`, `m 0 LENGTH SUM`, `n 0`; on a refusal the letter and document 01's number. SUM is
-// over the bytes handed out: from 1 on, for each byte h = (31 h + byte) mod 65521.
+// an output of n bytes; 4 a new receiver over the same cells, of profile n (0 console, 1 C++; above 1 ends the list); 5 drop unfinished
+// joins, followed by two bytes, the lower half of a number whose upper half is n. The first receiver is a console's. A cut call ends the
+// input, as does another first byte. Output, one line a call: `r 0 READY DROPPED LEFT`, `t 0 LENGTH SUM KIND CHANNEL ORDER`,
+// `u 0 LENGTH SUM`, `m 0 LENGTH SUM`, `n 0`, `x 0 FREED`; on a refusal the letter and document 01's number. SUM is over the bytes handed
+// out: from 1 on, for each byte h = (31 h + byte) mod 65521.
 
 #![tactic(auto)]
 
@@ -30,6 +31,8 @@ enum Call {
     WriteUnsent,
     WriteMissing,
     New(Profile),
+    // The upper half of its number.
+    DropUnfinished(u16),
 }
 
 // What a call's first byte and its number ask for; nothing where they end the list.
@@ -40,12 +43,13 @@ fn call_of(first: u8, number: u16) -> Option<Call> {
         2 => Some(Call::WriteUnsent),
         3 => Some(Call::WriteMissing),
         4 => Profile::try_from(u32::from(number)).ok().map(Call::New),
+        5 => Some(Call::DropUnfinished(number)),
         _ => None,
     }
 }
 
-// The next call, and how many bytes of the buffer are its own; none where the input ends. A datagram follows its call; the other calls
-// write over what stands there.
+// The next call, and how many bytes of the buffer are its own; none where the input ends. A datagram follows its call, and two bytes a
+// drop; the other calls write over what stands there.
 fn read_call<R: Read>(stdin: &mut R, buffer: &mut [u8]) -> io::Result<Option<(Call, usize)>> {
     let mut head = [0u8; 3];
     if replay::read_full(stdin, &mut head)? < head.len() {
@@ -55,8 +59,12 @@ fn read_call<R: Read>(stdin: &mut R, buffer: &mut [u8]) -> io::Result<Option<(Ca
     let Some(call) = call_of(head[0], number) else {
         return Ok(None);
     };
-    let n = replay::within(buffer, usize::from(number));
-    if let Call::Receive = call
+    let n = match call {
+        Call::DropUnfinished(_) => 2,
+        _ => usize::from(number),
+    };
+    let n = replay::within(buffer, n);
+    if let Call::Receive | Call::DropUnfinished(_) = call
         && replay::read_full(stdin, &mut buffer[..n])? < n
     {
         return Ok(None);
@@ -128,6 +136,11 @@ fn replay_call(rt: &impl Print, x: &mut Receiver, store: &mut [u8], call: Call, 
             let (made, answer) = Receiver::new(x.cells, store, profile);
             *x = made;
             answered(rt, b"n", answer.map(|()| []));
+        }
+        Call::DropUnfinished(high) => {
+            let n = u32::from(high) * 65536 + u32::from(base::be16_at(bytes, 0));
+            let answer = x.drop_unfinished(store, n);
+            answered(rt, b"x", answer.map(|freed| [u64::from(freed)]));
         }
     }
 }

@@ -4,11 +4,13 @@ use mathlib.Core.Path.{◌≡◌, refl}
 use mathlib.Core.Bool.{true, false}
 use mathlib.Core.List.{List, [], ◌∷◌, map}
 use lib.ListN.{replicate}
+use Rattle.base.specs.Limits.{max_age}
 use Rattle.reliability.specs.declared.Profile.TheVariants.{Console, Cpp}
 use Rattle.bare.specs.Frame.{Frame}
 use Rattle.bare.specs.Bare.{new, feed}
 use Rattle.bare.proofs.Shown.{whole-frame, piece-frame, msg}
 use Rattle.cells.specs.Cell.{Slot, empty_slot}
+use Rattle.cells.specs.Ages.{aged, grown, dropped}
 use Rattle.cells.specs.Take.{drain}
 use Rattle.cells.specs.Room.{kept_as_frame, bodies, exceeds}
 use Rattle.cells.proofs.Shown.{slot, open-cell, held-cell, ready-cell, numbered, SlotCall, receive, take, gave, took, refused, Seen}
@@ -142,6 +144,35 @@ pub id-used-again : run 5 (receive (piece-frame 3 0 0 1 2 7 0 1 ∷ piece-frame 
 unfolding run
 id-used-again = refl
 
+-- Request 4's ages: how many datagrams were accepted after the one that carried an id's last kept piece. The fourth one's piece is there
+-- already and is not kept; the fifth's is, and all of its id's records have age 0.
+pub ages-kept : run 4 (receive (piece-frame 3 0 0 0 4 5 0 8 ∷ piece-frame 3 1 0 0 4 5 1 6 ∷ []) ∷ receive (piece-frame 3 2 0 0 2 6 0 9 ∷ [])
+    ∷ receive [] ∷ receive (piece-frame 3 3 0 0 4 5 0 8 ∷ []) ∷ receive (piece-frame 3 4 0 0 4 5 2 7 ∷ []) ∷ [])
+    ≡ saw (gave 0 0) (open-cell 5 0 4 0 8 ∷ open-cell 5 1 4 0 6 ∷ empty_slot ∷ empty_slot ∷ [])
+    ∷ saw (gave 0 0) (aged 1 (open-cell 5 0 4 0 8) ∷ aged 1 (open-cell 5 1 4 0 6) ∷ open-cell 6 0 2 0 9 ∷ empty_slot ∷ [])
+    ∷ saw (gave 0 0) (aged 2 (open-cell 5 0 4 0 8) ∷ aged 2 (open-cell 5 1 4 0 6) ∷ aged 1 (open-cell 6 0 2 0 9) ∷ empty_slot ∷ [])
+    ∷ saw (gave 0 1) (aged 3 (open-cell 5 0 4 0 8) ∷ aged 3 (open-cell 5 1 4 0 6) ∷ aged 2 (open-cell 6 0 2 0 9) ∷ empty_slot ∷ [])
+    ∷ saw (gave 0 0) (open-cell 5 0 4 0 8 ∷ open-cell 5 1 4 0 6 ∷ aged 3 (open-cell 6 0 2 0 9) ∷ open-cell 5 2 4 0 7 ∷ [])
+    ∷ []
+unfolding run
+ages-kept = refl
+
+-- Open records alone grow older, and an age "stops at 2^32".
+pub ages-stop : grown (aged 4294967295 (open-cell 5 0 2 0 8) ∷ aged max_age (open-cell 6 0 2 0 9) ∷ ready-cell 0 3 0 1 ∷ held-cell 1 2 ∷ [])
+    ≡ aged max_age (open-cell 5 0 2 0 8) ∷ aged max_age (open-cell 6 0 2 0 9) ∷ ready-cell 0 3 0 1 ∷ held-cell 1 2 ∷ []
+unfolding run
+ages-stop = refl
+
+-- "More than n further datagrams", n being 2: at age 3 open messages of kinds 0, 1 and 5 are dropped. Age 2 stays, and kind 3, which has a
+-- reliable number; ready and held messages are not unfinished.
+pub dropped-past-2 : dropped 2 (aged 3 (slot 1 5 0 0 0 2 0 0 0 (8 ∷ [])) ∷ aged 2 (slot 1 6 0 0 0 2 0 0 0 (8 ∷ []))
+    ∷ aged 3 (slot 1 7 0 1 0 2 4 0 0 (8 ∷ [])) ∷ aged 3 (slot 1 8 1 5 0 2 0 0 0 (8 ∷ [])) ∷ aged 3 (open-cell 9 0 2 0 8)
+    ∷ aged 3 (slot 3 5 0 0 0 1 0 0 0 (8 ∷ [])) ∷ aged 3 (slot 2 5 0 0 0 1 0 1 0 (8 ∷ [])) ∷ [])
+    ≡ empty_slot ∷ aged 2 (slot 1 6 0 0 0 2 0 0 0 (8 ∷ [])) ∷ empty_slot ∷ empty_slot ∷ aged 3 (open-cell 9 0 2 0 8)
+    ∷ aged 3 (slot 3 5 0 0 0 1 0 0 0 (8 ∷ [])) ∷ aged 3 (slot 2 5 0 0 0 1 0 1 0 (8 ∷ [])) ∷ []
+unfolding run
+dropped-past-2 = refl
+
 -- A jam: the only cell is held. The empty datagram and one whose frames are all dropped are accepted; the one that would release it gets 8.
 pub jam : run 1 (receive (whole-frame 3 0 0 1 1 ∷ []) ∷ receive [] ∷ receive (whole-frame 3 0 0 1 1 ∷ whole-frame 3 1 0 1 2
     ∷ whole-frame 3 2 32 0 3 ∷ []) ∷ receive (whole-frame 3 3 0 0 4 ∷ []) ∷ take ∷ [])
@@ -164,9 +195,9 @@ pub count-1 : run 2 (receive (piece-frame 0 0 0 0 1 7 0 5 ∷ whole-frame 0 0 0 
 unfolding run
 count-1 = refl
 
--- A sound state that no list of calls reaches: a held message of kind 0 in two cells (their ids differ, their turns are rubbish) is
--- released like any other and raises next; ready turns 9 and 4 become 1 and 0; an unused record keeps what it holds until a body gets its
--- cell.
+-- A sound state that no list of calls reaches: a held message of kind 0 in two cells (their ids differ, and so do their turns, which no
+-- rule looks at) is released like any other and raises next; ready turns 9 and 4 become 1 and 0; an unused record keeps what it holds until
+-- a body gets its cell.
 unfoldable pub odd : List Slot
 odd = slot 2 3 1 0 0 2 5 1 77 (2 ∷ []) ∷ slot 3 0 0 3 0 1 0 0 9 (9 ∷ []) ∷ slot 0 9 9 9 99 9 9 9 9 [] ∷ slot 2 8 0 0 0 2 5 1 66 (1 ∷ [])
     ∷ slot 3 0 0 6 5 1 0 7 4 [] ∷ slot 0 1 1 1 1 1 1 1 1 [] ∷ []

@@ -6,9 +6,10 @@ use mathlib.Core.Bool.{true, false, cond}
 use mathlib.Core.List.{List, [], ◌∷◌, ◌++◌, map}
 use lib.Dec.{eqb}
 use lib.ListN.{length, take, drop, replicate}
-use Rattle.base.specs.Limits.{numbers24}
+use Rattle.base.specs.Limits.{numbers24, max_age}
 use Rattle.base.specs.Lists.{below}
 use Rattle.cells.specs.Cell.{Slot, empty_slot}
+use Rattle.cells.specs.Ages.{aged}
 use Rattle.cells.specs.Sound.{sound_memories, lengths}
 use Rattle.cells.specs.Store.{slots_of, cells_of, store_of}
 use Rattle.cells.proofs.Shown.{slot, open-cell, held-cell, ready-cell, run, sound_at}
@@ -66,6 +67,17 @@ pub values : map (λ (s : Slot). sound_at 0 (s ∷ []))
     ≡ true ∷ false ∷ false ∷ false ∷ false ∷ false ∷ false ∷ false ∷ false ∷ true ∷ true ∷ false ∷ []
 unfolding run sound_at
 values = refl
+
+-- "The age kept for an id" (request 4) is one: open records of an id that differ in age are unsound, those of two ids may differ. It "stops
+-- at 2^32". No rule looks at the age of a ready, a held or an unused record.
+pub ages : (map (λ (s : Slot). sound_at 0 (aged 4 (open-cell 7 0 3 0 0) ∷ s ∷ [])) (aged 4 (open-cell 7 1 3 0 0)
+    ∷ aged 5 (open-cell 7 1 3 0 0) ∷ aged 5 (open-cell 8 1 3 0 0) ∷ []) ≡ true ∷ false ∷ true ∷ [])
+    × (sound_at 0 (slot 3 7 0 0 0 2 0 0 0 [] ∷ aged 5 (slot 3 7 1 0 0 2 0 0 0 []) ∷ []) ≡ true)
+    × (map (λ (s : Slot). sound_at 0 (s ∷ [])) (aged max_age (open-cell 7 0 2 0 0) ∷ aged (suc max_age) (open-cell 7 0 2 0 0)
+    ∷ aged (suc max_age) (ready-cell 0 3 0 0) ∷ aged (suc max_age) (held-cell 1 0) ∷ aged (suc max_age) empty_slot ∷ [])
+    ≡ true ∷ false ∷ true ∷ true ∷ true ∷ [])
+unfolding run sound_at
+ages = (refl, refl, refl)
 
 pub body-lengths : (sound_at 0 (slot 3 0 0 0 0 1 0 0 0 (replicate 1500 0) ∷ []) ≡ true)
     × (sound_at 0 (slot 3 0 0 0 0 1 0 0 0 (replicate 1501 0) ∷ []) ≡ false)

@@ -14,7 +14,7 @@ use Rattle.base.proofs.Choices.{cases, case_option, neither}
 use Rattle.base.proofs.Lists.{find-some, any-true, any-find, length-positive}
 use Rattle.base.proofs.Counts.{count-lt-map, count-length}
 use Rattle.bare.specs.Frame.{Piece, Message}
-use Rattle.bare.specs.Bare.{Out, Sent, Fed, is_at, bump, emit, follow}
+use Rattle.bare.specs.Bare.{Out, Bare, Sent, Fed, is_at, bump, emit, follow}
 use Rattle.bare.proofs.Tests.{is_at-true, is_at-there, emit-shorter}
 use Rattle.cells.specs.Cell.{Slot, Key, held_as, ready_as, of, is_open, mark_cell, mark, change, map_if, turn_to}
 use Rattle.cells.specs.Datagram.{Work, made, rise, is_held, go_on, cascade}
@@ -23,7 +23,15 @@ use Rattle.cells.proofs.Pieces.{Pieces, pieces-other}
 use Rattle.cells.proofs.Ready.{has, Outs, outs-emit}
 use Rattle.cells.proofs.Moves.{of-held, ready_moved, ready-others, ready-unique, ready-gone, ready_held}
 
--- The working state w has what the bare receiver's answer x has; r and d are the counts that w began with.
+-- The working state w has what the bare receiver b has; h are the messages handed out before.
+pub record Rel (b : Bare) (w : Work) (h : List Message) : Type 0 where
+  pub accepted : b.accepted ≡ w.state.accepted
+  pub profile : b.out.profile ≡ w.state.profile
+  pub newest : b.out.newest ≡ w.state.newest
+  pub pieces : Pieces b.pieces w.state.slots
+  pub outs : Outs b.out w.state.next w.state.slots 0 w.turn h
+
+-- It has what the bare receiver's answer x has; r and d are the counts that w began with.
 pub record Sim (x : Fed) (w : Work) (r d : ℕ) (h : List Message) : Type 0 where
   pub accepted : x.after.accepted ≡ w.state.accepted
   pub profile : x.after.out.profile ≡ w.state.profile

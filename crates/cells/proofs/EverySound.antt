@@ -1,25 +1,29 @@
--- Any sound cells are those of a bare receiver: its counts and its room hold of every sound state, not only of those that calls reach.
+-- Any sound cells are those of a bare receiver: its counts, its room and its drops hold of every sound state, not only of those that calls
+-- reach.
 -- Assumes nothing.
-use Prim.Native.Nat.{ℕ, zero, suc, ◌+◌, ◌<◌}
+use Prim.Native.Nat.{ℕ, zero, suc, ◌+◌, ◌-◌, ◌<◌}
 use mathlib.Core.Path.{◌≡◌, refl, sym, ◌∙◌, ap}
 use mathlib.Core.Logic.{◌⊎◌, inl, inr}
-use mathlib.Core.Bool.{Bool, true, false, cond, ◌&&◌, ◌||◌}
+use mathlib.Core.Bool.{Bool, true, false, cond, ◌&&◌}
 use mathlib.Core.Option.{none, some}
 use mathlib.Core.List.Memᴰ
 use mathlib.Core.List.{List, [], ◌∷◌, map, Memᴰ}
 use native.Mathlib.Omega.{arith}
 use lib.Dec.{ltb, eqb}
 use borrow.Author.Tests.{ltb-true, ltb-false, eq-eqb}
-use Rattle.base.specs.Lists.{option, find, any, count_of, only}
+use Rattle.base.specs.Limits.{max_age}
+use Rattle.base.specs.Lists.{option, find, any, count_of, without, only}
 use Rattle.base.proofs.Choices.{cases, case_option, and_both, neither}
 use Rattle.base.proofs.Lists.{find-some, any-true, any-mem, any-all}
 use Rattle.base.proofs.Counts.{count-ext, count_none}
 use Rattle.bare.specs.Frame.{Frame, Piece}
 use Rattle.bare.specs.Bare.{is_at, is_piece_at, feed}
+use Rattle.bare.specs.Unfinished as bare
+use Rattle.bare.specs.Unfinished.{Dated, drop_stale, stale_pieces}
 use Rattle.cells.specs.Cell.{Slot, Key, open_as, held_as, ready_as, bears, at, of, sits, is_open, is_ready, message_of, message_at}
-use Rattle.cells.specs.Cell.{piece_in}
-use Rattle.cells.specs.Cell.{map_if}
-use Rattle.cells.specs.Datagram.{is_first, is_before, rank, renumber, State, begin, end, datagram}
+use Rattle.cells.specs.Cell.{piece_in, empty_cell, empty_slot, change, map_if}
+use Rattle.cells.specs.Ages.{is_stale, dropped}
+use Rattle.cells.specs.Datagram.{is_first, is_before, rank, renumber, State, with_slots, place, begin, end, grow, datagram}
 use Rattle.cells.specs.Take.{taking, drain}
 use Rattle.cells.specs.Sound.{sound}
 use Rattle.cells.specs.Store.{cells_of}
@@ -29,24 +33,31 @@ use Rattle.cells.proofs.Pieces.{opens, piece_at, Pieces}
 use Rattle.cells.proofs.Ready.{ready_line, has, has_some, Outs}
 use Rattle.cells.proofs.Moves.{of-mark-ready, of-held}
 use Rattle.cells.proofs.Placing.{there-first}
-use Rattle.cells.proofs.Frames.{Rel, frames-sim}
+use Rattle.cells.proofs.Cascade.{Rel}
+use Rattle.cells.proofs.Aging.{grow-rel}
+use Rattle.cells.proofs.Frames.{frames-sim}
 use Rattle.cells.proofs.TurnOrder.{retime, retime-yes, retime-other, earliest-ready, drain-by-order}
 use Rattle.cells.proofs.Turns.{rank-suc, renumber-pieces}
-use Rattle.cells.proofs.Takes.{sweep-outs, earliest-none, earliest-below, drain-is}
+use Rattle.cells.proofs.Takes.{empty-open, sweep-outs, earliest-none, earliest-below, drain-is}
 use Rattle.cells.proofs.Room.{related-room}
 use Rattle.cells.proofs.SoundCore.{Core}
 use Rattle.cells.proofs.SoundCascade.{Sound}
 use Rattle.cells.proofs.SoundRest.{Rest, before-in, before_of, rank-rising, begin-sound}
-use Rattle.cells.proofs.SoundTest.{sound-rest}
+use Rattle.cells.proofs.SoundTest.{sound-rest, first_age, sound-aged}
+use Rattle.cells.proofs.AgedAs.{AgedAs}
+use Rattle.cells.proofs.SlotAges.{aged-ext}
+use Rattle.cells.proofs.Dropping.{stale-is, dropped-join, dropped-drain}
+use Rattle.cells.proofs.Dating.{age_at, stale-same}
 
-open-tests : (p : Piece → Bool) (l : List Slot) → any p (map piece_in (only is_open l)) ≡ any (opens p) l
-unfolding any only opens
-open-tests p [] = refl
-open-tests p (s ∷ l) = go (is_open s) (open-tests p l)
+open-counts : (p : Piece → Bool) (l : List Slot) → count_of p (map piece_in (only is_open l)) ≡ count_of (opens p) l
+unfolding count_of only opens
+open-counts p [] = refl
+open-counts p (s ∷ l) = go (is_open s) (open-counts p l)
   where
-    go : (t : Bool) → any p (map piece_in (only is_open l)) ≡ any (opens p) l
-        → any p (map piece_in (cond t (s ∷ only is_open l) (only is_open l))) ≡ ((t && p (piece_in s)) || any (opens p) l)
-    go true e = ap (λ (b : Bool). p (piece_in s) || b) e
+    go : (t : Bool) → count_of p (map piece_in (only is_open l)) ≡ count_of (opens p) l
+        → count_of p (map piece_in (cond t (s ∷ only is_open l) (only is_open l)))
+        ≡ cond (t && p (piece_in s)) (suc (count_of (opens p) l)) (count_of (opens p) l)
+    go true e = ap (λ (n : ℕ). cond (p (piece_in s)) (suc n) n) e
     go false e = e
 
 open-finds : (id i : ℕ) (l : List Slot) → find (is_piece_at id i) (map piece_in (only is_open l))
@@ -73,7 +84,7 @@ open-finds id i (s ∷ l) = go (eqb s.cell.used 1) (open-finds id i l)
 
 pieces-open : (l : List Slot) → Pieces (map piece_in (only is_open l)) l
 unfolding piece_at
-pieces-open l = record { tests = λ p. open-tests p l; finds = λ id i. open-finds id i l }
+pieces-open l = record { counts = λ p. open-counts p l; finds = λ id i. open-finds id i l }
 
 held-find : (all : List Slot) (c o : ℕ) (l : List Slot) → find (is_at c o) (map (held_in all) (only is_held_first l))
     ≡ option (find (sits (held_as c o) 0) l) none (λ s. some (held_in all s))
@@ -238,9 +249,70 @@ sound-take s e =
 pub sound-counts : (s : State) (fs : List Frame) → sound (cells_of s.slots) s.next ≡ true → (datagram s fs).full ≡ false
     → ((datagram s fs).counts.ready ≡ (feed (bare_of s) fs).ready) × ((datagram s fs).counts.dropped ≡ (feed (bare_of s) fs).dropped)
     × (drain (end (datagram s fs)).slots ≡ (feed (bare_of s) fs).after.out.line)
-unfolding datagram begin end
+unfolding datagram begin grow place end
 sound-counts s fs e full =
-    let v = frames-sim fs (bare_of s) (begin s) [] (stands s (sound-rest s.next s.slots e)) full in
+    let r = grow-rel (bare_of s) (begin s) [] (stands s (sound-rest s.next s.slots e)) in
+    let v = frames-sim fs (bare_of s) (grow (begin s)) [] r full in
     let p = v.ready in
     let q = v.dropped in
     (omega arith, omega arith, drain-is (sweep-outs v.outs) ∙ sym (sweep-outs v.outs).line)
+
+-- ---- a drop
+
+-- The pieces left are those of the slots that stay open,
+opens-open : (p : Piece → Bool) (s : Slot) → is_open s ≡ true → opens p s ≡ p (piece_in s)
+unfolding opens
+opens-open p s y = rw y
+
+opens-closed : (p : Piece → Bool) (s : Slot) → is_open s ≡ false → opens p s ≡ false
+unfolding opens
+opens-closed p s y = rw y
+
+left-open : (r : Piece → Bool) (q : Slot → Bool) (l : List Slot) → ((s : Slot) → Memᴰ s l → opens r s ≡ q s)
+    → without r (map piece_in (only is_open l)) ≡ map piece_in (only is_open (map_if q (λ s. empty_slot) l))
+unfolding without only map_if change
+left-open r q [] told = refl
+left-open r q (s ∷ l) told =
+    let rest = left-open r q l (λ x m. told x (Memᴰ.tail m)) in
+    let here = told s (Memᴰ.head refl) in
+    cases (is_open s)
+    (λ y. cases (q s)
+    (λ z. rw (y, z, empty-open, sym (opens-open r s y) ∙ (here ∙ z)) rest)
+    (λ z. rw (z, y, sym (opens-open r s y) ∙ (here ∙ z), rest)))
+    (λ y. rw (sym here ∙ opens-closed r s y, y) rest)
+
+-- and the held messages stay.
+held-same : (n : ℕ) (l : List Slot) (s : Slot) → held_in (dropped n l) s ≡ held_in l s
+unfolding held_in
+held-same n l s = ap (message_of s) (dropped-join n l (held_as s.cell.channel s.cell.order) (λ q. omega arith) s.cell.count)
+
+left-held : (n : ℕ) (all l : List Slot) → map (held_in (dropped n all)) (only is_held_first (dropped n l))
+    ≡ map (held_in all) (only is_held_first l)
+unfolding dropped map_if change only is_held_first empty_slot empty_cell
+left-held n all [] = refl
+left-held n all (s ∷ l) =
+    let rest = left-held n all l in
+    cases (is_stale n s.cell)
+    (λ y. rw (y, (stale-is n s.cell y).0) rest)
+    (λ y. rw y (cases (is_held_first s) (λ z. rw z (let same = held-same n all s in cc)) (λ z. rw z rest)))
+
+-- The bare receiver that the state stands for, dated so that as many datagrams were accepted since an id's last kept piece as its age is.
+unfoldable pub dated_of : State → Dated
+dated_of s = record { bare = bare_of s; datagrams = max_age; last = λ id. max_age - first_age s.slots id }
+
+ages-dated : (s : State) → AgedAs (first_age s.slots) s.slots → AgedAs (age_at (dated_of s).datagrams (dated_of s).last) s.slots
+unfolding dated_of age_at
+ages-dated s a = aged-ext (λ id. let le = a.small id in omega arith) a
+
+-- Every sound state, reached or not: a drop frees as many cells as that receiver drops pieces, and what it leaves stands for what that
+-- receiver is after its own drop.
+pub sound-drop : (s : State) (n : ℕ) → sound (cells_of s.slots) s.next ≡ true → n < max_age
+    → (count_of (λ x. is_stale n x.cell) s.slots ≡ stale_pieces n (dated_of s))
+    × (bare_of (with_slots (dropped n s.slots) s) ≡ (drop_stale n (dated_of s)).bare)
+unfolding dated_of bare_of stale_pieces drop_stale dropped
+sound-drop s n e lt =
+    let told = stale-same (dated_of s) (ages-dated s (sound-aged s.next s.slots e)) n lt in
+    let pieces = left-open (bare.is_stale n (dated_of s)) (λ x. is_stale n x.cell) s.slots told in
+    let held = left-held n s.slots s.slots in
+    let line = dropped-drain n s.slots in
+    (sym (count-ext _ _ s.slots told) ∙ sym (open-counts (bare.is_stale n (dated_of s)) s.slots), rw (pieces, held, line))

@@ -14,23 +14,16 @@ use Rattle.bare.specs.Bare.{drop_in, finish, step, feed}
 use Rattle.bare.proofs.Tests.{piece-limits}
 use Rattle.cells.specs.Cell.{Slot, open_as, held_as, ready_as, of, is_free, all_there, clash, turn_to, put_slot, slot_of}
 use Rattle.cells.specs.Datagram.{Work, drop_one, fill_up, place, made, rise, remember_in, accept_in, is_held, go_on, cascade, follows, Fate}
-use Rattle.cells.specs.Datagram.{late, early, due, newer, free, fate_of, roomy, readied, whole, joins, kept, piece, keep_in, frame}
-use Rattle.cells.specs.Datagram.{frames}
-use Rattle.cells.proofs.Pieces.{Pieces, joined-join, tests-clash, pieces-put}
-use Rattle.cells.proofs.Ready.{same-put, Outs, outs-keep}
+use Rattle.cells.specs.Datagram.{late, early, due, newer, free, fate_of, roomy, readied, whole, joins, kept, put_piece, renew, piece}
+use Rattle.cells.specs.Datagram.{keep_in, frame, frames}
+use Rattle.cells.proofs.Pieces.{joined-join, tests-clash, pieces-put}
+use Rattle.cells.proofs.Ready.{same-put, outs-keep}
 use Rattle.cells.proofs.Moves.{put-unique}
 use Rattle.cells.proofs.FrameSlot.{of-slot-other, fresh-piece, Agrees, agrees-put}
 use Rattle.cells.proofs.Placing.{whole-placing, joined_of, joined-placing}
-use Rattle.cells.proofs.Cascade.{Sim, answer}
+use Rattle.cells.proofs.Cascade.{Rel, Sim, answer}
+use Rattle.cells.proofs.Aging.{renew-rel, renewed-clash}
 use Rattle.cells.proofs.Step.{settle, early≢late, newer≢late, free≢late, due≢late, deliver-sim}
-
--- The working state w has what the bare receiver b has; h are the messages handed out before.
-pub record Rel (b : Bare) (w : Work) (h : List Message) : Type 0 where
-  pub accepted : b.accepted ≡ w.state.accepted
-  pub profile : b.out.profile ≡ w.state.profile
-  pub newest : b.out.newest ≡ w.state.newest
-  pub pieces : Pieces b.pieces w.state.slots
-  pub outs : Outs b.out w.state.next w.state.slots 0 w.turn h
 
 pub sim-rel : {x : Fed} {w : Work} {r d : ℕ} {h : List Message} → Sim x w r d h → Rel x.after w h
 sim-rel v = record { accepted = v.accepted; profile = v.profile; newest = v.newest; pieces = v.pieces; outs = v.outs }
@@ -139,16 +132,25 @@ kept-sim b w h f v le agree = rw (joined-join (piece_of f ∷ b.pieces) w.state.
     v.profile v.newest v.outs refl))
     (λ t. rw t (rel-sim (record { accepted = b.accepted; pieces = piece_of f ∷ b.pieces; out = b.out }) w h v)))
 
+put-sim : (b : Bare) (w : Work) (h : List Message) (f : Frame) → Rel b w h → f.piece ≡ true → 1 ≤ f.count
+    → any (clash f) w.state.slots ≡ false → (put_piece f w).full ≡ false
+    → Sim (finish f.sequence b.accepted b.pieces b.out (option (joined (piece_of f ∷ b.pieces) f.id f.count)
+    (waiting (piece_of f ∷ b.pieces)) (λ body. complete (without (has_id f.id) b.pieces) (message f body)))) (put_piece f w)
+    w.counts.ready w.counts.dropped h
+unfolding put_piece place
+put-sim b w h f v e le c full =
+    let room = roomy-room w _ full in
+    rw (roomy-is w (kept f (place (put_slot (slot_of f 1 0) w.state.slots) w)) room)
+    (kept-sim b (place (put_slot (slot_of f 1 0) w.state.slots) w) h f (put-rel b w h f v e c room) le
+    (agrees-put f w.state.slots e c))
+
 piece-sim : (b : Bare) (w : Work) (h : List Message) (f : Frame) → Rel b w h → f.piece ≡ true → 1 ≤ f.count → (piece f w).full ≡ false
     → Sim (finish f.sequence b.accepted b.pieces b.out (keep f b.pieces)) (piece f w) w.counts.ready
     w.counts.dropped h
-unfolding piece keep finish place
+unfolding piece keep finish renew place
 piece-sim b w h f v e le full = rw (tests-clash f b.pieces w.state.slots v.pieces) (cases (any (clash f) w.state.slots)
     (λ t. rw t (drop-sim b w h v))
-    (λ t. let room = roomy-room w _ (rw t at full) in
-    rw (t, roomy-is w (kept f (place (put_slot (slot_of f 1 0) w.state.slots) w)) room)
-    (kept-sim b (place (put_slot (slot_of f 1 0) w.state.slots) w) h f (put-rel b w h f v e t room) le
-    (agrees-put f w.state.slots e t))))
+    (λ t. rw t (put-sim b (renew f w) h f (renew-rel b w h f v) e le (renewed-clash f f.id w.state.slots ∙ t) (rw t at full))))
 
 keep_in-sim : (b : Bare) (w : Work) (h : List Message) (f : Frame) → Rel b w h → in_limits f ≡ true → (keep_in f w).full ≡ false
     → Sim (finish f.sequence b.accepted b.pieces b.out (assemble f b.pieces)) (keep_in f w) w.counts.ready
@@ -226,10 +228,13 @@ unfolding kept
 kept_full f w = by_bool (λ (x : Work). x.full ≡ w.full) (all_there (open_as f.id) w.state.slots f.count)
     (λ t. joins-full (fate_of f w) f w) (λ t. refl)
 
+put-full : (f : Frame) (w : Work) → w.full ≡ true → (put_piece f w).full ≡ true
+unfolding put_piece place
+put-full f w e = roomy-full w _ e (kept_full f (place (put_slot (slot_of f 1 0) w.state.slots) w))
+
 piece-full : (f : Frame) (w : Work) → w.full ≡ true → (piece f w).full ≡ true
-unfolding piece drop_one place
-piece-full f w e = by_bool (λ (x : Work). x.full ≡ true) (any (clash f) w.state.slots) (λ t. e)
-    (λ t. roomy-full w _ e (kept_full f (place (put_slot (slot_of f 1 0) w.state.slots) w)))
+unfolding piece drop_one renew place
+piece-full f w e = by_bool (λ (x : Work). x.full ≡ true) (any (clash f) w.state.slots) (λ t. e) (λ t. put-full f (renew f w) e)
 
 frame-full : (w : Work) (f : Frame) → w.full ≡ true → (frame w f).full ≡ true
 unfolding frame drop_one accept_in keep_in
@@ -244,7 +249,7 @@ unfolding frames
 frames-full [] w e = e
 frames-full (f ∷ fs) w e = frames-full fs (frame w f) (frame-full w f e)
 
-not_full : (fs : List Frame) (w : Work) → (frames w fs).full ≡ false → w.full ≡ false
+pub not_full : (fs : List Frame) (w : Work) → (frames w fs).full ≡ false → w.full ≡ false
 not_full fs w e = cases w.full (λ t. neither (frames w fs).full (frames-full fs w t) e) (λ t. t)
 
 -- A datagram whose room did not run out does to the slots what its frames do to the bare receiver, with the same counts.

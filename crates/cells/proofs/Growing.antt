@@ -11,8 +11,10 @@ use Rattle.bare.specs.Frame.{Frame, in_limits}
 use Rattle.bare.specs.Bare.{seen_before}
 use Rattle.cells.specs.Cell.{Slot, Key, open_as, held_as, of, is_free, all_there, clash, mark, change, map_if, turn_to, put_slot, slot_of}
 use Rattle.cells.specs.Datagram.{Work, drop_one, fill_up, place, made, rise, remember_in, accept_in, is_held, go_on, cascade, Fate, late}
-use Rattle.cells.specs.Datagram.{early, due, newer, free, fate_of, follows, roomy, readied, whole, joins, kept, piece, keep_in, frame}
+use Rattle.cells.specs.Datagram.{early, due, newer, free, fate_of, follows, roomy, readied, whole, joins, kept, put_piece, renew, piece}
+use Rattle.cells.specs.Datagram.{keep_in, frame}
 use Rattle.cells.proofs.PutSlot.{put-length}
+use Rattle.cells.proofs.Aging.{renewed-length}
 
 -- x has as many slots as w, and a turn and counts at most n above those of w.
 pub record Grows (n : ℕ) (w x : Work) : Type 0 where
@@ -134,14 +136,21 @@ module _ (n : ℕ) (f : Frame) (w : Work) (le : length w.state.slots ≤ n) wher
       (λ t. grow-more 0 (1 + n) w w (omega arith) (grow-none w))
 
 module _ (n : ℕ) (f : Frame) (w : Work) (le : length w.state.slots ≤ n) where
-  grow-piece : Grows (1 + n) w (piece f w)
-  unfolding piece place
-  grow-piece =
-      by_bool (Grows (1 + n) w) (any (clash f) w.state.slots) (λ t. grow-more 1 (1 + n) w _ (omega arith) (grow-drop w))
-      (λ t. grow-roomy (1 + n) w _ (grow-more (0 + (1 + n)) (1 + n) w _ (omega arith)
+  grow-put : Grows (1 + n) w (put_piece f w)
+  unfolding put_piece place
+  grow-put = grow-roomy (1 + n) w _ (grow-more (0 + (1 + n)) (1 + n) w _ (omega arith)
       (grow-then 0 (1 + n) w (place (put_slot (slot_of f 1 0) w.state.slots) w) _
       (grow-place _ w (put-length (slot_of f 1 0) w.state.slots))
-      (grow-kept n f _ (rw (put-length (slot_of f 1 0) w.state.slots) le)))))
+      (grow-kept n f _ (rw (put-length (slot_of f 1 0) w.state.slots) le))))
+
+module _ (n : ℕ) (f : Frame) (w : Work) (le : length w.state.slots ≤ n) where
+  grow-piece : Grows (1 + n) w (piece f w)
+  unfolding piece renew place
+  grow-piece =
+      by_bool (Grows (1 + n) w) (any (clash f) w.state.slots) (λ t. grow-more 1 (1 + n) w _ (omega arith) (grow-drop w))
+      (λ t. grow-more (0 + (1 + n)) (1 + n) w (put_piece f (renew f w)) (omega arith)
+      (grow-then 0 (1 + n) w (renew f w) (put_piece f (renew f w)) (grow-place _ w (renewed-length f.id w.state.slots))
+      (grow-put n f (renew f w) (rw (renewed-length f.id w.state.slots) le))))
 
   grow-keep : Grows (1 + n) w (keep_in f w)
   unfolding keep_in

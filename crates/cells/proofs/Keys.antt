@@ -162,6 +162,9 @@ module _ {k k' : Key} {h : Slot → Slot} {l : List Slot} (c : Carried k k' h l)
   pub carried-message : message_at k' (map h l) ≡ message_at k l
   carried-message = message_at-ext k k' l (map h l) carried-look
 
+  pub carried-join : (n : ℕ) → join k' (map h l) n ≡ join k l n
+  carried-join n = join-ext k k' l (map h l) carried-look n
+
   pub carried-any : any (of k') (map h l) ≡ any (of k) l
   carried-any = any-map (of k') (of k) h l c.moved
 

@@ -8,7 +8,7 @@ use mathlib.Core.Option.{some}
 use mathlib.Core.List.{List, [], ◌∷◌, ◌++◌}
 use native.Mathlib.Omega.{arith}
 use lib.ListN.{replicate}
-use Rattle.base.specs.Lists.{find, any}
+use Rattle.base.specs.Lists.{find, any, count_of}
 use Rattle.base.proofs.Choices.{neither}
 use Rattle.base.proofs.Lists.{find-no, any-replicate}
 use Rattle.base.proofs.Counts.{count_none}
@@ -16,14 +16,15 @@ use Rattle.reliability.specs.declared.Profile.{Profile}
 use Rattle.bare.specs.Frame.{Frame, Message}
 use Rattle.bare.specs.Bare.{Bare, new, feed}
 use Rattle.cells.specs.Cell.{Key, open_as, held_as, ready_as, of, sits, empty_slot, freed}
-use Rattle.cells.specs.Datagram.{State, with_slots, begin, end, datagram}
+use Rattle.cells.specs.Datagram.{State, with_slots, place, begin, end, grow, datagram}
 use Rattle.cells.specs.Take.{Taken, taking, drain}
 use Rattle.cells.specs.Room.{exceeds}
 use Rattle.cells.proofs.Keys.{of-used, empty_of, sits-not, message-none}
 use Rattle.cells.proofs.Pieces.{opens, piece_at, Pieces}
 use Rattle.cells.proofs.Ready.{Outs}
-use Rattle.cells.proofs.Cascade.{Sim, is_open-used}
-use Rattle.cells.proofs.Frames.{Rel, frames-sim}
+use Rattle.cells.proofs.Cascade.{Rel, Sim, is_open-used}
+use Rattle.cells.proofs.Aging.{grow-rel}
+use Rattle.cells.proofs.Frames.{frames-sim}
 use Rattle.cells.proofs.Turns.{renumber-outs, renumber-pieces}
 use Rattle.cells.proofs.Takes.{empty-open, emptied-pieces, sweep-outs, sweep-pieces, ready_line-nil, take_none, take-some, drain-is}
 use Rattle.cells.proofs.Room.{related-room}
@@ -43,7 +44,7 @@ module _ (b : Bare) (s : State) (h : List Message) (v : Matches b s h) where
   pub matches-line : b.out.line ≡ h ++ drain s.slots
   matches-line = v.outs.line ∙ ap (λ (l : List Message). h ++ l) (sym (drain-is v.outs))
 
-  begin-rel : Rel b (begin s) h
+  pub begin-rel : Rel b (begin s) h
   unfolding begin
   begin-rel = record {
     accepted = v.accepted;
@@ -60,8 +61,8 @@ module _ (b : Bare) (s : State) (h : List Message) (v : Matches b s h) where
   -- An accepted datagram does what its frames do to the bare receiver, with the same counts.
   module _ (fs : List Frame) (full : (datagram s fs).full ≡ false) where
     sim : Sim (feed b fs) (datagram s fs) 0 0 h
-    unfolding datagram begin
-    sim = frames-sim fs b (begin s) h begin-rel full
+    unfolding datagram begin grow place
+    sim = frames-sim fs b (grow (begin s)) h (grow-rel b (begin s) h begin-rel) full
 
     pub ready-count : (datagram s fs).counts.ready ≡ (feed b fs).ready
     ready-count = omega (arith, sim.ready)
@@ -114,7 +115,7 @@ pub new-matches : (p : Profile) (n : ℕ) → Matches (new p) (record {
   newest = λ m. 0;
   slots = replicate n empty_slot;
 }) []
-unfolding new any find piece_at opens
+unfolding new find count_of piece_at opens
 new-matches p n = record {
   lo = 0;
   n = 0;
@@ -122,7 +123,7 @@ new-matches p n = record {
   profile = refl;
   newest = refl;
   pieces = record {
-    tests = λ p. sym (any-replicate (opens p) empty_slot n (rw empty-open));
+    counts = λ p. sym (count_none (opens p) (replicate n empty_slot) (any-replicate (opens p) empty_slot n (rw empty-open)));
     finds = λ id i. sym (rw (find-no (sits (open_as id) i) (replicate n empty_slot) (nobody (open_as id) i)));
   };
   outs = record {

@@ -1,22 +1,25 @@
 -- Step 3: the open pieces in the slots are the bare receiver's.
 -- Assumes nothing.
-use Prim.Native.Nat.{ℕ, zero, suc}
+use Prim.Native.Nat.{ℕ, zero, suc, ◌+◌}
 use mathlib.Core.Path.{◌≡◌, refl, sym, ◌∙◌, ap}
+use mathlib.Core.Logic.{◌⊎◌, inl, inr}
 use mathlib.Core.Bool.{Bool, true, false, cond, not, ◌&&◌, true≢false, false≢true, or-true}
 use mathlib.Core.Option.{Option, none, some}
 use mathlib.Core.List.{List, [], ◌∷◌, ◌++◌, map, Memᴰ}
+use native.Mathlib.Omega.{arith}
 use lib.Dec.{eqb}
 use borrow.Author.Tests.{eqb-true, eqb-false, eq-eqb}
-use Rattle.base.specs.Lists.{option, find, any, without, below}
-use Rattle.base.proofs.Choices.{cases, cond-ap, and_left, and_right, neither}
-use Rattle.base.proofs.Lists.{any_false, without-mem, find-without, any-all, any-find, find-no, any-without, any-map}
+use Rattle.base.specs.Lists.{option, find, any, count_of, without, below}
+use Rattle.base.proofs.Choices.{cases, cond-ap, and_left, and_right, and_both, neither}
+use Rattle.base.proofs.Lists.{any_false, without-mem, find-without, any-all, any-find, find-no, any-map}
+use Rattle.base.proofs.Counts.{count_map, count-without, any-counted}
 use Rattle.bare.specs.Frame.{Frame, Piece, piece_of}
 use Rattle.bare.specs.Bare.{conflict, is_piece_at, has_id, joined}
 use Rattle.bare.proofs.Tests.{is_piece-true}
-use Rattle.cells.specs.Cell.{Slot, open_as, bears, at, of, sits, is_free, is_open, join, all_there, piece_in, clash, mark_cell, mark}
+use Rattle.cells.specs.Cell.{Slot, Key, open_as, bears, at, of, sits, is_free, is_open, join, all_there, piece_in, clash, mark_cell, mark}
 use Rattle.cells.specs.Cell.{change, map_if, turn_to, put_slot, slot_of}
-use Rattle.cells.proofs.PutSlot.{any-put}
-use Rattle.cells.proofs.Keys.{sits-not, sits-is, none-sits, shown, look, carried-look, carried_other, put-find}
+use Rattle.cells.proofs.PutSlot.{count-put}
+use Rattle.cells.proofs.Keys.{sits-not, sits-is, none-sits, shown, look, Carried, carried-look, carried_other, put-find}
 
 -- An open slot whose piece passes; the piece under an id and index.
 unfoldable pub opens : (Piece → Bool) → Slot → Bool
@@ -25,10 +28,9 @@ opens p s = is_open s && p (piece_in s)
 unfoldable pub piece_at : ℕ → ℕ → List Slot → Option Piece
 piece_at id i l = option (find (sits (open_as id) i) l) none (λ s. some (piece_in s))
 
--- The open slots hold the pieces ps: every test finds as much in the one as in the other, and under each id and index stands the same
--- piece.
+-- The open slots hold the pieces ps: as many pass a test in the one as in the other, and under each id and index stands the same piece.
 pub record Pieces (ps : List Piece) (l : List Slot) : Type 0 where
-  pub tests : (p : Piece → Bool) → any p ps ≡ any (opens p) l
+  pub counts : (p : Piece → Bool) → count_of p ps ≡ count_of (opens p) l
   pub finds : (id i : ℕ) → find (is_piece_at id i) ps ≡ piece_at id i l
 
 opens-free : (p : Piece → Bool) (s : Slot) → is_free s ≡ true → opens p s ≡ false
@@ -53,15 +55,20 @@ of-open id s = refl
 open-not : (id : ℕ) (s : Slot) → is_open s ≡ false → of (open_as id) s ≡ false
 open-not id s e = rw (of-open id s, e)
 
+-- A change that leaves each open piece what it was.
+pub pieces-same : (h : Slot → Slot) (ps : List Piece) (l : List Slot) → ((p : Piece → Bool) (s : Slot) → Memᴰ s l → opens p (h s)
+    ≡ opens p s) → ((id : ℕ) → Carried (open_as id) (open_as id) h l) → Pieces ps l → Pieces ps (map h l)
+pieces-same h ps l e c v = record {
+  counts = λ p. v.counts p ∙ sym (count_map (opens p) (opens p) h l (e p));
+  finds = λ id i. v.finds id i ∙ sym (piece_at-look id i l (map h l) id (carried-look (c id) i));
+}
+
 -- A change that touches no open piece.
 pub pieces-other : (q : Slot → Bool) (g : Slot → Slot) (ps : List Piece) (l : List Slot)
     → ((s : Slot) → Memᴰ s l → q s ≡ true → (is_open s ≡ false) × (is_open (g s) ≡ false)) → Pieces ps l → Pieces ps (map_if q g l)
 unfolding map_if change opens
-pieces-other q g ps l e v = record {
-  tests = λ p. v.tests p ∙ sym (any-map (opens p) (opens p) (change q g) l (point p));
-  finds = λ id i. v.finds id i ∙ sym (piece_at-look id i l (map (change q g) l) id
-      (carried-look (carried_other (open_as id) q g l (λ s m t. let r = e s m t in (open-not id s r.0, open-not id (g s) r.1))) i));
-}
+pieces-other q g ps l e v = pieces-same (change q g) ps l point
+    (λ id. carried_other (open_as id) q g l (λ s m t. let r = e s m t in (open-not id s r.0, open-not id (g s) r.1))) v
   where
     point : (p : Piece → Bool) (s : Slot) → Memᴰ s l → opens p (change q g s) ≡ opens p s
     point p s m = cases (q s) (λ t. let r = e s m t in rw (t, r.0, r.1)) (λ t. rw t)
@@ -70,7 +77,7 @@ pub pieces-put-other : (x : Slot) (ps : List Piece) (l : List Slot) → any is_f
     → Pieces ps (put_slot x l)
 unfolding opens piece_at
 pieces-put-other x ps l room e v = record {
-  tests = λ p. v.tests p ∙ sym (any-put (opens p) x (opens-free p) l room ∙ rw e);
+  counts = λ p. v.counts p ∙ sym (count-put (opens p) x (opens-free p) l room ∙ rw e (omega arith));
   finds = λ id i. let n = sits-not (open_as id) i x (open-not id x e) in v.finds id i
       ∙ sym (rw (put-find x l room (open_as id) i (λ t. neither (sits (open_as id) i x) t n), n));
 }
@@ -112,7 +119,7 @@ fresh-index f l e = any-all (sits (open_as f.id) f.index) l (λ s m. cases (sits
 
 pub tests-clash : (f : Frame) (ps : List Piece) (l : List Slot) → Pieces ps l → any (conflict (piece_of f)) ps ≡ any (clash f) l
 unfolding clash opens
-tests-clash f ps l v = v.tests (conflict (piece_of f))
+tests-clash f ps l v = any-counted (conflict (piece_of f)) (opens (conflict (piece_of f))) ps l (v.counts (conflict (piece_of f)))
 
 piece_in-slot_of : (f : Frame) (u t : ℕ) → f.piece ≡ true → piece_in (slot_of f u t) ≡ piece_of f
 unfolding piece_in slot_of piece_of
@@ -150,9 +157,10 @@ fresh-open f l e c id i t = let r = is_piece-true id i (piece_of f) (sym (sits-n
 
 pub pieces-put : (f : Frame) (ps : List Piece) (l : List Slot) → any is_free l ≡ true → f.piece ≡ true → any (clash f) l ≡ false
     → Pieces ps l → Pieces (piece_of f ∷ ps) (put_slot (slot_of f 1 0) l)
-unfolding any find piece_at piece_of
+unfolding count_of find piece_at piece_of
 pieces-put f ps l room e c v = record {
-  tests = λ p. sym (any-put (opens p) (slot_of f 1 0) (opens-free p) l room ∙ rw (opens-new p f 0, piece_in-slot_of f 1 0 e, v.tests p));
+  counts = λ p. sym (count-put (opens p) (slot_of f 1 0) (opens-free p) l room
+      ∙ rw (opens-new p f 0, piece_in-slot_of f 1 0 e, v.counts p) (one-more (p (piece_of f)) (count_of (opens p) l)));
   finds = λ id i. sym (rw (put-find (slot_of f 1 0) l room (open_as id) i (fresh-open f l e c id i), sits-new id i f 0 e, v.finds id i)
       (go (is_piece_at id i (piece_of f)) (find (sits (open_as id) i) l)));
 }
@@ -162,54 +170,105 @@ pieces-put f ps l room e c v = record {
     go true o = ap {B = Option Piece} some (piece_in-slot_of f 1 0 e)
     go false o = refl
 
+    one-more : (t : Bool) (n : ℕ) → cond t 1 0 + n ≡ cond t (suc n) n
+    one-more true n = omega arith
+    one-more false n = omega arith
+
 is_piece-has_id : (id id' i : ℕ) (g : Piece) → is_piece_at id' i g ≡ true → eqb id' id ≡ has_id id g
 unfolding is_piece_at has_id
 is_piece-has_id id id' i g e = ap (λ (n : ℕ). eqb n id) (sym (eqb-true _ _ (and_left (eqb g.id id') _ e)))
 
+-- Of a message's slots none pass, or all do.
+abbrev pub AllOrNone : (Slot → Bool) → List Slot → Key → Type 0
+AllOrNone q l k = ((s : Slot) → Memᴰ s l → q s ≡ true → of k s ≡ false) ⊎ ((s : Slot) → Memᴰ s l → of k s ≡ true → q s ≡ true)
+
+-- Open pieces are dropped, or become a message: of each id all, or none. r tells them, and q their slots, which are open no more.
+module _ (r : Piece → Bool) (q : Slot → Bool) (g : Slot → Slot) (ps : List Piece) (l : List Slot)
+    (told : (s : Slot) → Memᴰ s l → opens r s ≡ q s) (shut : (s : Slot) → is_open (g s) ≡ false)
+    (v : Pieces ps l) where
+  without-tests : (p : Piece → Bool) (s : Slot) → Memᴰ s l → opens p (change q g s) ≡ opens (λ x. p x && not (r x)) s
+  unfolding change opens
+  without-tests p s m = cond-ap (opens p) (q s) (g s) s
+      ∙ rw (shut s, ← told s m) (table (is_open s) (r (piece_in s)) (p (piece_in s)))
+    where
+      table : (a b c : Bool) → cond (a && b) false (a && c) ≡ (a && (c && not b))
+      table true true true = refl
+      table true true false = refl
+      table true false true = refl
+      table true false false = refl
+      table false true true = refl
+      table false true false = refl
+      table false false true = refl
+      table false false false = refl
+
+  module _ (id : ℕ) where
+    its : (x : Piece) (i : ℕ) → is_piece_at id i x ≡ true → has_id id x ≡ true
+    unfolding is_piece_at has_id
+    its x i e = and_left (eqb x.id id) _ e
+
+    slot-told : (s : Slot) → Memᴰ s l → of (open_as id) s ≡ true → r (piece_in s) ≡ q s
+    unfolding opens
+    slot-told s m y = rw (open_of id s y).0 at (told s m)
+
+    -- what no slot of the id passes, no piece of it does
+    none_of : (p : Piece → Bool) → ((s : Slot) → Memᴰ s l → of (open_as id) s ≡ true → p (piece_in s) ≡ false) → (x : Piece)
+        → Memᴰ x ps → has_id id x ≡ true → p x ≡ false
+    unfolding opens has_id piece_in
+    none_of p e x m h = cases (p x) (λ y. neither (has_id id x && p x) (and_both _ _ h y) (any_false (λ x. has_id id x && p x) ps none x m))
+        (λ y. y)
+      where
+        none : any (λ x. has_id id x && p x) ps ≡ false
+        none = any-counted (λ x. has_id id x && p x) (opens (λ x. has_id id x && p x)) ps l (v.counts (λ x. has_id id x && p x))
+            ∙ any-all (opens (λ x. has_id id x && p x)) l (λ s m. cases (opens (λ x. has_id id x && p x) s)
+            (λ y. let z = and_right (is_open s) _ y in
+            neither (p (piece_in s)) (and_right (eqb s.cell.id id) _ z)
+            (e s m (of-open id s ∙ and_both _ _ (and_left (is_open s) _ y) (and_left (eqb s.cell.id id) _ z))))
+            (λ y. y))
+
+    -- no piece of the id goes
+    stay : ((s : Slot) → Memᴰ s l → q s ≡ true → of (open_as id) s ≡ false) → (i : ℕ) → find (is_piece_at id i) (without r ps)
+        ≡ piece_at id i (map (change q g) l)
+    stay e i = find-without (is_piece_at id i) r ps (λ x m y. cases (is_piece_at id i x)
+        (λ z. neither (r x) y (none_of r (λ s m o. slot-told s m o ∙ cases (q s) (λ t. neither (of (open_as id) s) o (e s m t)) (λ t. t))
+        x m (its x i z)))
+        (λ z. z))
+        ∙ (v.finds id i ∙ sym (piece_at-look id i l (map (change q g) l) id
+        (carried-look (carried_other (open_as id) q g l (λ s m y. (e s m y, open-not id (g s) (shut s)))) i)))
+
+    -- all pieces of the id go
+    leave : ((s : Slot) → Memᴰ s l → of (open_as id) s ≡ true → q s ≡ true) → (i : ℕ) → find (is_piece_at id i) (without r ps)
+        ≡ piece_at id i (map (change q g) l)
+    unfolding change piece_at
+    leave e i = find-no (is_piece_at id i) (without r ps) (any-all _ _ (λ x m. cases (is_piece_at id i x)
+        (λ z. let w = without-mem r ps x m in
+        neither (not (r x)) (rw w.1) (none_of (λ x. not (r x)) (λ s m o. rw (slot-told s m o, e s m o)) x w.0 (its x i z)))
+        (λ z. z)))
+        ∙ sym (rw (find-no (sits (open_as id) i) (map (change q g) l) (none-sits (open_as id) i (map (change q g) l) gone)))
+      where
+        gone : any (of (open_as id)) (map (change q g) l) ≡ false
+        gone = any-map (of (open_as id)) (λ s. false) (change q g) l
+            (λ s m. cases (q s) (λ y. rw y (open-not id (g s) (shut s)))
+            (λ y. rw y (cases (of (open_as id) s) (λ z. neither (q s) (e s m z) y) (λ z. z))))
+            ∙ any-all (λ s. false) l (λ s m. refl)
+
+  pub pieces-without : ((id : ℕ) → AllOrNone q l (open_as id)) → Pieces (without r ps) (map_if q g l)
+  unfolding map_if
+  pieces-without whole = record {
+    counts = λ p. count-without p r ps ∙ (v.counts (λ x. p x && not (r x))
+        ∙ sym (count_map (opens p) (opens (λ x. p x && not (r x))) (change q g) l (without-tests p)));
+    finds = λ id i. go id i (whole id);
+  }
+    where
+      go : (id i : ℕ) → AllOrNone q l (open_as id) → find (is_piece_at id i) (without r ps) ≡ piece_at id i (map (change q g) l)
+      go id i (inl e) = stay id e i
+      go id i (inr e) = leave id e i
+
+-- A joined message's pieces.
 pub pieces-close : (id u t : ℕ) (ps : List Piece) (l : List Slot) → eqb u 1 ≡ false → Pieces ps l → Pieces (without (has_id id) ps)
     (turn_to (open_as id) u t l)
-unfolding turn_to map_if opens has_id mark mark_cell is_open piece_in change piece_at
-pieces-close id u t ps l e v = record {
-  tests = λ p. any-without p (has_id id) ps ∙ (v.tests (λ g. p g && not (has_id id g))
-      ∙ sym (any-map (opens p) (opens (λ g. p g && not (has_id id g))) (change (of (open_as id)) (mark u t)) l (point p)));
-  finds = λ id' i. cases (eqb id' id) (same id' i) (other id' i);
-}
+unfolding turn_to opens has_id piece_in of bears is_open mark mark_cell
+pieces-close id u t ps l e v = pieces-without (has_id id) (of (open_as id)) (mark u t) ps l (λ s m. refl) (λ s. e) v
+    (λ id'. cases (eqb id' id) (λ y. inr (λ s m o. rw (← eqb-true id' id y) o)) (λ y. inl (λ s m o. apart id' y s o)))
   where
-    table : (a b c : Bool) → cond (a && b) false (a && c) ≡ (a && (c && not b))
-    table true true true = refl
-    table true true false = refl
-    table true false true = refl
-    table true false false = refl
-    table false true true = refl
-    table false true false = refl
-    table false false true = refl
-    table false false false = refl
-
-    point : (p : Piece → Bool) (s : Slot) → Memᴰ s l → opens p (change (of (open_as id)) (mark u t) s)
-        ≡ opens (λ g. p g && not (has_id id g)) s
-    point p s m = cond-ap (opens p) (of (open_as id) s) (mark u t s) s
-        ∙ rw (of-open id s, e) (table (is_open s) (eqb s.cell.id id) (p (piece_in s)))
-
-    marked : (id' : ℕ) (s : Slot) → of (open_as id') (mark u t s) ≡ false
-    marked id' s = rw (of-open id' (mark u t s), e)
-
-    gone : any (of (open_as id)) (turn_to (open_as id) u t l) ≡ false
-    gone = any-map (of (open_as id)) (λ s. false) (change (of (open_as id)) (mark u t)) l
-        (λ s m. cases (of (open_as id) s) (λ y. rw y (marked id s)) (λ y. rw y y)) ∙ any-all (λ s. false) l (λ s m. refl)
-
-    same : (id' i : ℕ) → eqb id' id ≡ true → find (is_piece_at id' i) (without (has_id id) ps) ≡ piece_at id' i (turn_to (open_as id) u t l)
-    same id' i q = find-no (is_piece_at id' i) (without (has_id id) ps) (any-all _ _ (λ g m. cases (is_piece_at id' i g)
-        (λ y. let r = (without-mem (has_id id) ps g m).1 in neither (has_id id g) (sym (is_piece-has_id id id' i g y) ∙ q) r)
-        (λ y. y)))
-        ∙ sym (rw (find-no (sits (open_as id') i) (turn_to (open_as id) u t l)
-        (none-sits (open_as id') i (turn_to (open_as id) u t l) (rw (eqb-true id' id q) gone))))
-
-    other : (id' i : ℕ) → eqb id' id ≡ false → find (is_piece_at id' i) (without (has_id id) ps)
-        ≡ piece_at id' i (turn_to (open_as id) u t l)
-    other id' i q = find-without (is_piece_at id' i) (has_id id) ps
-        (λ g y. cases (is_piece_at id' i g) (λ z. neither (has_id id g) y (sym (is_piece-has_id id id' i g z) ∙ q)) (λ z. z))
-        ∙ (v.finds id' i ∙ sym (piece_at-look id' i l (turn_to (open_as id) u t l) id'
-        (carried-look (carried_other (open_as id') (of (open_as id)) (mark u t) l (λ s m y. (apart s y, marked id' s))) i)))
-      where
-        apart : (s : Slot) → of (open_as id) s ≡ true → of (open_as id') s ≡ false
-        apart s y = cases (of (open_as id') s) (λ z. absurd (eqb-false _ _ q (sym (open_of id' s z).1 ∙ (open_of id s y).1))) (λ z. z)
+    apart : (id' : ℕ) → eqb id' id ≡ false → (s : Slot) → of (open_as id) s ≡ true → of (open_as id') s ≡ false
+    apart id' q s y = cases (of (open_as id') s) (λ z. absurd (eqb-false _ _ q (sym (open_of id' s z).1 ∙ (open_of id s y).1))) (λ z. z)

@@ -170,4 +170,4 @@ module _ {o : Out} {next : ℕ → ℕ} {l : List Slot} {lo n : ℕ} {h : List M
 
       stays : (c k : ℕ) → is_at c k m ≡ false → find (is_at c k) (without (is_at m.channel m.order) o.held)
           ≡ find (is_at c k) o.held
-      stays c k t = find-without (is_at c k) (is_at m.channel m.order) o.held (λ x e. is_at-same x m c k e ∙ t)
+      stays c k t = find-without (is_at c k) (is_at m.channel m.order) o.held (λ x i e. is_at-same x m c k e ∙ t)

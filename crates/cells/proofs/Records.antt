@@ -13,6 +13,7 @@ use Rattle.bare.specs.Bare.{conflict}
 use Rattle.cells.specs.Records.{unused_at, change_cells, clash_cell, before_cell, earliest_cell}
 use Rattle.cells.specs.Cell.{Cell, Slot, Key, held_as, bears, at, of, sits, is_free, is_open, is_ready, all_there, piece_in, clash}
 use Rattle.cells.specs.Cell.{mark_cell, mark, empty_cell, empty_slot, change, map_if, turn_to, freed, put_slot}
+use Rattle.cells.specs.Ages.{is_stale, dropped}
 use Rattle.cells.specs.Datagram.{is_held, is_first, is_before, rank}
 use Rattle.cells.specs.Take.{earliest}
 use Rattle.cells.specs.Sound.{lacks_none}
@@ -51,6 +52,10 @@ cells-turn k u t l = cells-change (of k) (mark u t) (bears k) (mark_cell u t) (�
 pub cells-freed : (k : Key) (l : List Slot) → cells_of (freed k l) ≡ change_cells (bears k) (λ c. empty_cell) (cells_of l)
 unfolding freed of empty_slot
 cells-freed k l = cells-change (of k) (λ s. empty_slot) (bears k) (λ c. empty_cell) (λ s. refl) (λ s. refl) l
+
+pub cells-dropped : (n : ℕ) (l : List Slot) → cells_of (dropped n l) ≡ change_cells (is_stale n) (λ c. empty_cell) (cells_of l)
+unfolding dropped empty_slot
+cells-dropped n l = cells-change (λ s. is_stale n s.cell) (λ s. empty_slot) (is_stale n) (λ c. empty_cell) (λ s. refl) (λ s. refl) l
 
 pub cells-put : (x : Slot) (l : List Slot) → cells_of (put_slot x l) ≡ set (cells_of l) (unused_at (cells_of l)) x.cell
 unfolding put_slot unused_at cells_of is_free

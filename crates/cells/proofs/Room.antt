@@ -19,15 +19,16 @@ use Rattle.bare.specs.Bare.{seen_before, accept_reliable, step}
 use Rattle.cells.specs.Cell.{Slot, Key, open_as, held_as, of, is_free, is_ready, all_there, clash, mark, change, map_if, turn_to, put_slot}
 use Rattle.cells.specs.Cell.{slot_of}
 use Rattle.cells.specs.Datagram.{Work, drop_one, fill_up, place, made, rise, remember_in, accept_in, is_held, go_on, cascade, follows, Fate}
-use Rattle.cells.specs.Datagram.{late, early, due, newer, free, fate, fate_of, roomy, readied, whole, joins, kept, piece, keep_in}
-use Rattle.cells.specs.Datagram.{frame, frames, rank, renumber, State, begin, datagram}
+use Rattle.cells.specs.Datagram.{late, early, due, newer, free, fate, fate_of, roomy, readied, whole, joins, kept, put_piece, renew, piece}
+use Rattle.cells.specs.Datagram.{keep_in, frame, frames, rank, renumber, State, begin, grow, datagram}
 use Rattle.cells.specs.Room.{kept_as_frame, bodies, exceeds}
 use Rattle.cells.proofs.PutSlot.{free-put}
 use Rattle.cells.proofs.Keys.{key-used, used-free, mark-free}
 use Rattle.cells.proofs.Pieces.{tests-clash}
 use Rattle.cells.proofs.FrameSlot.{slot-free}
-use Rattle.cells.proofs.Cascade.{is_held-is}
-use Rattle.cells.proofs.Frames.{Rel, sim-rel, frame-sim, follows-full, kept_full, frames-full}
+use Rattle.cells.proofs.Cascade.{Rel, is_held-is}
+use Rattle.cells.proofs.Aging.{grown-free, grow-rel, renewed-free}
+use Rattle.cells.proofs.Frames.{sim-rel, frame-sim, follows-full, kept_full, frames-full}
 
 -- How a working state's unused slots change: one less for k = 1, unless there was none.
 abbrev Spends : Work → Work → ℕ → Type 0
@@ -89,12 +90,16 @@ whole-spends free f w = roomy-spends (slot_of f 3 w.turn) w _ (slot-free f 3 w.t
 whole-spends due f w = roomy-spends (slot_of f 3 w.turn) w _ (slot-free f 3 w.turn (λ q. omega arith)) (follows-full f.channel _)
     (free-follows f.channel _)
 
+put-spends : (f : Frame) (w : Work) → Spends w (put_piece f w) 1
+unfolding put_piece place
+put-spends f w = roomy-spends (slot_of f 1 0) w _ (slot-free f 1 0 (λ q. omega arith))
+    (kept_full f (place (put_slot (slot_of f 1 0) w.state.slots) w)) (free-kept f (place (put_slot (slot_of f 1 0) w.state.slots) w))
+
 piece-spends : (f : Frame) (w : Work) → Spends w (piece f w) (cond (not (any (clash f) w.state.slots)) 1 0)
-unfolding piece drop_one place
+unfolding piece drop_one renew place
 piece-spends f w = cases (any (clash f) w.state.slots)
     (λ t. rw t (inr (refl, omega arith)))
-    (λ t. rw t (roomy-spends (slot_of f 1 0) w _ (slot-free f 1 0 (λ q. omega arith))
-    (kept_full f (place (put_slot (slot_of f 1 0) w.state.slots) w)) (free-kept f (place (put_slot (slot_of f 1 0) w.state.slots) w))))
+    (λ t. rw t (rw (renewed-free f.id w.state.slots) at (put-spends f (renew f w))))
 
 follow-dropped : (n c : ℕ) (s : Sent) → (follow n c s).dropped ≡ s.dropped
 unfolding follow emit
@@ -197,9 +202,9 @@ free-renumber l = count_map is_free is_free (change is_ready (λ s. mark 3 (rank
 -- A state that a datagram finds related to a bare receiver.
 pub related-room : (b : Bare) (s : State) (h : List Message) (fs : List Frame) → Rel b (begin s) h → (datagram s fs).full
     ≡ exceeds b s.slots fs
-unfolding datagram begin exceeds
+unfolding datagram begin grow place exceeds
 related-room b s h fs v =
     let u = count-both is_free s.slots in
-    frames-spends fs b (begin s) h v refl
-    ∙ (rw (free-renumber s.slots) (ltb-shift (count_of (λ x. not (is_free x)) s.slots) (length s.slots) (count_of is_free s.slots)
-    (bodies b fs) (omega arith)))
+    frames-spends fs b (grow (begin s)) h (grow-rel b (begin s) h v) refl
+    ∙ (rw (grown-free (renumber s.slots), free-renumber s.slots) (ltb-shift (count_of (λ x. not (is_free x)) s.slots) (length s.slots)
+    (count_of is_free s.slots) (bodies b fs) (omega arith)))

@@ -16,14 +16,15 @@ use Rattle.bare.proofs.Shown.{whole-frame, piece-frame, msg}
 use Rattle.cells.specs.Cell.{Slot, bears, at, of, sits, is_free, is_open, is_ready, join, all_there, message_of, message_at, piece_in}
 use Rattle.cells.specs.Cell.{clash}
 use Rattle.cells.specs.Cell.{mark_cell, mark, empty_cell, empty_slot, change, map_if, turn_to, freed, put_slot, slot_of}
+use Rattle.cells.specs.Ages.{with_age, aged, next_age, grown, renewed, is_stale, dropped}
 use Rattle.cells.specs.Datagram.{drop_one, fill_up, place, made, rise, accept_in, is_held, go_on, cascade, follows, fate, fate_of, roomy}
-use Rattle.cells.specs.Datagram.{remember_in, readied, whole, joins, kept, piece, keep_in, frame, frames, is_first, is_before, rank}
-use Rattle.cells.specs.Datagram.{renumber, sweep, begin, State, with_slots, end, datagram}
+use Rattle.cells.specs.Datagram.{remember_in, readied, whole, joins, kept, put_piece, renew, piece, keep_in, frame, frames, is_first}
+use Rattle.cells.specs.Datagram.{is_before, rank, renumber, sweep, begin, State, with_slots, end, grow, datagram}
 use Rattle.cells.specs.Take.{lower, earliest, taking, drain_in, drain}
-use Rattle.cells.specs.Sound.{key_of, limits, agree, lacks_none, sound_cell, sound, lengths}
+use Rattle.cells.specs.Sound.{key_of, age_of, limits, agree, alike, lacks_none, sound_cell, sound, lengths}
 use Rattle.cells.specs.Store.{cell_size, cell_body, slots_of, cells_of, laid, store_of}
 
--- A slot by its record's fields and its body; the length is the body's.
+-- A slot by its record's fields and its body; the length is the body's, the age 0.
 unfoldable pub slot : ℕ → ℕ → ℕ → ℕ → ℕ → ℕ → ℕ → ℕ → ℕ → List ℕ → Slot
 slot used id index kind channel count sequence order turn body = record {
   cell = record {
@@ -37,6 +38,7 @@ slot used id index kind channel count sequence order turn body = record {
     sequence = sequence;
     order = order;
     turn = turn;
+    age = 0;
   };
   body = body;
 }
@@ -67,15 +69,17 @@ numbered n f = record {
   body = f.body;
 }
 
--- A call on slots: a datagram's frames, or a take with a joining buffer long enough.
+-- A call on slots: a datagram's frames, a take with a joining buffer long enough, or request 4's drop with its n.
 pub data SlotCall : Type 0 where
   receive : List Frame → SlotCall
   take : SlotCall
+  drop_past : ℕ → SlotCall
 
--- What a call was told, by document 01: messages made ready and frames dropped; a message; or a refusal's number.
+-- What a call was told: messages made ready and frames dropped; a message; the cells that it freed; or a refusal's number.
 pub data Told : Type 0 where
   gave : ℕ → ℕ → Told
   took : Message → Told
+  gave_back : ℕ → Told
   refused : ℕ → Told
 
 -- That, and the slots after the call.
@@ -89,11 +93,13 @@ saw told slots = record { told = told; slots = slots }
 unfoldable pub telling : State → SlotCall → Told
 telling s (receive fs) = cond (datagram s fs).full (refused 8) (gave (datagram s fs).counts.ready (datagram s fs).counts.dropped)
 telling s take = option (taking s.slots) (refused 20) (λ t. took t.message)
+telling s (drop_past n) = gave_back (count_of (λ x. is_stale n x.cell) s.slots)
 
 -- "A refusal returns its number and the state unchanged"
 unfoldable pub state_after : State → SlotCall → State
 state_after s (receive fs) = cond (datagram s fs).full s (end (datagram s fs))
 state_after s take = option (taking s.slots) s (λ t. with_slots t.slots s)
+state_after s (drop_past n) = with_slots (dropped n s.slots) s
 
 unfoldable pub seeing : State → List SlotCall → List Seen
 seeing s [] = []
@@ -109,13 +115,13 @@ state_at c l = state_as Console c l
 -- The calls of a list, from a receiver just made of n cells. `unfolding run` opens every definition that a run computes with.
 unfoldable pub run : ℕ → List SlotCall → List Seen
 unfolding slot open-cell held-cell ready-cell saw telling state_after seeing state_as state_at whole-frame piece-frame numbered msg every
-    key_of limits agree lacks_none below sound_cell sound lengths find any without only carries_reliable ordered sequenced is_at bump emit
-    follow quiet hold append queue memory_of older noted bare.remember ready sequence deliver message keep assemble joined drop_in finish
-    step feed new piece_of conflict is_piece_at has_id in_limits accept_reliable seen_before bears at of sits is_free is_open is_ready
-    count_of join all_there message_of message_at piece_in clash mark mark_cell empty_cell empty_slot change map_if turn_to freed put_slot
-    slot_of drop_one fill_up place made rise accept_in is_held go_on cascade remember_in fate fate_of follows roomy readied whole joins kept
-    piece keep_in frame frames is_first is_before rank renumber sweep begin end datagram lower earliest taking drain_in drain cell_size
-    cell_body slots_of cells_of laid store_of
+    key_of age_of limits agree alike lacks_none below sound_cell sound lengths find any without only carries_reliable ordered sequenced
+    is_at bump emit follow quiet hold append queue memory_of older noted bare.remember ready sequence deliver message keep assemble joined
+    drop_in finish step feed new piece_of conflict is_piece_at has_id in_limits accept_reliable seen_before bears at of sits is_free is_open
+    is_ready count_of join all_there message_of message_at piece_in clash mark mark_cell empty_cell empty_slot change map_if turn_to freed
+    put_slot slot_of drop_one fill_up place made rise accept_in is_held go_on cascade remember_in fate fate_of follows roomy readied whole
+    joins kept put_piece renew piece keep_in frame frames is_first is_before rank renumber sweep begin end grow with_age aged next_age
+    grown renewed is_stale dropped datagram lower earliest taking drain_in drain cell_size cell_body slots_of cells_of laid store_of
 run n cs = seeing (state_at 0 (replicate n empty_slot)) cs
 
 -- The same in a profile.

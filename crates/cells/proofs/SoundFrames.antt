@@ -18,7 +18,7 @@ use Rattle.bare.proofs.Tests.{piece-limits, is_at-true}
 use Rattle.cells.specs.Cell.{Slot, Key, open_as, held_as, ready_as, bears, of, is_free, all_there, clash, turn_to, put_slot, slot_of}
 use Rattle.cells.specs.Datagram.{Work, drop_one, fill_up, place, made, remember_in, accept_in, is_held, Fate, late, early, due, newer}
 use Rattle.cells.specs.Datagram.{free}
-use Rattle.cells.specs.Datagram.{fate, fate_of, roomy, readied, whole, joins, kept, piece, keep_in, frame, frames}
+use Rattle.cells.specs.Datagram.{fate, fate_of, roomy, readied, whole, joins, kept, put_piece, renew, piece, keep_in, frame, frames}
 use Rattle.cells.specs.Sound.{Readable}
 use Rattle.cells.proofs.PutSlot.{mem-put}
 use Rattle.cells.proofs.Keys.{of-used, no-key-of-4, put-any-of}
@@ -26,6 +26,7 @@ use Rattle.cells.proofs.Moves.{of-apart, of-mark, of-mark-held, ready_held, held
 use Rattle.cells.proofs.FrameSlot.{of-slot-held, of-slot-ready, of-slot-other, slot-index, slot-count, put-fresh, fresh-held}
 use Rattle.cells.proofs.FrameSlot.{fresh-ready, fresh-piece, Agrees, agrees-no-clash, agrees-new, agrees-put}
 use Rattle.cells.proofs.SoundCore.{Bounds, Agreeing, Core, Lack, there-put, core-put, Target, core-turn, lack-turn}
+use Rattle.cells.proofs.Aging.{renewed-clash, renewed-sound}
 use Rattle.cells.proofs.SoundCascade.{Sound, fresh, ready-core, ready-below, follows-sound}
 
 slot-bounds : (f : Frame) (u t : ℕ) → Readable f → in_limits f ≡ true → u ≤ 4 → Bounds (slot_of f u t)
@@ -296,11 +297,16 @@ module _ (f : Frame) (w : Work) (ok : Readable f) (agree : (s : Slot) → Memᴰ
   kept-sound = by_bool SoundIn (all_there (open_as f.id) w.state.slots f.count) (λ t. joins-sound t (fate_of f w) (found f w))
       wait-sound
 
+put-sound : (f : Frame) (w : Work) → Readable f → in_limits f ≡ true → f.piece ≡ true → any (clash f) w.state.slots ≡ false → SoundIn w
+    → SoundIn (put_piece f w)
+unfolding put_piece place
+put-sound f w ok lim e c v = roomy-sound w _ v (λ room. kept-sound f (place (put_slot (slot_of f 1 0) w.state.slots) w) ok
+    (agrees-put f w.state.slots e c) (put-but f w ok lim e c room v))
+
 piece-sound : (f : Frame) (w : Work) → Readable f → in_limits f ≡ true → f.piece ≡ true → SoundIn w → SoundIn (piece f w)
-unfolding piece drop_one place
-piece-sound f w ok lim e v = by_bool SoundIn (any (clash f) w.state.slots) (λ t. v)
-    (λ t. roomy-sound w _ v (λ room. kept-sound f (place (put_slot (slot_of f 1 0) w.state.slots) w) ok
-    (agrees-put f w.state.slots e t) (put-but f w ok lim e t room v)))
+unfolding piece drop_one renew place
+piece-sound f w ok lim e v = by_bool SoundIn (any (clash f) w.state.slots) (λ t. v) (λ t. put-sound f (renew f w) ok lim e
+    (renewed-clash f f.id w.state.slots ∙ t) (renewed-sound f.id w.state.slots v))
 
 frame-sound : (f : Frame) (w : Work) → Readable f → SoundIn w → SoundIn (frame w f)
 unfolding frame drop_one accept_in keep_in

@@ -18,7 +18,7 @@ use Rattle.base.proofs.Counts.{count-lt}
 use Rattle.bare.specs.Frame.{Frame}
 use Rattle.cells.specs.Cell.{Slot, Key, open_as, held_as, ready_as, of, sits, is_free, is_ready, all_there, empty_cell, empty_slot, change}
 use Rattle.cells.specs.Cell.{map_if, freed}
-use Rattle.cells.specs.Datagram.{Work, is_first, is_before, rank, renumber, sweep, State, begin, end, datagram}
+use Rattle.cells.specs.Datagram.{Work, is_first, is_before, rank, renumber, sweep, State, begin, end, grow, place, datagram}
 use Rattle.cells.specs.Take.{Taken, taking}
 use Rattle.cells.specs.Sound.{Readable}
 use Rattle.cells.proofs.Keys.{of_other, key-used, empty-free, empty_of, no-key-of-4, of-ready, ready_of, sits-is, Carried}
@@ -29,6 +29,7 @@ use Rattle.cells.proofs.TurnOrder.{retime, Rising, retime-yes, retime-no, retime
 use Rattle.cells.proofs.Takes.{taken-freed}
 use Rattle.cells.proofs.SoundCore.{Bounds, Core, Source, gone, from, core-map, from-same, Lack, lack-map, same-or-apart, bounds-mark}
 use Rattle.cells.proofs.SoundCascade.{Sound}
+use Rattle.cells.proofs.Aging.{grown-sound}
 use Rattle.cells.proofs.SoundFrames.{frames-sound}
 
 -- Sound cells, and each channel's next.
@@ -118,16 +119,21 @@ unfolding change
 lost k l = any-map (of k) (λ s. false) (change (of k) (λ s. empty_slot)) l (λ s m. cases (of k s) (λ y. rw y (empty_of k)) (λ y. rw y y))
     ∙ any-all (λ s. false) l (λ s m. refl)
 
+-- Each message keeps all its cells or loses them all.
+pub emptied-rest : (next : ℕ → ℕ) (q : Slot → Bool) (l : List Slot) → ((k : Key) → ((s : Slot) → Memᴰ s l → q s ≡ true → of k s ≡ false) ⊎
+    (any (of k) (map (change q (λ s. empty_slot)) l) ≡ false)) → Rest next l → Rest next (map_if q (λ s. empty_slot) l)
+emptied-rest next q l keep v = record {
+  core = emptied-core q l v.core keep;
+  uses = emptied-uses q l (λ s m y. v.uses s m);
+  lack = emptied-lack q l v.core keep v.lack;
+  ahead = emptied-ahead q l v.core keep next v.ahead;
+  nexts = v.nexts;
+}
+
 -- A taken message's cells.
 freed-rest : (next : ℕ → ℕ) (l : List Slot) (k : Key) → Rest next l → Rest next (freed k l)
 unfolding freed
-freed-rest next l k v = record {
-  core = emptied-core (of k) l v.core keep;
-  uses = emptied-uses (of k) l (λ s m y. v.uses s m);
-  lack = emptied-lack (of k) l v.core keep v.lack;
-  ahead = emptied-ahead (of k) l v.core keep next v.ahead;
-  nexts = v.nexts;
-}
+freed-rest next l k v = emptied-rest next (of k) l keep v
   where
     keep : (j : Key) → ((s : Slot) → Memᴰ s l → of k s ≡ true → of j s ≡ false) ⊎ (any (of j) (map (change (of k) (λ s. empty_slot)) l)
         ≡ false)
@@ -232,5 +238,6 @@ module _ (next : ℕ → ℕ) (l : List Slot) (v : Rest next l) where
 -- A datagram leaves sound cells.
 pub datagram-rest : (s : State) (fs : List Frame) → ((f : Frame) → Memᴰ f fs → Readable f) → Rest s.next s.slots
     → Rest (end (datagram s fs)).next (end (datagram s fs)).slots
-unfolding datagram begin
-datagram-rest s fs ok v = end_rest (datagram s fs) (frames-sound fs (begin s) ok (begin-sound s.next s.slots v))
+unfolding datagram begin grow place
+datagram-rest s fs ok v = end_rest (datagram s fs) (frames-sound fs (grow (begin s)) ok
+    (grown-sound (renumber s.slots) (begin-sound s.next s.slots v)))

@@ -17,12 +17,13 @@ use Rattle.base.specs.Lists.{any}
 use Rattle.base.proofs.Choices.{by_bool, cases}
 use Rattle.bare.specs.Frame.{Frame, in_limits}
 use Rattle.bare.specs.Bare.{seen_before}
-use Rattle.cells.specs.Cell.{Cell, Slot, Key, open_as, held_as, ready_as, of, is_free, is_ready, all_there, clash, mark_cell, mark}
-use Rattle.cells.specs.Cell.{empty_cell, empty_slot, change, map_if, turn_to, freed, put_slot, slot_of}
+use Rattle.cells.specs.Cell.{Cell, Slot, Key, open_as, held_as, ready_as, of, is_free, is_open, is_ready, all_there, clash, mark_cell}
+use Rattle.cells.specs.Cell.{mark, empty_cell, empty_slot, change, map_if, turn_to, freed, put_slot, slot_of}
+use Rattle.cells.specs.Ages.{with_age, aged, grown, renewed, is_stale, dropped}
+use Rattle.cells.specs.Records.{change_cells}
 use Rattle.cells.specs.Datagram.{Work, drop_one, fill_up, place, made, rise, accept_in, is_held, go_on, cascade, follows, Fate, late}
-use Rattle.cells.specs.Datagram.{early, due, newer, free, remember_in, fate_of, roomy, readied, whole, joins, kept, piece, keep_in}
-use Rattle.cells.specs.Datagram.{frame}
-use Rattle.cells.specs.Datagram.{frames, renumber, sweep, State, begin, end, datagram}
+use Rattle.cells.specs.Datagram.{early, due, newer, free, remember_in, fate_of, roomy, readied, whole, joins, kept, put_piece, renew}
+use Rattle.cells.specs.Datagram.{piece, keep_in, frame, frames, renumber, sweep, State, begin, end, grow, datagram}
 use Rattle.cells.specs.Take.{Taken, taking}
 use Rattle.cells.specs.Sound.{Readable}
 use Rattle.cells.specs.Store.{cell_size, cell_body, slots_of, cells_of, laid, store_of}
@@ -96,6 +97,10 @@ mark-sized : (u t : ℕ) (s : Slot) → (u ≡ 0 → ⊥) → is_free s ≡ fals
 unfolding mark mark_cell is_free
 mark-sized u t s ne e z = record { none = λ f. absurd (ne (eqb-true u 0 f)); exact = λ f. z.exact e; fits = λ f. z.fits e }
 
+aged-sized : (n : ℕ) (s : Slot) → Sized s → Sized (aged n s)
+unfolding aged with_age is_free
+aged-sized n s z = record { none = z.none; exact = z.exact; fits = z.fits }
+
 slot-sized : (f : Frame) (u t : ℕ) → Readable f → (u ≡ 0 → ⊥) → Sized (slot_of f u t)
 unfolding slot_of is_free cell_size
 slot-sized f u t ok ne = record { none = λ e. absurd (ne (eqb-true u 0 e)); exact = λ e. refl; fits = λ e. ok.body }
@@ -166,11 +171,16 @@ module _ (n : ℕ) where
   kept-shaped f w v = by_bool (λ (x : Work). Shaped n x.state.slots) (all_there (open_as f.id) w.state.slots f.count)
       (λ y. joins-shaped (fate_of f w) f w v) (λ y. v)
 
+  put_piece-shaped : (f : Frame) (w : Work) → Readable f → Shaped n w.state.slots → Shaped n (put_piece f w).state.slots
+  unfolding put_piece place
+  put_piece-shaped f w ok v = roomy-shaped w _ v (kept-shaped f (place (put_slot (slot_of f 1 0) w.state.slots) w)
+      (put-shaped n (slot_of f 1 0) w.state.slots (slot-sized f 1 0 ok (λ q. omega arith)) v))
+
   piece-shaped : (f : Frame) (w : Work) → Readable f → Shaped n w.state.slots → Shaped n (piece f w).state.slots
-  unfolding piece drop_one place
+  unfolding piece drop_one renew place renewed
   piece-shaped f w ok v = by_bool (λ (x : Work). Shaped n x.state.slots) (any (clash f) w.state.slots) (λ y. v)
-      (λ y. roomy-shaped w _ v (kept-shaped f (place (put_slot (slot_of f 1 0) w.state.slots) w)
-      (put-shaped n (slot_of f 1 0) w.state.slots (slot-sized f 1 0 ok (λ q. omega arith)) v)))
+      (λ y. put_piece-shaped f (renew f w) ok
+      (change-shaped n (of (open_as f.id)) (aged 0) w.state.slots (λ s y z. aged-sized 0 s z) v))
 
   frame-shaped : (f : Frame) (w : Work) → Readable f → Shaped n w.state.slots → Shaped n (frame w f).state.slots
   unfolding frame keep_in drop_one accept_in
@@ -187,23 +197,29 @@ module _ (n : ℕ) where
   frames-shaped (f ∷ fs) w ok v = frames-shaped fs (frame w f) (λ g m. ok g (Memᴰ.tail m))
       (frame-shaped f w (ok f (Memᴰ.head refl)) v)
 
+  begun-shaped : (s : State) → Shaped n s.slots → Shaped n (grow (begin s)).state.slots
+  unfolding begin renumber grow place grown
+  begun-shaped s v = change-shaped n is_open _ _ (λ x y z. aged-sized _ x z) (change-shaped n is_ready _ s.slots
+      (λ x y z. mark-sized 3 _ x (λ q. omega arith) (ready-not-free x y) z) v)
+
   pub datagram-worked : (s : State) (fs : List Frame) → ((f : Frame) → Memᴰ f fs → Readable f) → Shaped n s.slots
       → Shaped n (datagram s fs).state.slots
-  unfolding datagram begin renumber
-  datagram-worked s fs ok v = frames-shaped fs (begin s) ok (change-shaped n is_ready _ s.slots
-      (λ x y z. mark-sized 3 _ x (λ q. omega arith) (ready-not-free x y) z) v)
+  unfolding datagram
+  datagram-worked s fs ok v = frames-shaped fs (grow (begin s)) ok (begun-shaped s v)
 
   pub datagram-shaped : (s : State) (fs : List Frame) → ((f : Frame) → Memᴰ f fs → Readable f) → Shaped n s.slots
       → Shaped n (end (datagram s fs)).slots
-  unfolding datagram begin end sweep renumber
-  datagram-shaped s fs ok v = change-shaped n _ _ _ (λ x y z. empty-sized)
-      (frames-shaped fs (begin s) ok (change-shaped n is_ready _ s.slots
-      (λ x y z. mark-sized 3 _ x (λ q. omega arith) (ready-not-free x y) z) v))
+  unfolding end sweep
+  datagram-shaped s fs ok v = change-shaped n _ _ _ (λ x y z. empty-sized) (datagram-worked s fs ok v)
 
   pub take-shaped : (l : List Slot) (t : Taken) → Shaped n l → taking l ≡ some t → Shaped n t.slots
   unfolding freed
   take-shaped l t v e = let f = taken-freed l t e in subst (Shaped n) (sym f.1) (change-shaped n (of (ready_as f.0)) (λ s. empty_slot) l
       (λ x y z. empty-sized) v)
+
+  pub drop-shaped : (m : ℕ) (l : List Slot) → Shaped n l → Shaped n (dropped m l)
+  unfolding dropped
+  drop-shaped m l v = change-shaped n (λ s. is_stale m s.cell) (λ s. empty_slot) l (λ x y z. empty-sized) v
 
 read-sized : (c : Cell) (store : List ℕ) → (eqb c.used 0 ≡ false → c.length ≤ cell_size) → cell_size ≤ length store
     → Sized (record { cell = c; body = cell_body c store })
@@ -300,3 +316,17 @@ unfolding freed
 take-read k cs store h le =
     let v = slots-shaped cs store h le in
     rw (store_same cs store h le) at (read-emptied (of k) (slots_of cs store) store v.sized (rw v.many le))
+
+-- Records that become unused, read from the store as it is: neither does a call of request 4 write a byte of it.
+emptied-read : (p : Cell → Bool) (cs : List Cell) (store : List ℕ) → slots_of (change_cells p (λ c. empty_cell) cs) store
+    ≡ map_if (λ s. p s.cell) (λ s. empty_slot) (slots_of cs store)
+unfolding slots_of change_cells map_if change
+emptied-read p [] store = refl
+emptied-read p (c ∷ cs) store = cases (p c)
+    (λ y. rw (y, emptied-read p cs (drop cell_size store), empty-read store))
+    (λ y. rw (y, emptied-read p cs (drop cell_size store)))
+
+pub drop-read : (n : ℕ) (cs : List Cell) (store : List ℕ) → slots_of (change_cells (is_stale n) (λ c. empty_cell) cs) store
+    ≡ dropped n (slots_of cs store)
+unfolding dropped
+drop-read n cs store = emptied-read (is_stale n) cs store

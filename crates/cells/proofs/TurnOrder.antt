@@ -86,7 +86,7 @@ module _ (ρ : ℕ → ℕ) where
       same = λ s m e. by_bool (λ (z : Slot). shown z ≡ shown s) (is_ready s) (λ y. refl) (λ y. refl);
     }
 
-empty-ready : is_ready empty_slot ≡ false
+pub empty-ready : is_ready empty_slot ≡ false
 unfolding is_ready empty_slot empty_cell
 empty-ready = refl
 

@@ -24,7 +24,7 @@ ready_use = 3
 abbrev pub released_use : ℕ
 released_use = 4
 
--- "One record stands beside each cell". turn: where a ready message stands among the ready.
+-- "One record stands beside each cell". turn: where a ready message stands among the ready. age: that of an open id (specs/Ages).
 abbrev pub Cell : Type 0
 Cell = CellRecord
 
@@ -97,7 +97,7 @@ piece_in s = record {
 unfoldable pub clash : Frame → Slot → Bool
 clash f s = is_open s && conflict (piece_of f) (piece_in s)
 
--- a message becomes held or ready: its cells get use u and turn t and keep the rest
+-- a message becomes held or ready: its cells get use u, turn t and age 0, and keep the rest
 unfoldable pub mark_cell : ℕ → ℕ → Cell → Cell
 mark_cell u t c = record {
   used = u;
@@ -110,6 +110,7 @@ mark_cell u t c = record {
   sequence = c.sequence;
   order = c.order;
   turn = t;
+  age = 0;
 }
 
 unfoldable pub mark : ℕ → ℕ → Slot → Slot
@@ -128,6 +129,7 @@ empty_cell = record {
   sequence = 0;
   order = 0;
   turn = 0;
+  age = 0;
 }
 
 unfoldable pub empty_slot : Slot
@@ -166,6 +168,7 @@ slot_of f u t = record {
     sequence = f.sequence;
     order = f.order;
     turn = t;
+    age = 0;
   };
   body = f.body;
 }

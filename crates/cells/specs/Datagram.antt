@@ -1,5 +1,5 @@
 -- A datagram's frames on the cells: document 01's four steps ("A datagram's frames, in order"; with request 1, late sequenced messages) on
--- a working state, and the turns and freed cells.
+-- a working state, and the turns and freed cells; with request 4, the ages of open ids.
 use Rattle.std.specs.Prelude.{ℕ, zero, suc, Bool, true, false, cond, ◌&&◌, ◌||◌, List, [], ◌∷◌, ltb, eqb, length}
 use Rattle.base.specs.Numbers.{behind}
 use Rattle.base.specs.Lists.{any, count_of}
@@ -8,6 +8,7 @@ use Rattle.bare.specs.Frame.{Frame, ordered, sequenced, in_limits}
 use Rattle.bare.specs.Bare.{bump, memory_of, older, noted, accept_reliable, seen_before}
 use Rattle.cells.specs.Cell.{Slot, open_as, held_as, of, is_free, is_ready, all_there, clash, mark, empty_slot, map_if, turn_to, put_slot}
 use Rattle.cells.specs.Cell.{slot_of, held_use, open_use, ready_use, released_use}
+use Rattle.cells.specs.Ages.{grown, renewed}
 
 -- What stays between two calls, as far as the four steps go: the profile, the reliable numbers accepted, each channel's next, the memories
 -- of newest sequence numbers and the slots.
@@ -119,8 +120,8 @@ fate kind c o n w =
 unfoldable pub fate_of : Frame → Work → Fate
 fate_of f w = fate f.kind f.channel f.order f.sequence w
 
--- A body "not dropped as a frame" needs a cell that was unused before the datagram (a late join's cells have use 4, so they are not free
--- yet).
+-- "bodies not dropped as frames": each needs a cell that was unused before the datagram (a late join's cells have use 4, so they are not
+-- free yet).
 unfoldable pub roomy : Work → Work → Work
 roomy w r = cond (any is_free w.state.slots) r (fill_up w)
 
@@ -148,13 +149,20 @@ joins free f w = made (turn_to (open_as f.id) ready_use w.turn w.state.slots) w
 unfoldable pub kept : Frame → Work → Work
 kept f w = let j = joins (fate_of f w) f w in cond (all_there (open_as f.id) w.state.slots f.count) j w
 
+unfoldable pub put_piece : Frame → Work → Work
+put_piece f w = roomy w (kept f (place (put_slot (slot_of f open_use 0) w.state.slots) w))
+
+-- its id's age is 0 (request 4)
+unfoldable pub renew : Frame → Work → Work
+renew f w = place (renewed f.id w.state.slots) w
+
 unfoldable pub piece : Frame → Work → Work
-piece f w = cond (any (clash f) w.state.slots) (drop_one w) (roomy w (kept f (place (put_slot (slot_of f open_use 0) w.state.slots) w)))
+piece f w = cond (any (clash f) w.state.slots) (drop_one w) (put_piece f (renew f w))
 
 unfoldable pub keep_in : Frame → Work → Work
 keep_in f w = cond f.piece (piece f w) (whole (fate_of f w) f w)
 
--- "Reliable number accepted before: drop. Else accept_reliable it. Channel, count or index over its limit: drop."
+-- "Reliable number accepted before: drop. Else accept it. Channel, count or index over its limit: drop."
 unfoldable pub frame : Work → Frame → Work
 frame w f = cond (seen_before f w.state.accepted) (drop_one w) (cond (in_limits f) (keep_in f (accept_in f w)) (drop_one (accept_in f w)))
 
@@ -190,5 +198,9 @@ begin s = record {
 unfoldable pub end : Work → State
 end w = with_slots (sweep w.state.slots) w.state
 
+-- each open id is one older, before the frames (request 4); one of which a piece is kept then gets age 0 (`renew`)
+unfoldable pub grow : Work → Work
+grow w = place (grown w.state.slots) w
+
 unfoldable pub datagram : State → List Frame → Work
-datagram s fs = frames (begin s) fs
+datagram s fs = frames (grow (begin s)) fs

@@ -1,4 +1,5 @@
 pub mod Cell
+pub mod Ages
 pub mod Datagram
 pub mod Take
 pub mod Sound

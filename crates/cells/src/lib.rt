@@ -15,7 +15,8 @@ pub const READY: u32 = 3;
 
 pub const RELEASED: u32 = 4;
 
-// One record stands beside each cell; all its numbers have one width. Other languages lay it out in memory, and lend it.
+// One record stands beside each cell. age: how many datagrams were accepted after the one that carried the last kept piece of its open
+// message (request 4), up to 2^32, which is why it alone has 64 bits. Other languages lay the record out in memory, and lend it.
 #[repr(C)]
 #[derive(Clone, Copy, Debug, Default, PartialEq, Eq)]
 pub struct CellRecord {
@@ -29,4 +30,5 @@ pub struct CellRecord {
     pub sequence: u32,
     pub order: u32,
     pub turn: u32,
+    pub age: u64,
 }

@@ -13,7 +13,7 @@ use Rattle.window.proofs.Laws.{refusal-keeps-window}
 use Rattle.receiver.specs.Queue.{unsent_of}
 use Rattle.receiver.specs.Receive.{datagram_number}
 use Rattle.receiver.specs.Calls.{Call, receive, Receiver, outcome, after_all}
-use Rattle.receiver.specs.Claim.{Start, begun, AllBytes, read_by}
+use Rattle.receiver.specs.Claim.{Start, begun, Typed, told_by}
 use Rattle.receiver.proofs.Runs.{runs}
 use Rattle.receiver.proofs.Demand.{start-sane, demand-3}
 use Rattle.bare.specs.Sequenced.{numbered_line, sequences_of, kind4, sequenced_on, RisesFrom}
@@ -24,8 +24,8 @@ use Rattle.corollaries.proofs.Refusals.{refusal-keeps, sound-no-9}
 use Rattle.corollaries.proofs.UnsentAfter.{accepted-unsent}
 use Rattle.corollaries.proofs.SoundStays.{run_sound}
 
--- "A refusal returns its number and the state unchanged, and writes nothing to any lent slice.": of receive, take and both writings
--- receiver, records, store and the slice that is the call's own.
+-- "A refusal returns its number and the state unchanged, and writes nothing to any lent slice.": of receive, take, both writings
+-- and dropping: receiver, records, store and the slice that is the call's own.
 pub refused-changes-nothing : (x : Receiver) (c : Call) (n : ℕ) → RefusedWith x c n → ((outcome x c).left ≡ x) × (lent_after x c ≡ lent c)
 refused-changes-nothing = refusal-keeps
 
@@ -45,18 +45,18 @@ refused-adds-none x d n e = ap (λ (y : Receiver). unsent_of y.queue) (refusal-k
 
 -- "Each call has the receiver, records and store that the last one returned or left": where these are sound (9), they are sound after any
 -- list of calls, refused ones too.
-pub sound-stays : (cs : List Call) (x : Receiver) → AllBytes cs → Arrays x.queue → sound_receiver x ≡ true
+pub sound-stays : (cs : List Call) (x : Receiver) → Typed cs → Arrays x.queue → sound_receiver x ≡ true
     → Arrays (after_all outcome x cs).queue × (sound_receiver (after_all outcome x cs) ≡ true)
 sound-stays = run_sound
 
 -- and after each call
-pub sound-stays-one : (c : Call) (x : Receiver) → AllBytes (c ∷ []) → Arrays x.queue → sound_receiver x ≡ true
+pub sound-stays-one : (c : Call) (x : Receiver) → Typed (c ∷ []) → Arrays x.queue → sound_receiver x ≡ true
     → Arrays (outcome x c).left.queue × (sound_receiver (outcome x c).left ≡ true)
 unfolding after_all
 sound-stays-one c x b z s = run_sound (c ∷ []) x b z s
 
 -- a receiver just made is sound, and what calls make of it
-pub reached-is-sound : (s : Start) (cs : List Call) → AllBytes cs → sound_receiver (after_all outcome (begun s) cs) ≡ true
+pub reached-is-sound : (s : Start) (cs : List Call) → Typed cs → sound_receiver (after_all outcome (begun s) cs) ≡ true
 reached-is-sound s cs b = (runs cs (begun s) b (start-sane s)).sane.sound
 
 -- "9 slice lengths .. or records unsound": a sound state never gets it, whatever the call
@@ -64,18 +64,18 @@ pub sound-never-9 : (x : Receiver) (c : Call) → sound_receiver x ≡ true → 
 sound-never-9 = sound-no-9
 
 -- nor does any call of a list from a receiver just made
-pub never-9 : (s : Start) (cs : List Call) (c : Call) → AllBytes cs → RefusedWith (after_all outcome (begun s) cs) c 9 → ⊥
+pub never-9 : (s : Start) (cs : List Call) (c : Call) → Typed cs → RefusedWith (after_all outcome (begun s) cs) c 9 → ⊥
 never-9 s cs c b = sound-no-9 (after_all outcome (begun s) cs) c (reached-is-sound s cs b)
 
 -- Request 1: on one channel the sequence numbers of the kind 1 messages that a list's takes hand out rise strictly, and in the console
 -- profile so do kind 4's among all of them; in the C++ profile (request 2) those of both kinds together, on one channel.
-pub sequenced-rise : (s : Start) (cs : List Call) → AllBytes cs → SequencedRise s cs
+pub sequenced-rise : (s : Start) (cs : List Call) → Typed cs → SequencedRise s cs
 sequenced-rise s cs b = record {
-  messages = line-numbered s.profile (read_by outcome s cs) ∙ (demand-3 s s cs cs b b).first.line;
-  kind_1 = kind-1-rises s.profile (read_by outcome s cs);
-  kind_4 = λ e. subst (λ (p : Profile). RisesFrom 0 (sequences_of kind4 (numbered_line p (read_by outcome s cs)))) (sym e)
-      (kind-4-rises (read_by outcome s cs));
+  messages = line-numbered s.profile (told_by outcome s cs) ∙ (demand-3 s s cs cs b b).first.line;
+  kind_1 = kind-1-rises s.profile (told_by outcome s cs);
+  kind_4 = λ e. subst (λ (p : Profile). RisesFrom 0 (sequences_of kind4 (numbered_line p (told_by outcome s cs)))) (sym e)
+      (kind-4-rises (told_by outcome s cs));
   kinds_1_and_4 = λ e c. subst
-      (λ (p : Profile). RisesFrom 0 (sequences_of (sequenced_on c) (numbered_line p (read_by outcome s cs)))) (sym e)
-      (kinds-1-and-4-rise (read_by outcome s cs) c);
+      (λ (p : Profile). RisesFrom 0 (sequences_of (sequenced_on c) (numbered_line p (told_by outcome s cs)))) (sym e)
+      (kinds-1-and-4-rise (told_by outcome s cs) c);
 }

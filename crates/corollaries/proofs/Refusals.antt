@@ -28,10 +28,12 @@ use Rattle.receiver.specs.Receive.{Received, datagram_number, is_datagram, frame
 use Rattle.receiver.specs.Receive.{sound_call, receive_of}
 use Rattle.receiver.specs.Take.{TakeResult, handed, take_of}
 use Rattle.receiver.specs.Write.{Wrote, sorted, emptied, write_of, write_unsent_of, write_missing_of}
-use Rattle.receiver.specs.Calls.{Call, receive, take_with, write_unsent, write_missing, Receiver, refusal_of, took_of, receive_outcome}
-use Rattle.receiver.specs.Calls.{take_outcome, write_outcome, outcome}
+use Rattle.receiver.specs.Drop.{DropResult, drop_unfinished_of}
+use Rattle.receiver.specs.Calls.{Call, receive, take_with, write_unsent, write_missing, drop_unfinished, Receiver, refusal_of, took_of}
+use Rattle.receiver.specs.Calls.{receive_outcome, take_outcome, write_outcome, drop_outcome, outcome}
 use Rattle.receiver.proofs.AnswerCases.{by-true, by-lt, by_le, Accepted, receive-ways, Found, take-ways}
 use Rattle.receiver.proofs.Hands.{Gave, handed-ways}
+use Rattle.receiver.proofs.Drops.{drop-ways, refuses-9-alone}
 use Rattle.corollaries.specs.Refusals.{RefusedWith, lent, lent_after, sound_receiver}
 
 pub never-refused : {A X : Type 0} (x : A) (n : ℕ) → gives x ≡ refused n → X
@@ -83,6 +85,12 @@ write-refused q next nack l out n =
     (λ t e. (rw e, refused-writes-nothing out nack l n e))
     (λ t e. (refl, refl))
 
+-- ---- drop
+pub drop-refused : (q : RecvQueue) (rs : List Cell) (st : List ℕ) (k n : ℕ) → (drop_unfinished_of q rs st k).answer ≡ refused n
+    → (drop_unfinished_of q rs st k).records ≡ rs
+drop-refused q rs st k n = drop-ways q rs st k (λ (r : DropResult). r.answer ≡ refused n → r.records ≡ rs)
+    (λ s e. refl) (λ s e. never-refused _ n e)
+
 -- the answer with this refusal
 answer-refused : {A : Type 0} (r : Answer A) (n : ℕ) → refusal_of r ≡ some n → r ≡ refused n
 unfolding refusal_of
@@ -91,7 +99,7 @@ answer-refused (gives x) n e = absurd (let z : ◌≡◌ {A = ℕ} 0 1 = cc in o
 
 -- "A refusal returns its number and the state unchanged, and writes nothing to any lent slice."
 pub refusal-keeps : (x : Receiver) (c : Call) (n : ℕ) → RefusedWith x c n → ((outcome x c).left ≡ x) × (lent_after x c ≡ lent c)
-unfolding outcome receive_outcome take_outcome write_outcome
+unfolding outcome receive_outcome take_outcome write_outcome drop_outcome
 refusal-keeps x (receive d) n e =
     let r = receive-refused x.queue x.records x.store d n (answer-refused _ n e) in
     (unfold refused_result in rw r, refl)
@@ -104,6 +112,7 @@ refusal-keeps x (write_unsent out) n e = unfold write_unsent_of in
 refusal-keeps x (write_missing out) n e = unfold write_missing_of in
     (let r = write-refused x.queue x.queue true (missing x.queue.datagrams) out n (answer-refused _ n e) in
     (rw r.0, r.1))
+refusal-keeps x (drop_unfinished k) n e = (rw (drop-refused x.queue x.records x.store k n (answer-refused _ n e)), refl)
 
 -- ---- 9
 abbrev NotNine : {A : Type 0} → Answer A → Type 0
@@ -161,10 +170,12 @@ queue-sound x s =
     (and_right (lengths (length x.records) (length x.store)) (sound_queue x.queue && sound_cells x.records (next_of x.queue)) s)
 
 pub sound-no-9 : (x : Receiver) (c : Call) → sound_receiver x ≡ true → RefusedWith x c 9 → ⊥
-unfolding outcome receive_outcome take_outcome write_outcome
+unfolding outcome receive_outcome take_outcome write_outcome drop_outcome
 sound-no-9 x (receive d) s e = receive-no-9 x.queue x.records x.store d s (answer-refused _ 9 e)
 sound-no-9 x (take_with buffer) s e = take-no-9 x.queue x.records x.store buffer s (answer-refused _ 9 e)
 sound-no-9 x (write_unsent out) s e = unfold write_unsent_of in
     write-no-9 x.queue (emptied x.queue) false (sorted (unsent_of x.queue)) out (queue-sound x s) (answer-refused _ 9 e)
 sound-no-9 x (write_missing out) s e = unfold write_missing_of in
     write-no-9 x.queue x.queue true (missing x.queue.datagrams) out (queue-sound x s) (answer-refused _ 9 e)
+sound-no-9 x (drop_unfinished n) s e = neither (sound_receiver x) s
+    (refuses-9-alone x.queue x.records x.store n 9 (answer-refused _ 9 e)).1

@@ -17,7 +17,7 @@ use Rattle.window.specs.Window.{accepted}
 use Rattle.receiver.specs.declared.RecvQueue.{RecvQueue}
 use Rattle.receiver.specs.Queue.{unsent_of, places_within, sound_window, differ, sound_unsent, sound_queue}
 use Rattle.receiver.specs.Calls.{Call, Receiver, outcome, after_all}
-use Rattle.receiver.specs.Claim.{AllBytes}
+use Rattle.receiver.specs.Claim.{Typed}
 use Rattle.receiver.proofs.Queues.{Good}
 use Rattle.receiver.proofs.Receives.{Sane, profile-sound, unsent-sound}
 use Rattle.receiver.proofs.Runs.{runs}
@@ -80,7 +80,7 @@ sound-sane x z s = record { good = queue-good x.queue z (queue-sound x s); sound
 good-arrays : (q : RecvQueue) → Good q → Arrays q
 good-arrays q g = record { datagrams = g.datagrams.sized; reliables = g.reliables.sized; channels = g.channels; unsent = g.unsent }
 
-pub run_sound : (cs : List Call) (x : Receiver) → AllBytes cs → Arrays x.queue → sound_receiver x ≡ true
+pub run_sound : (cs : List Call) (x : Receiver) → Typed cs → Arrays x.queue → sound_receiver x ≡ true
     → Arrays (after_all outcome x cs).queue
     × (sound_receiver (after_all outcome x cs) ≡ true)
-run_sound cs x b z s = let v = (runs cs x b (sound-sane x z s)).sane in (good-arrays (after_all outcome x cs).queue v.good, v.sound)
+run_sound cs x t z s = let v = (runs cs x t (sound-sane x z s)).sane in (good-arrays (after_all outcome x cs).queue v.good, v.sound)

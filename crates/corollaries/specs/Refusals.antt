@@ -1,5 +1,5 @@
 -- What a call of a list answers, and the slice that it is lent.
-use Rattle.std.specs.Prelude.{ℕ, ◌≡◌, Bool, List, length}
+use Rattle.std.specs.Prelude.{ℕ, ◌≡◌, Bool, List, [], length}
 use Rattle.std.proofs.Math.Option.{none, some}
 use Rattle.base.specs.Limits.{max_ord_chans, max_unsent}
 use Rattle.window.specs.Proper.{Sized}
@@ -7,24 +7,26 @@ use Rattle.receiver.specs.declared.RecvQueue.{RecvQueue}
 use Rattle.receiver.specs.Receive.{sound_call}
 use Rattle.receiver.specs.Take.{take_of}
 use Rattle.receiver.specs.Write.{write_unsent_of, write_missing_of}
-use Rattle.receiver.specs.Calls.{Call, receive, take_with, write_unsent, write_missing, Receiver, outcome}
+use Rattle.receiver.specs.Calls.{Call, receive, take_with, write_unsent, write_missing, drop_unfinished, Receiver, outcome}
 
 -- the call is refused with this number
 abbrev pub RefusedWith : Receiver → Call → ℕ → Type 0
 RefusedWith x c n = (outcome x c).refusal ≡ some n
 
--- the slice that the call alone is lent, before and after: datagram, joining buffer or output
+-- the slice that the call alone is lent, before and after: datagram, joining buffer or output; dropping the unfinished is lent none
 abbrev pub lent : Call → List ℕ
 lent (receive d) = d
 lent (take_with buffer) = buffer
 lent (write_unsent out) = out
 lent (write_missing out) = out
+lent (drop_unfinished n) = []
 
 abbrev pub lent_after : Receiver → Call → List ℕ
 lent_after x (receive d) = d
 lent_after x (take_with buffer) = (take_of x.queue x.records x.store buffer).joined
 lent_after x (write_unsent out) = (write_unsent_of x.queue out).out
 lent_after x (write_missing out) = (write_missing_of x.queue out).out
+lent_after x (drop_unfinished n) = []
 
 -- "A datagram is accepted when receive gives it no refusal number"
 abbrev pub IsAccepted : Receiver → List ℕ → Type 0

@@ -3,11 +3,11 @@ use Rattle.std.specs.Prelude.{ℕ, ◌≡◌, List, ◌++◌, map}
 use Rattle.reliability.specs.declared.Profile.TheVariants.{Console, Cpp}
 use Rattle.bare.specs.Sequenced.{NumberedMessage, numbered_line, sequences_of, kind1_on, kind4, sequenced_on, RisesFrom}
 use Rattle.receiver.specs.Calls.{Call, outcome, after_all, handed_out, still_out}
-use Rattle.receiver.specs.Claim.{Start, begun, read_by}
+use Rattle.receiver.specs.Claim.{Start, begun, told_by}
 
 -- what a list's takes handed out, and would still hand out, each message with the sequence number of the frame that put it into the line
 abbrev pub numbered_by : Start → List Call → List NumberedMessage
-numbered_by s cs = numbered_line s.profile (read_by outcome s cs)
+numbered_by s cs = numbered_line s.profile (told_by outcome s cs)
 
 pub record SequencedRise (s : Start) (cs : List Call) : Type 0 where
   pub messages : map (λ (x : NumberedMessage). x.message) (numbered_by s cs)

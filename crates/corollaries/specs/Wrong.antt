@@ -1,29 +1,40 @@
--- Wrong receivers, which document 01's (c) wants shut out, and the calls of its program `trace` that find them out.
-use Rattle.std.specs.Prelude.{ℕ, refl, Bool, cond, ◌&&◌, List, [], ◌∷◌, eqb}
+-- Wrong receivers, which document 01's (c) wants shut out, and the calls of its program `trace` that find them out; and such as drop
+-- unfinished messages (request 4) never, too early, by a wrong age, or others than they should, and calls that find these out.
+use Rattle.std.specs.Prelude.{ℕ, refl, Bool, cond, not, ◌&&◌, List, [], ◌∷◌, ltb, leb, eqb}
 use Rattle.std.proofs.Common.{arith}
-use Rattle.base.specs.Answer.{gives}
-use Rattle.base.specs.Lists.{every}
+use Rattle.base.specs.Answer.{Answer, refused, gives}
+use Rattle.base.specs.Lists.{every, count_of}
 use Rattle.reliability.specs.declared.Profile.TheVariants.{Console}
+use Rattle.bare.specs.Frame.{carries_reliable}
+use Rattle.cells.specs.Cell.{Cell, empty_cell, open_use}
+use Rattle.cells.specs.Ages.{with_age, next_age, is_stale}
+use Rattle.cells.specs.Records.{change_cells}
 use Rattle.receiver.specs.declared.RecvQueue.{RecvQueue}
 use Rattle.receiver.specs.Queue.{profile_in}
-use Rattle.receiver.specs.Receive.{Received, receive_of}
+use Rattle.receiver.specs.Receive.{Report, Received, receive_of}
 use Rattle.receiver.specs.Take.{TakeResult, take_refuses, take_of}
-use Rattle.receiver.specs.Calls.{Call, receive, take_with, write_unsent, write_missing, Receiver, Outcome, receive_outcome, take_outcome}
-use Rattle.receiver.specs.Calls.{outcome, zeros}
+use Rattle.receiver.specs.Drop.{DropResult, drop_unfinished_of}
+use Rattle.receiver.specs.Calls.{Call, receive, take_with, write_unsent, write_missing, drop_unfinished, Receiver, Outcome}
+use Rattle.receiver.specs.Calls.{receive_outcome, take_outcome, drop_outcome, outcome, zeros}
 use Rattle.receiver.specs.Claim.{Start}
 
--- the calls' outcomes, with another receive or another take
+-- the calls' outcomes, with another receive, another take or another drop
 abbrev pub our_receive : Receiver → List ℕ → Received
 our_receive x d = receive_of x.queue x.records x.store d
 
 abbrev pub our_take : Receiver → List ℕ → TakeResult
 our_take x buffer = take_of x.queue x.records x.store buffer
 
-unfoldable pub outcome_with : (Receiver → List ℕ → Received) → (Receiver → List ℕ → TakeResult) → Receiver → Call → Outcome
-outcome_with receiving taking x (receive d) = receive_outcome (profile_in x.queue) d (receiving x d)
-outcome_with receiving taking x (take_with buffer) = take_outcome x (taking x buffer)
-outcome_with receiving taking x (write_unsent out) = outcome x (write_unsent out)
-outcome_with receiving taking x (write_missing out) = outcome x (write_missing out)
+abbrev pub our_drop : Receiver → ℕ → DropResult
+our_drop x n = drop_unfinished_of x.queue x.records x.store n
+
+unfoldable pub outcome_with : (Receiver → List ℕ → Received) → (Receiver → List ℕ → TakeResult) → (Receiver → ℕ → DropResult) → Receiver
+    → Call → Outcome
+outcome_with receiving taking dropping x (receive d) = receive_outcome (profile_in x.queue) d (receiving x d)
+outcome_with receiving taking dropping x (take_with buffer) = take_outcome x (taking x buffer)
+outcome_with receiving taking dropping x (write_unsent out) = outcome x (write_unsent out)
+outcome_with receiving taking dropping x (write_missing out) = outcome x (write_missing out)
+outcome_with receiving taking dropping x (drop_unfinished n) = drop_outcome x n (dropping x n)
 
 -- "an idle one": it accepts every datagram and does nothing
 unfoldable pub idle : Receiver → Call → Outcome
@@ -32,7 +43,7 @@ idle = outcome_with (λ x d. record {
   queue = x.queue;
   records = x.records;
   store = x.store;
-}) our_take
+}) our_take our_drop
 
 -- was no datagram accepted yet?
 unfoldable pub untouched : RecvQueue → Bool
@@ -58,11 +69,49 @@ acknowledged x r =
 
 -- "a receiver that joins and orders its first datagram and only acknowledges later ones"
 unfoldable pub first_only : Receiver → Call → Outcome
-first_only = outcome_with (λ x d. let r = our_receive x d in cond (untouched x.queue) r (acknowledged x r)) our_take
+first_only = outcome_with (λ x d. let r = our_receive x d in cond (untouched x.queue) r (acknowledged x r)) our_take our_drop
 
 -- one that never hands out: every take answers 20
 unfoldable pub mute : Receiver → Call → Outcome
-mute = outcome_with our_receive (λ x buffer. take_refuses x.records buffer 20)
+mute = outcome_with our_receive (λ x buffer. take_refuses x.records buffer 20) our_drop
+
+-- one that never drops: every drop frees 0
+unfoldable pub keeping : Receiver → Call → Outcome
+keeping = outcome_with our_receive our_take (λ x n. record { answer = gives 0; records = x.records })
+
+-- an open record "whose kind carries no reliable number"
+unfoldable pub droppable : Cell → Bool
+droppable c = eqb c.used open_use && not (carries_reliable c.kind)
+
+-- one that drops a message as soon as n further datagrams were accepted, not more than n
+unfoldable pub is_stale_early : ℕ → Cell → Bool
+is_stale_early n c = droppable c && leb n c.age
+
+unfoldable pub hasty : Receiver → Call → Outcome
+hasty = outcome_with our_receive our_take (λ x n. record {
+  answer = gives (count_of (is_stale_early n) x.records);
+  records = change_cells (is_stale_early n) (λ c. empty_cell) x.records;
+})
+
+-- one whose open ids grow older at a refused datagram, too
+unfoldable pub aged_if_refused : Answer Report → List Cell → List Cell
+aged_if_refused (refused number) rs = change_cells (λ c. eqb c.used open_use) (λ c. with_age (next_age c.age) c) rs
+aged_if_refused (gives r) rs = rs
+
+unfoldable pub counting_refused : Receiver → Call → Outcome
+counting_refused = outcome_with (λ x d. let r = our_receive x d in
+    record { answer = r.answer; queue = r.queue; records = aged_if_refused r.answer r.records; store = r.store }) our_take our_drop
+
+-- one that frees as many cells as it should, but the last that it could, whichever ids are theirs
+unfoldable pub without_last : ℕ → List Cell → List Cell
+without_last k [] = []
+without_last k (c ∷ cs) = cond (droppable c && ltb (count_of droppable cs) k) empty_cell c ∷ without_last k cs
+
+unfoldable pub another_id : Receiver → Call → Outcome
+another_id = outcome_with our_receive our_take (λ x n. record {
+  answer = (our_drop x n).answer;
+  records = without_last (count_of (is_stale n) x.records) x.records;
+})
 
 -- `trace`: "`84000000` with the kind 3 frame above", which is `60 00 08 00 00 00 01 00 00 00 42`
 unfoldable pub trace1 : List ℕ
@@ -78,6 +127,18 @@ trace_calls =
     receive trace1 ∷ take_with [] ∷ write_unsent (zeros 16)
     ∷ receive trace2 ∷ take_with [] ∷ take_with [] ∷ take_with [] ∷ write_unsent (zeros 16)
     ∷ receive trace1 ∷ take_with [] ∷ write_unsent (zeros 16) ∷ []
+
+-- datagram n with the first of two pieces, of kind 0 and this id
+unfoldable pub half : ℕ → ℕ → List ℕ
+half n id = 0x84 ∷ n ∷ 0 ∷ 0 ∷ 0x10 ∷ 0 ∷ 8 ∷ 0 ∷ 0 ∷ 0 ∷ 2 ∷ 0 ∷ id ∷ 0 ∷ 0 ∷ 0 ∷ 0 ∷ 0x41 ∷ []
+
+-- its second sending is refused, by 4; then no further datagram was accepted, and after that one more
+unfoldable pub drop_calls : List Call
+drop_calls = receive (half 0 5) ∷ receive (half 0 5) ∷ drop_unfinished 0 ∷ receive trace2 ∷ drop_unfinished 0 ∷ []
+
+-- id 5's half came a datagram before id 6's
+unfoldable pub two_ids : List Call
+two_ids = receive (half 0 5) ∷ receive (half 1 6) ∷ drop_unfinished 0 ∷ []
 
 -- two cells do
 unfoldable pub trace_start : Start

@@ -23,17 +23,18 @@ use Rattle.window.specs.Missing as missing
 use Rattle.bare.specs.Frame as line
 use Rattle.bare.specs.Bare as bare
 use Rattle.cells.specs.Cell as cell
+use Rattle.cells.specs.Ages as ages
 use Rattle.cells.specs.Datagram as datagram
 use Rattle.cells.specs.Records as cells
 use Rattle.cells.specs.Sound as sound
 use Rattle.cells.specs.Store as store
 use Rattle.cells.specs.Take as ready
-use Rattle.cells.proofs.Shown.{slot}
 use Rattle.receiver.specs.declared.RecvQueue.{RecvQueue}
 use Rattle.receiver.specs.Queue as queue
 use Rattle.receiver.specs.Receive as receive
 use Rattle.receiver.specs.Take as take
 use Rattle.receiver.specs.Write as write
+use Rattle.receiver.specs.Drop as drop
 use Rattle.receiver.specs.Calls as calls
 
 -- A whole frame: kind, reliable, sequence and order number, channel, body.
@@ -68,12 +69,34 @@ part kind reliable sequence order channel count id index body =
       body = body;
     }
 
--- What a call is told, by document 01: messages made ready, frames dropped and bytes left; a message's kind, channel, order number and
--- body; the bytes written; or a refusal's number.
+-- A slot: its record's use, id, index, kind, channel, count, sequence and order number, turn and age, and its body, whose length the record
+-- has, too.
+abbrev pub slot : ℕ → ℕ → ℕ → ℕ → ℕ → ℕ → ℕ → ℕ → ℕ → ℕ → List ℕ → cell.Slot
+slot used id index kind channel count sequence order turn age body =
+    record {
+      cell = record {
+        used = used;
+        id = id;
+        index = index;
+        length = length body;
+        kind = kind;
+        channel = channel;
+        count = count;
+        sequence = sequence;
+        order = order;
+        turn = turn;
+        age = age;
+      };
+      body = body;
+    }
+
+-- What a call is told: messages made ready, frames dropped and bytes left; a message's kind, channel, order number and body; the bytes
+-- written; how many cells were freed; or a refusal's number.
 pub data Told : Type 0 where
   gave : ℕ → ℕ → ℕ → Told
   took : ℕ → ℕ → ℕ → List ℕ → Told
   wrote : List ℕ → Told
+  freed : ℕ → Told
   no : ℕ → Told
 
 -- That, and after the call: both windows' low, the unsent numbers, the next order numbers of channels 0 and 1, the memories of newest
@@ -105,12 +128,17 @@ unfoldable pub written : List ℕ → Answer ℕ → Told
 written out (refused number) = no number
 written out (gives len) = wrote (take len out)
 
+unfoldable pub freeing : Answer ℕ → Told
+freeing (refused number) = no number
+freeing (gives n) = freed n
+
 unfoldable pub telling : calls.Receiver → calls.Call → Told
 telling x (calls.receive d) = received (receive.receive_of x.queue x.records x.store d).answer
 telling x (calls.take_with buffer) = let r = take.take_of x.queue x.records x.store buffer in
     taken x.store r.joined r.answer
 telling x (calls.write_unsent out) = let r = write.write_unsent_of x.queue out in written r.out r.answer
 telling x (calls.write_missing out) = let r = write.write_missing_of x.queue out in written r.out r.answer
+telling x (calls.drop_unfinished n) = freeing (drop.drop_unfinished_of x.queue x.records x.store n).answer
 
 unfoldable pub seen : Told → calls.Receiver → Seen
 seen told x =
@@ -142,19 +170,21 @@ unfolding if_true if_lt if_le if_eq be16 be32 le24 be16_bytes le24_bytes put and
     cell.mark cell.mark_cell cell.empty_cell cell.empty_slot cell.change cell.map_if cell.turn_to cell.freed cell.put_slot cell.slot_of
     datagram.drop_one datagram.fill_up datagram.place datagram.made datagram.rise datagram.remember_in datagram.accept_in datagram.is_held
     datagram.go_on datagram.cascade datagram.follows
-    datagram.fate datagram.fate_of datagram.roomy datagram.readied datagram.whole datagram.joins datagram.kept datagram.piece
-    datagram.keep_in datagram.frame datagram.frames
-    datagram.is_first datagram.is_before datagram.rank datagram.renumber datagram.sweep datagram.begin datagram.end datagram.datagram
-    cells.index_of ready.lower ready.earliest
-    sound.key_of sound.limits sound.agree sound.lacks_none sound.sound_cell sound.lengths
+    datagram.fate datagram.fate_of datagram.roomy datagram.readied datagram.whole datagram.joins datagram.kept datagram.put_piece
+    datagram.renew datagram.piece datagram.keep_in datagram.frame datagram.frames
+    datagram.is_first datagram.is_before datagram.rank datagram.renumber datagram.sweep datagram.begin datagram.end
+    datagram.grow datagram.datagram
+    ages.with_age ages.aged ages.next_age ages.grown ages.renewed ages.is_stale
+    cells.change_cells cells.index_of ready.lower ready.earliest
+    sound.key_of sound.age_of sound.limits sound.agree sound.alike sound.lacks_none sound.sound_cell sound.lengths
     store.cell_size store.cell_body store.slots_of store.cells_of store.laid store.store_of
     queue.next_in queue.next_of queue.memories_in queue.newest_of queue.unsent_of queue.profile_in queue.new_queue queue.places_within
     queue.sound_window queue.differ queue.sound_profile queue.sound_unsent queue.sound_queue queue.insert_unsent
     receive.frame_in receive.frames_in receive.bytes_left receive.accept_all receive.state_of receive.channels_after receive.queue_after
     receive.accepted_result receive.refused_result receive.sound_call receive.receive_of
-    take.handed take.take_of write.sorted write.write_of write.emptied write.write_unsent_of write.write_missing_of
-    calls.made calls.bytes_at calls.message_handed calls.receive_outcome calls.take_outcome calls.write_outcome calls.outcome
-    received message taken written telling seen seeing slot
+    take.handed take.take_of write.sorted write.write_of write.emptied write.write_unsent_of write.write_missing_of drop.drop_unfinished_of
+    calls.made calls.bytes_at calls.message_handed calls.receive_outcome calls.take_outcome calls.write_outcome calls.drop_outcome
+    calls.outcome received message taken written freeing telling seen seeing
 run p n cs = seeing (calls.made p n (replicate (cell_bytes * n) 0)) cs
 
 -- A new receiver but for these values: both windows' low; the next and the memory of channel c; the receiver's own memory; its profile's

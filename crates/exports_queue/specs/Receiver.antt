@@ -8,13 +8,15 @@ use Rattle.cells.specs.Cell.{Cell}
 use Rattle.receiver.specs.declared.RecvQueue.{RecvQueue}
 use Rattle.receiver.specs.Receive.{Received}
 use Rattle.receiver.specs.Take.{TakeResult}
+use Rattle.receiver.specs.Drop.{DropResult}
 use Rattle.receiver.specs.Write.{Wrote}
 use Rattle.recv_new.specs.New.{MadeNew, make_new_of}
 use Rattle.exports.specs.declared.AckWritten.{AckWritten}
 use Rattle.exports.specs.Numbers.{number_of, ack_told}
 use Rattle.recv_answers.specs.declared.QueueReceived.{QueueReceived}
 use Rattle.recv_answers.specs.declared.QueueTaken.{QueueTaken}
-use Rattle.recv_answers.specs.Told.{receive_told, take_told}
+use Rattle.recv_answers.specs.declared.QueueDropped.{QueueDropped}
+use Rattle.recv_answers.specs.Told.{receive_told, take_told, drop_told}
 
 -- make new for the profile of a number: 9 where the number is none's, before all else, and nothing is changed
 unfoldable pub make_numbered_of : ℕ → RecvQueue → List Cell → List ℕ → MadeNew
@@ -54,6 +56,16 @@ take_numbers r rs buffer = record { told = r; records = rs; joined = buffer }
 
 unfoldable pub take_numbers_of : TakeResult → TakeNumbers
 take_numbers_of x = take_numbers (take_told x.answer) x.records x.joined
+
+pub record DropNumbers : Type 0 where
+  pub told : QueueDropped
+  pub records : List Cell
+
+unfoldable pub drop_numbers : QueueDropped → List Cell → DropNumbers
+drop_numbers r rs = record { told = r; records = rs }
+
+unfoldable pub drop_numbers_of : DropResult → DropNumbers
+drop_numbers_of x = drop_numbers (drop_told x.answer) x.records
 
 pub record WriteNumbers : Type 0 where
   pub told : AckWritten

@@ -7,14 +7,16 @@
 ghost use Rattle.std.specs.Prelude.{◌≡◌};
 ghost use Rattle.receiver.specs.Receive.{receive_of};
 ghost use Rattle.receiver.specs.Take.{take_of};
+ghost use Rattle.receiver.specs.Drop.{drop_unfinished_of};
 ghost use Rattle.receiver.specs.Write.{write_unsent_of, write_missing_of};
 ghost use Rattle.recv_new.specs.New.{made_new};
 ghost use Rattle.exports_queue.specs.Receiver.{make_numbered_of, new_numbers, new_numbers_of, receive_numbers, receive_numbers_of};
-ghost use Rattle.exports_queue.specs.Receiver.{take_numbers, take_numbers_of, write_numbers, write_numbers_of};
+ghost use Rattle.exports_queue.specs.Receiver.{take_numbers, take_numbers_of, drop_numbers, drop_numbers_of};
+ghost use Rattle.exports_queue.specs.Receiver.{write_numbers, write_numbers_of};
 
 use base::Refusal;
 use exports::AckWritten;
-use recv_answers::{QueueReceived, QueueTaken};
+use recv_answers::{QueueDropped, QueueReceived, QueueTaken};
 use recv_queue::{CellRecord, Profile, RecvQueue};
 
 // Make new, for the profile of a number.
@@ -72,6 +74,20 @@ pub extern "C" fn poghduka_take(
         ≡ take_numbers_of (take_of queue.now records.old store.now joined.old) }
 {
     recv_queue::take(queue, records, store, joined).into()
+}
+
+#[tactic(auto, unfolding(recv_drop::specs::Outcome::drop_result, crate::specs::Receiver::drop_numbers_of))]
+#[unsafe(no_mangle)]
+pub extern "C" fn poghduka_drop_unfinished(
+    queue: &RecvQueue,
+    records: &mut [CellRecord],
+    store: &[u8],
+    n: u32,
+) -> QueueDropped
+    ensures { drop_numbers result records.new
+        ≡ drop_numbers_of (drop_unfinished_of queue.now records.old store.now n) }
+{
+    recv_queue::drop_unfinished(queue, records, store, n).into()
 }
 
 #[tactic(auto, unfolding(recv_acks::specs::Wrote::wrote, crate::specs::Receiver::write_numbers_of))]

@@ -1,35 +1,40 @@
--- Demand 3: the claim holds of every two lists of calls, on datagrams of bytes.
+-- Demand 3: the claim holds of every two lists of calls, on datagrams of bytes and numbers of 32 bits.
 -- Assumes nothing.
-use Prim.Native.Nat.{ℕ, zero, suc, ◌*◌}
+use Prim.Native.Nat.{ℕ, zero, suc, ◌*◌, min}
 use mathlib.Core.Path.{◌≡◌, refl, sym, ◌∙◌, ap, subst}
 use mathlib.Core.Bool.{Bool, true, false, ◌&&◌}
 use mathlib.Core.Option.{none}
-use mathlib.Core.List.{List, [], ◌∷◌, ◌++◌, map, append-nil}
+use mathlib.Core.List.Memᴰ
+use mathlib.Core.List.{List, [], ◌∷◌, ◌++◌, map, append-nil, Memᴰ}
 use lib.ListN.{length, get_or, drop, replicate, length-replicate}
 use lib.Dec.{leb, eqb}
 use borrow.Author.Tests.{le-leb, eq-eqb}
-use Rattle.base.specs.Limits.{max_cells, cell_bytes, max_ord_chans}
-use Rattle.base.specs.Lists.{every, below}
+use Rattle.base.specs.Limits.{max_cells, cell_bytes, max_ord_chans, max_age}
+use Rattle.base.specs.Lists.{count_of, every, below}
 use Rattle.base.proofs.Choices.{and_both}
 use Rattle.reliability.specs.declared.Profile.{Profile}
 use Rattle.reliability.proofs.Laws.{profile-back}
-use Rattle.bare.specs.Frame.{Frame}
-use Rattle.bare.specs.Bare.{feed, new}
+use Rattle.bare.specs.Frame.{Frame, Piece}
+use Rattle.bare.specs.Unfinished.{Dated, new_dated, since, after_events}
 use Rattle.bare.specs.Order.{line_for}
 use Rattle.bare.proofs.InOrder.{in_order, begins}
 use Rattle.window.proofs.Laws.{new-accepts-none}
-use Rattle.cells.specs.Cell.{Cell, Slot, empty_cell, empty_slot}
+use Rattle.cells.specs.Cell.{Cell, Slot, is_open, piece_in, empty_cell, empty_slot, open_use}
 use Rattle.cells.specs.Datagram.{State, datagram}
 use Rattle.cells.specs.Room.{exceeds}
 use Rattle.cells.specs.Sound.{sound_cell, sound_nexts, sound_memories, lengths}
-use Rattle.cells.specs.Store.{cell_size, cell_body, slots_of}
+use Rattle.cells.specs.Store.{cell_size, cell_body, slots_of, cells_of}
 use Rattle.cells.specs.Take.{taking, drain, drain_in}
-use Rattle.cells.proofs.Matching.{Matches, matches-line, matches-room, new-matches}
+use Rattle.cells.proofs.Matching.{matches-line, matches-room}
+use Rattle.cells.proofs.Pieces.{opens}
+use Rattle.cells.proofs.Dating.{DatedMatches, age-is, new-dated-matches}
+use Rattle.cells.proofs.Store.{cells-slots}
 use Rattle.receiver.specs.declared.Channel.{Channel}
 use Rattle.receiver.specs.Queue.{new_channel, next_in, next_of, memories_in, newest_of, profile_in, new_queue, sound_queue}
 use Rattle.receiver.specs.Receive.{state_of, sound_call}
-use Rattle.receiver.specs.Calls.{Call, Receiver, made, outcome, after_all, handed_out, accepted_of, still_out, drained, frames_read}
-use Rattle.receiver.specs.Claim.{Start, begun, AllBytes, read_by, OneList, Claim}
+use Rattle.receiver.specs.Calls.{Call, Receiver, made, outcome, after_all, handed_out, done_by, still_out, drained}
+use Rattle.receiver.specs.Calls.{events_of}
+use Rattle.receiver.specs.Claim.{Start, begun, Typed, told_by, OneList, Claim}
 use Rattle.receiver.proofs.Queues.{new-good, good-sound}
 use Rattle.receiver.proofs.Receives.{state_in, Sane}
 use Rattle.receiver.proofs.Steps.{Step}
@@ -90,9 +95,9 @@ unfolding slots_of cell_body empty_slot empty_cell
 new-slots zero store = refl
 new-slots (suc n) store = ap {B = List Slot} (λ l. empty_slot ∷ l) (new-slots n (drop cell_size store))
 
-start-matches : (s : Start) → Matches (new s.profile) (state_in (begun s)) []
+start-matches : (s : Start) → DatedMatches (new_dated s.profile) (state_in (begun s)) []
 unfolding made state_of new_queue
-start-matches s = subst (λ (z : State). Matches (new s.profile) z []) (sym is) (new-matches s.profile s.cells)
+start-matches s = subst (λ (z : State). DatedMatches (new_dated s.profile) z []) (sym is) (new-dated-matches s.profile s.cells)
   where
     is : state_in (begun s)
         ≡ record {
@@ -112,28 +117,46 @@ start-matches s = subst (λ (z : State). Matches (new s.profile) z []) (sym is) 
         })
 
 -- ---- one list
-module _ (s : Start) (cs : List Call) (bytes : AllBytes cs) where
-  run : Step (begun s) (after_all outcome (begun s) cs) (handed_out outcome (begun s) cs) (accepted_of outcome (begun s) cs)
-  run = runs cs (begun s) bytes (start-sane s)
+module _ (s : Start) (cs : List Call) (typed : Typed cs) where
+  run : Step (begun s) (after_all outcome (begun s) cs) (handed_out outcome (begun s) cs) (done_by outcome (begun s) cs)
+  run = runs cs (begun s) typed (start-sane s)
 
-  -- the bare receiver that was fed the list's accepted datagrams
-  fed : Matches (feed (new s.profile) (read_by outcome s cs)).after (state_in (after_all outcome (begun s) cs))
-      (handed_out outcome (begun s) cs)
-  fed = run.matches (new s.profile) [] (start-matches s)
+  -- the bare receiver that was told what the list did
+  abbrev pub told : Dated
+  told = after_events (new_dated s.profile) (told_by outcome s cs)
+
+  matched : DatedMatches told (state_in (after_all outcome (begun s) cs)) (handed_out outcome (begun s) cs)
+  matched = run.matches (new_dated s.profile) [] (start-matches s)
 
   -- After every list of calls: a datagram gets 8 exactly when the cells in use before and the bodies not dropped as frames are more than
   -- all cells.
   pub room-runs-out : (fs : List Frame) → (datagram (state_in (after_all outcome (begun s) cs)) fs).full
-      ≡ exceeds (feed (new s.profile) (read_by outcome s cs)).after (state_in (after_all outcome (begun s) cs)).slots fs
-  room-runs-out fs = matches-room _ (state_in (after_all outcome (begun s) cs)) (handed_out outcome (begun s) cs) fed fs
+      ≡ exceeds (after_events (new_dated s.profile) (told_by outcome s cs)).bare (state_in (after_all outcome (begun s) cs)).slots fs
+  room-runs-out fs = matches-room _ (state_in (after_all outcome (begun s) cs)) (handed_out outcome (begun s) cs) matched.matches fs
 
-  in-line : line_for s.profile (read_by outcome s cs)
+  -- After every list of calls: an open record's age is how many datagrams were accepted after the one that carried its id's last kept
+  -- piece, up to where ages stop.
+  pub open-ages : (c : Cell) → Memᴰ c (after_all outcome (begun s) cs).records → c.used ≡ open_use → c.age ≡ min (since told c.id) max_age
+  unfolding cells_of is_open state_of
+  open-ages c m e =
+      let x = after_all outcome (begun s) cs in
+      let a = Memᴰ.of_map (λ (z : Slot). z.cell) (slots_of x.records x.store) (rw (← cells-slots x.records x.store) at m) in
+      subst (λ (d : Cell). d.used ≡ open_use → d.age ≡ min (since told d.id) max_age) a.2 (λ u. age-is matched a.0 a.1 (eq-eqb _ _ u)) e
+
+  -- The open pieces, as any test counts them, are those of the bare receiver that was told what the list did.
+  same-open : (p : Piece → Bool) → count_of p told.bare.pieces
+      ≡ count_of (λ x. is_open x && p (piece_in x))
+      (slots_of (after_all outcome (begun s) cs).records (after_all outcome (begun s) cs).store)
+  unfolding opens state_of
+  same-open p = matched.matches.pieces.counts p
+
+  in-line : line_for s.profile (told_by outcome s cs)
       ≡ handed_out outcome (begun s) cs ++ still_out outcome (after_all outcome (begun s) cs)
-  unfolding line_for frames_read feed drain_in drain state_of
+  unfolding line_for events_of after_events drain_in drain state_of
   in-line =
       let x = after_all outcome (begun s) cs in
-      let m = (drains x run.sane).matches _ (handed_out outcome (begun s) cs) fed in
-      matches-line _ (state_in (drained outcome x)) _ m ∙ (rw (none_out x run.sane) (append-nil _))
+      let m = (drains x run.sane).matches told (handed_out outcome (begun s) cs) matched in
+      matches-line _ (state_in (drained outcome x)) _ m.matches ∙ (rw (none_out x run.sane) (append-nil _))
     where
       nothing : (n : ℕ) (l : List Slot) → taking l ≡ none → drain_in n l ≡ []
       nothing zero l e = refl
@@ -146,18 +169,20 @@ module _ (s : Start) (cs : List Call) (bytes : AllBytes cs) where
   one_list = record {
     line = in-line;
     until_20 = gets-20 (after_all outcome (begun s) cs) run.sane;
-    counts = run.counts (new s.profile) [] (start-matches s);
+    counts = run.counts (new_dated s.profile) [] (start-matches s);
+    unfinished = same-open;
   }
 
--- For every two lists of receive, take, writing the unsent and writing the missing, each from a receiver just made: document 01's demand 3.
-pub demand-3 : (s t : Start) (cs ds : List Call) → AllBytes cs → AllBytes ds → Claim s t cs ds
+-- For every two lists of receive, take, writing the unsent, writing the missing and dropping the unfinished, each from a receiver just
+-- made: document 01's demand 3.
+pub demand-3 : (s t : Start) (cs ds : List Call) → Typed cs → Typed ds → Claim s t cs ds
 demand-3 s t cs ds a b =
     record {
       first = one_list s cs a;
       second = one_list t ds b;
       ordered = λ B book w v c. (
-        in_order s.profile B book (read_by outcome s cs) w c,
-        in_order t.profile B book (read_by outcome t ds) v c,
+        in_order s.profile B book (told_by outcome s cs) w c,
+        in_order t.profile B book (told_by outcome t ds) v c,
       );
-      begin = λ B book w v c up. begins s.profile t.profile B book (read_by outcome s cs) (read_by outcome t ds) w v c up;
+      begin = λ B book w v c up. begins s.profile t.profile B book (told_by outcome s cs) (told_by outcome t ds) w v c up;
     }

@@ -9,7 +9,6 @@ use mathlib.Core.Logic.{◌⊎◌, inl, inr}
 use native.Mathlib.Omega.{arith}
 use native.Mathlib.Nat.{suc-mul, le_trans, mul-le-mul_right}
 use lib.ListN.{length, length-append, length-replicate}
-use Rattle.base.specs.Bytes.{Bytes}
 use Rattle.base.specs.If.{if_true}
 use Rattle.base.specs.Limits.{cell_bytes, max_frags}
 use Rattle.base.specs.Lists.{option, find, any, count_of}
@@ -27,9 +26,9 @@ use Rattle.cells.proofs.Takes.{earliest-none, taken-freed}
 use Rattle.cells.proofs.Store.{Sized, AllSized, cells-slots}
 use Rattle.receiver.specs.Receive.{state_of}
 use Rattle.receiver.specs.Take.{TakeResult, take_refuses, handed, take_of}
-use Rattle.receiver.specs.Calls.{receive, take_with, Receiver, refusal_of, take_outcome, outcome, zeros, long_buffer, takes, after_all}
-use Rattle.receiver.specs.Calls.{accepted_of, still_out, drained}
-use Rattle.receiver.specs.Claim.{AllBytes}
+use Rattle.receiver.specs.Calls.{Call, receive, take_with, drop_unfinished, Receiver, refusal_of, take_outcome, outcome, zeros}
+use Rattle.receiver.specs.Calls.{long_buffer, takes, after_all, done_by, still_out, drained}
+use Rattle.receiver.specs.Claim.{Typed}
 use Rattle.receiver.proofs.AnswerCases.{Found}
 use Rattle.receiver.proofs.Receives.{state_in, Sane, cells-sound, counts-few, slots-fit, read_freed}
 use Rattle.receiver.proofs.Steps.{Step, steps}
@@ -145,33 +144,41 @@ one_fewer x n v le = case_option (taking (slots_of x.records x.store))
     (λ t e. rw (long-take x v t e) (let f = (taken-freed (slots_of x.records x.store) t e).2 in omega arith))
 
 -- ---- as many takes as there are cells
-takes-bytes : (n : ℕ) → AllBytes (takes n)
+takes-only : (n : ℕ) (c : Call) → Memᴰ c (takes n) → c ≡ take_with long_buffer
 unfolding takes
-takes-bytes zero d m = absurd (Memᴰ.not-nil m)
-takes-bytes (suc n) d m = go (takes-bytes n d) (Memᴰ.cases_cons m)
+takes-only zero c m = absurd (Memᴰ.not-nil m)
+takes-only (suc n) c m = go (takes-only n c) (Memᴰ.cases_cons m)
   where
-    go : (Memᴰ (receive d) (takes n) → Bytes d) → (receive d ≡ take_with long_buffer) ⊎ Memᴰ (receive d) (takes n) → Bytes d
-    go rest (inl e) = absurd (let z : ◌≡◌ {A = ℕ} 0 1 = cc in omega arith)
+    go : (Memᴰ c (takes n) → c ≡ take_with long_buffer) → (c ≡ take_with long_buffer) ⊎ Memᴰ c (takes n) → c ≡ take_with long_buffer
+    go rest (inl e) = e
     go rest (inr i) = rest i
 
-takes-accept-none : (n : ℕ) (x : Receiver) → accepted_of outcome x (takes n) ≡ []
-unfolding accepted_of takes outcome take_outcome
-takes-accept-none zero x = refl
-takes-accept-none (suc n) x = takes-accept-none n (outcome x (take_with long_buffer)).left
+takes-typed : (n : ℕ) → Typed (takes n)
+takes-typed n = record {
+  bytes = λ d m. let e : receive d ≡ take_with long_buffer = takes-only n (receive d) m in
+      absurd (let z : ◌≡◌ {A = ℕ} 0 1 = cc in omega arith);
+  numbers = λ k m. let e : drop_unfinished k ≡ take_with long_buffer = takes-only n (drop_unfinished k) m in
+      absurd (let z : ◌≡◌ {A = ℕ} 0 1 = cc in omega arith);
+}
+
+takes-do-none : (n : ℕ) (x : Receiver) → done_by outcome x (takes n) ≡ []
+unfolding done_by takes outcome take_outcome
+takes-do-none zero x = refl
+takes-do-none (suc n) x = takes-do-none n (outcome x (take_with long_buffer)).left
 
 runs-dry : (n : ℕ) (x : Receiver) → Sane x → ready_in x ≤ n → ready_in (after_all outcome x (takes n)) ≤ 0
 unfolding after_all takes
 runs-dry zero x v le = le
 runs-dry (suc n) x v le =
-    runs-dry n (outcome x (take_with long_buffer)).left (steps (take_with long_buffer) x (no_bytes) v).sane (one_fewer x n v le)
+    runs-dry n (outcome x (take_with long_buffer)).left (steps (take_with long_buffer) x one v).sane (one_fewer x n v le)
   where
-    no_bytes : AllBytes (take_with long_buffer ∷ [])
-    no_bytes = unfold takes in takes-bytes 1
+    one : Typed (take_with long_buffer ∷ [])
+    one = unfold takes in takes-typed 1
 
 -- What these takes leave and hand out; then none is ready.
 pub drains : (x : Receiver) → Sane x → Step x (drained outcome x) (still_out outcome x) []
 unfolding drained still_out
-drains x v = rw (takes-accept-none n x) at (runs (takes n) x (takes-bytes n) v)
+drains x v = rw (takes-do-none n x) at (runs (takes n) x (takes-typed n) v)
   where
     n : ℕ
     n = length x.records

@@ -17,7 +17,8 @@ use Rattle.bare.specs.Bare.{accept_reliable, seen_before}
 use Rattle.cells.specs.Cell.{Slot, open_as, is_free, all_there, clash}
 use Rattle.cells.specs.Datagram.{Work, drop_one, fill_up, place, made, rise, remember_in, accept_in, is_held, go_on, cascade, Fate, late}
 use Rattle.cells.specs.Datagram.{early}
-use Rattle.cells.specs.Datagram.{due, newer, free, fate_of, follows, roomy, readied, whole, joins, kept, piece, keep_in, frame, frames}
+use Rattle.cells.specs.Datagram.{due, newer, free, fate_of, follows, roomy, readied, whole, joins, kept, put_piece, renew, piece, keep_in}
+use Rattle.cells.specs.Datagram.{frame, frames}
 use Rattle.bare.proofs.Tests.{bump-other}
 
 -- x is w as far as the numbers accepted and the other channels' next go.
@@ -99,10 +100,10 @@ keep-kept f w = by_bool (Keeps f.channel w) (all_there (open_as f.id) w.state.sl
     (λ t. same f.channel w)
 
 keep-piece : (f : Frame) (w : Work) → Keeps f.channel w (piece f w)
-unfolding piece
+unfolding piece put_piece renew
 keep-piece f w =
     by_bool (Keeps f.channel w) (any (clash f) w.state.slots) (λ t. keep-drop f.channel w)
-    (λ t. keep-roomy f.channel w _ (then (keep-place f.channel _ w) (keep-kept f _)))
+    (λ t. then (keep-place f.channel _ w) (keep-roomy f.channel _ _ (then (keep-place f.channel _ _) (keep-kept f _))))
 
 pub keep_in-keeps : (f : Frame) (w : Work) → Keeps f.channel w (keep_in f w)
 unfolding keep_in

@@ -9,6 +9,7 @@ pub mod Queues
 pub mod AnswerCases
 pub mod Receives
 pub mod Hands
+pub mod Drops
 pub mod Steps
 pub mod Runs
 pub mod Drains

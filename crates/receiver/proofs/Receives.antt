@@ -17,7 +17,7 @@ use Rattle.window.specs.Proper.{Proper}
 use Rattle.window.proofs.Accepted.{low-le}
 use Rattle.bare.specs.Frame.{Frame}
 use Rattle.cells.specs.Cell.{Cell, Slot, Key, is_free, freed}
-use Rattle.cells.specs.Datagram.{State, Work, datagram, begin, end}
+use Rattle.cells.specs.Datagram.{State, Work, place, datagram, grow, begin, end}
 use Rattle.cells.specs.Sound.{Readable, sound_cells, sound_nexts, sound_memories, sound, lengths}
 use Rattle.cells.specs.Store.{cell_size, slots_of, cells_of, store_of}
 use Rattle.cells.proofs.SoundKept.{datagram-sound}
@@ -94,6 +94,13 @@ module _ (q : RecvQueue) (rs : List Cell) (st : List ℕ) (s : sound_call q rs s
   cells-sound = and_both (sound_cells rs (next_of q)) _ (and_right (sound_queue q) (sound_cells rs (next_of q)) rest-sound)
       (nexts-sound q queue-sound)
 
+  -- sound too with other records that are sound, as many of them
+  pub other-records : (l : List Cell) → length l ≡ length rs → sound l (next_of q) ≡ true → sound_call q l st ≡ true
+  unfolding sound_call sound
+  other-records l many e =
+      and_both (lengths (length l) (length st)) _ (rw many lengths-sound)
+      (and_both (sound_queue q) _ queue-sound (and_left (sound_cells l (next_of q)) (sound_nexts (next_of q)) e))
+
   -- no used record is longer than a cell
   pub bodies-short : (c : Cell) → Memᴰ c rs → eqb c.used 0 ≡ false → c.length ≤ cell_size
   unfolding cells_of is_free cell_size
@@ -154,10 +161,10 @@ module _ (x : Receiver) (d : List ℕ) (by : Bytes d) (v : Sane x) (a : Accepted
   readable f m = (read f m).ok
 
   reliables-are : accepted a.reliables ≡ w.state.accepted
-  unfolding w fs s datagram begin state_of
+  unfolding w fs s datagram grow place begin state_of
   reliables-are =
       (all-accepted fs x.queue.reliables a.reliables (λ f m. (read f m).reliable) v.good.reliables a.accepts).accepts
-      ∙ sym (frames-accepted fs (begin (state_of x.queue x.records x.store)))
+      ∙ sym (frames-accepted fs (grow (begin (state_of x.queue x.records x.store))))
 
   reliables-proper : Proper a.reliables
   unfolding fs
@@ -169,7 +176,8 @@ module _ (x : Receiver) (d : List ℕ) (by : Bytes d) (v : Sane x) (a : Accepted
   nexts-are = next-after w.state.next w.state.newest x.queue.channels (λ c le. past c (rw v.good.channels at le))
     where
       past : (c : ℕ) → max_ord_chans ≤ c → w.state.next c ≡ 0
-      past c le = unfold w s fs datagram begin state_of in (frames-past fs (begin s) c le ∙ next_past x.queue v.good.channels c le)
+      past c le = unfold w s fs datagram grow place begin state_of in
+          (frames-past fs (grow (begin s)) c le ∙ next_past x.queue v.good.channels c le)
 
   memories-are : newest_of (accepted_by x d a).queue ≡ w.state.newest
   unfolding accepted_by accepted_result queue_after newest_of w s fs

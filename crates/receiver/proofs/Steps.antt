@@ -1,80 +1,89 @@
--- What each call does: a sane receiver stays sane, and a bare receiver that matches it and is fed what it accepts matches it again.
+-- What each call does: a sane receiver stays sane, and a bare receiver that matches it and is told what the call did matches it again.
 -- Assumes nothing.
-use Prim.Native.Nat.{ℕ}
-use mathlib.Core.Path.{◌≡◌, refl, sym, ◌∙◌, subst}
+use Prim.Native.Nat.{ℕ, ◌^◌, ◌<◌}
+use mathlib.Core.Path.{◌≡◌, refl, sym, ◌∙◌, ap, subst}
 use mathlib.Core.Bool.{Bool, true, false}
 use mathlib.Core.Option.{some}
-use mathlib.Core.List.Memᴰ
-use mathlib.Core.List.{List, [], ◌∷◌, ◌++◌, append-nil}
+use mathlib.Core.List.{List, [], ◌∷◌, ◌++◌, append-nil, Memᴰ}
 use lib.ListN.{length, length-map}
 use Rattle.base.specs.Answer.{Answer, refused, gives}
 use Rattle.base.specs.Bytes.{Bytes}
-use Rattle.base.proofs.Choices.{and_left, and_right, and_both}
+use Rattle.base.specs.Limits.{max_age}
+use Rattle.base.specs.Lists.{count_of}
+use Rattle.base.proofs.Choices.{and_right, and_both}
 use Rattle.bare.specs.Frame.{Message}
-use Rattle.bare.specs.Bare.{Bare, feed}
+use Rattle.bare.specs.Unfinished.{Dated, receive_dated, stale_pieces, happens, after_events}
 use Rattle.ack.specs.Write.{write_list_of}
 use Rattle.window.specs.Missing.{missing}
 use Rattle.cells.specs.Cell.{Cell, Slot, ready_as, freed}
+use Rattle.cells.specs.Ages as ages
 use Rattle.cells.specs.Datagram.{State, datagram}
 use Rattle.cells.specs.Sound.{sound, sound_cells, sound_nexts, sound_memories, lengths}
 use Rattle.cells.specs.Store.{slots_of, cells_of}
 use Rattle.cells.specs.Take.{Taken, taking}
-use Rattle.cells.proofs.Matching.{Matches, receive-matches, ready-count, dropped-count, take_matches}
+use Rattle.cells.proofs.Matching.{ready-count, dropped-count}
+use Rattle.cells.proofs.Dating.{DatedMatches, receive-dated, take-dated, drop-dated, drop-count}
+use Rattle.cells.proofs.Records.{count-cells}
 use Rattle.cells.proofs.SoundKept.{take-sound}
-use Rattle.cells.proofs.Store.{take-shaped, cells-slots}
+use Rattle.cells.proofs.Store.{take-shaped, cells-slots, drop-read}
 use Rattle.receiver.specs.declared.RecvQueue.{RecvQueue}
 use Rattle.receiver.specs.Queue.{next_of, newest_of, profile_in, unsent_of, sound_queue}
 use Rattle.receiver.specs.Receive.{Received, frames_in, state_of, accepted_result, refused_result, sound_call, receive_of}
 use Rattle.receiver.specs.Take.{TakeResult, take_refuses, take_of}
 use Rattle.receiver.specs.Write.{Wrote, when_given, emptied, write_of, sorted, write_unsent_of, write_missing_of}
-use Rattle.receiver.specs.Calls.{Call, receive, take_with, write_unsent, write_missing, Receiver, Accepted, Outcome, accepted_by}
-use Rattle.receiver.specs.Calls.{took_of, outcome, receive_outcome, take_outcome, write_outcome, frames_read, bare_answers}
-use Rattle.receiver.specs.Claim.{AllBytes}
+use Rattle.receiver.specs.Drop.{DropResult, drop_unfinished_of}
+use Rattle.receiver.specs.Calls.{Call, receive, take_with, write_unsent, write_missing, drop_unfinished, Receiver, Done, accepted}
+use Rattle.receiver.specs.Calls as calls
+use Rattle.receiver.specs.Calls.{Outcome, accepted_by, took_of, dropped_by, outcome, receive_outcome, take_outcome, write_outcome}
+use Rattle.receiver.specs.Calls.{drop_outcome, event_of, events_of, bare_answers}
+use Rattle.receiver.specs.Claim.{Typed}
 use Rattle.receiver.proofs.Queues.{good-sound, emptied-good}
 use Rattle.receiver.proofs.AnswerCases as ways
 use Rattle.receiver.proofs.AnswerCases.{by-true, receive-ways, Found, take-ways}
 use Rattle.receiver.proofs.Receives as receives
-use Rattle.receiver.proofs.Receives.{state_in, Sane, lengths-sound, cells-sound, read_freed, slots-fit, accepted-state, accepted-sane}
+use Rattle.receiver.proofs.Receives.{state_in, Sane, lengths-sound, cells-sound, other-records, read_freed, slots-fit, accepted-state}
+use Rattle.receiver.proofs.Receives.{accepted-sane}
 use Rattle.receiver.proofs.Receives.{nexts-sound, memories-sound, queue-sound}
 use Rattle.receiver.proofs.Hands.{Gave, take-taken, handed-ways}
+use Rattle.receiver.proofs.Drops.{kept_past, drop-ways, kept-sound}
 
--- Calls made on x leave y, handed out these messages and accepted these datagrams.
-pub record Step (x y : Receiver) (handed : List Message) (accepted : List Accepted) : Type 0 where
+-- Calls made on x leave y, handed out these messages and did this.
+pub record Step (x y : Receiver) (handed : List Message) (done : List Done) : Type 0 where
   pub sane : Sane y
-  pub matches : (b : Bare) (h : List Message) → Matches b (state_in x) h
-      → Matches (feed b (frames_read accepted)).after (state_in y) (h ++ handed)
-  pub counts : (b : Bare) (h : List Message) → Matches b (state_in x) h → accepted ≡ bare_answers b accepted
+  pub matches : (d : Dated) (h : List Message) → DatedMatches d (state_in x) h
+      → DatedMatches (after_events d (events_of done)) (state_in y) (h ++ handed)
+  pub counts : (d : Dated) (h : List Message) → DatedMatches d (state_in x) h → done ≡ bare_answers d done
 
 abbrev Leaves : Receiver → Outcome → Type 0
-Leaves x o = Step x o.left o.handed o.accepted
+Leaves x o = Step x o.left o.handed o.done
 
 -- A call that the bare receiver does not see.
 quiet : (x y : Receiver) → Sane y → state_in y ≡ state_in x → Step x y [] []
-unfolding frames_read feed bare_answers
+unfolding events_of after_events bare_answers
 quiet x y v e = record {
   sane = v;
-  matches = λ b h m. rw (append-nil h) (subst (λ (s : State). Matches b s h) (sym e) m);
-  counts = λ b h m. refl;
+  matches = λ d h m. rw (append-nil h) (subst (λ (s : State). DatedMatches d s h) (sym e) m);
+  counts = λ d h m. refl;
 }
 
 -- ---- receive
 accepts : (x : Receiver) (d : List ℕ) → Bytes d → Sane x → (a : ways.Accepted x.queue x.records x.store d)
-    → Step x (receives.accepted_by x d a) [] (record {
+    → Step x (receives.accepted_by x d a) [] (accepted (record {
       frames = frames_in (profile_in x.queue) d;
       ready = (datagram (state_in x) (frames_in (profile_in x.queue) d)).counts.ready;
       dropped = (datagram (state_in x) (frames_in (profile_in x.queue) d)).counts.dropped;
-    } ∷ [])
-unfolding frames_read bare_answers
+    }) ∷ [])
+unfolding event_of events_of happens after_events bare_answers
 accepts x d by v a = record {
   sane = accepted-sane x d by v a;
-  matches = λ b h m. rw (append-nil (frames_in (profile_in x.queue) d), append-nil h)
-      (subst (λ (s : State). Matches (feed b (frames_in (profile_in x.queue) d)).after s h) (sym (accepted-state x d by v a))
-      (receive-matches b (state_in x) h m (frames_in (profile_in x.queue) d) a.fits));
-  counts = λ b h m i. record {
+  matches = λ b h m. rw (append-nil h)
+      (subst (λ (s : State). DatedMatches (receive_dated (frames_in (profile_in x.queue) d) b) s h) (sym (accepted-state x d by v a))
+      (receive-dated m (frames_in (profile_in x.queue) d) a.fits));
+  counts = λ b h m i. accepted (record {
     frames = frames_in (profile_in x.queue) d;
-    ready = ready-count b (state_in x) h m (frames_in (profile_in x.queue) d) a.fits i;
-    dropped = dropped-count b (state_in x) h m (frames_in (profile_in x.queue) d) a.fits i;
-  } ∷ [];
+    ready = ready-count b.bare (state_in x) h m.matches (frames_in (profile_in x.queue) d) a.fits i;
+    dropped = dropped-count b.bare (state_in x) h m.matches (frames_in (profile_in x.queue) d) a.fits i;
+  }) ∷ [];
 }
 
 receives-one : (x : Receiver) (d : List ℕ) → Bytes d → Sane x → Leaves x
@@ -112,19 +121,12 @@ module _ (x : Receiver) (v : Sane x) (f : Found x.records x.store) where
   long = length-map taken.slots (λ (s : Slot). s.cell) ∙ (take-shaped (length x.records) (slots_of x.records x.store) taken
       (slots-fit x.queue x.records x.store v.sound) is-taken).many
 
-  rest-sound : sound_call x.queue rest x.store ≡ true
-  unfolding sound_call sound
-  rest-sound =
-      and_both (lengths (length rest) (length x.store)) _ (rw long (lengths-sound x.queue x.records x.store v.sound))
-      (and_both (sound_queue x.queue) _ (queue-sound x.queue x.records x.store v.sound)
-      (and_left (sound_cells rest (next_of x.queue)) (sound_nexts (next_of x.queue)) kept))
-
   hands : Step x (record { queue = x.queue; records = rest; store = x.store }) (f.message ∷ []) []
-  unfolding frames_read feed bare_answers state_of
+  unfolding events_of after_events bare_answers state_of
   hands = record {
-    sane = record { good = v.good; sound = rest-sound };
-    matches = λ b h m. rw read_back (unfold taken in take_matches b (state_in x) h m taken is-taken);
-    counts = λ b h m. refl;
+    sane = record { good = v.good; sound = other-records x.queue x.records x.store v.sound rest long kept };
+    matches = λ d h m. rw read_back (unfold taken in take-dated m taken is-taken);
+    counts = λ d h m. refl;
   }
 
 takes_one : (x : Receiver) (buffer : List ℕ) → Sane x → Leaves x (take_outcome x (take_of x.queue x.records x.store buffer))
@@ -175,13 +177,42 @@ empties x v = quiet x _ (record { good = emptied-good x.queue v.good; sound = ke
         (and_both (sound_queue (emptied x.queue)) _ (good-sound (emptied x.queue) (emptied-good x.queue v.good) nexts memories)
         cells-kept)
 
--- Every call, on datagrams of bytes, from a sane receiver.
-pub steps : (c : Call) (x : Receiver) → AllBytes (c ∷ []) → Sane x
-    → Step x (outcome x c).left (outcome x c).handed (outcome x c).accepted
+-- ---- drop
+module _ (x : Receiver) (v : Sane x) (n : ℕ) (lt : n < max_age) where
+  cells-are : sound (cells_of (slots_of x.records x.store)) (next_of x.queue) ≡ true
+  cells-are = rw (cells-slots x.records x.store) (cells-sound x.queue x.records x.store v.sound)
+
+  frees : Step x (record { queue = x.queue; records = kept_past n x.records; store = x.store }) []
+      (calls.freed (record { past = n; cells = count_of (ages.is_stale n) x.records }) ∷ [])
+  unfolding event_of events_of happens after_events bare_answers state_of
+  frees = record {
+    sane = record { good = v.good; sound = kept-sound x.queue x.records x.store n v.sound };
+    matches = λ d h m. rw (append-nil h, drop-read n x.records x.store) (drop-dated m cells-are n lt);
+    counts = λ d h m i. calls.freed (record { past = n; cells = count-is d h m i }) ∷ [];
+  }
+    where
+      count-is : (d : Dated) (h : List Message) → DatedMatches d (state_in x) h → count_of (ages.is_stale n) x.records ≡ stale_pieces n d
+      count-is d h m = ap (count_of (ages.is_stale n)) (sym (cells-slots x.records x.store))
+          ∙ (count-cells (ages.is_stale n) (slots_of x.records x.store) ∙ drop-count m cells-are n lt)
+
+-- "n has 32 bits; the age kept for an id stops at 2^32, which no n reaches."
+below-max-age : (n : ℕ) → n < 2 ^ 32 → n < max_age
+below-max-age n lt = lt
+
+drops_one : (x : Receiver) (n : ℕ) → n < max_age → Sane x → Leaves x (drop_outcome x n (drop_unfinished_of x.queue x.records x.store n))
+unfolding drop_outcome
+drops_one x n lt v =
+    drop-ways x.queue x.records x.store n (λ (r : DropResult). Leaves x (drop_outcome x n r))
+    (λ s. unfold dropped_by in quiet x x v refl)
+    (λ s. unfold dropped_by in frees x v n lt)
+
+-- Every call, on a datagram of bytes or a number of 32 bits, from a sane receiver.
+pub steps : (c : Call) (x : Receiver) → Typed (c ∷ []) → Sane x → Step x (outcome x c).left (outcome x c).handed (outcome x c).done
 unfolding outcome
-steps (receive d) x b v = receives-one x d (b d (Memᴰ.head refl)) v
-steps (take_with buffer) x b v = takes_one x buffer v
-steps (write_unsent out) x b v = unfold write_unsent_of in
+steps (receive d) x t v = receives-one x d (t.bytes d (Memᴰ.head refl)) v
+steps (take_with buffer) x t v = takes_one x buffer v
+steps (write_unsent out) x t v = unfold write_unsent_of in
     writes_one x v (emptied x.queue) false (sorted (unsent_of x.queue)) out (empties x v)
-steps (write_missing out) x b v = unfold write_missing_of in
+steps (write_missing out) x t v = unfold write_missing_of in
     writes_one x v x.queue true (missing x.queue.datagrams) out (quiet x x v refl)
+steps (drop_unfinished n) x t v = drops_one x n (below-max-age n (t.numbers n (Memᴰ.head refl))) v

@@ -1,25 +1,28 @@
--- What each of document 01's four calls does to a receiver, by the very definitions that the calls' promises cite; and lists of calls.
-use Rattle.std.specs.Prelude.{ℕ, zero, suc, ◌*◌, List, [], ◌∷◌, ◌++◌, length, take, drop, replicate}
+-- What each of the five calls of a list does to a receiver, by the very definitions that the calls' promises cite; and lists of calls.
+use Rattle.std.specs.Prelude.{ℕ, zero, suc, ◌*◌, List, [], ◌∷◌, ◌++◌, map, length, take, drop, replicate}
 use Rattle.std.proofs.Math.Option.{Option, none, some}
 use Rattle.base.specs.Answer.{Answer, refused, gives}
 use Rattle.base.specs.Limits.{max_frags, cell_bytes}
 use Rattle.reliability.specs.declared.Profile.{Profile}
 use Rattle.bare.specs.Frame.{Frame, Message}
-use Rattle.bare.specs.Bare.{Bare, feed}
+use Rattle.bare.specs.Bare.{feed}
+use Rattle.bare.specs.Unfinished.{Dated, receive_dated, drop_stale, stale_pieces, Event, datagram, drop_past}
 use Rattle.cells.specs.Cell.{Cell, empty_cell}
 use Rattle.receiver.specs.declared.RecvQueue.{RecvQueue}
 use Rattle.receiver.specs.Queue.{new_queue, profile_in}
 use Rattle.receiver.specs.Receive.{Report, Received, frames_in, receive_of}
 use Rattle.receiver.specs.Take.{Where, in_store, in_joined, Handed, TakeResult, take_of}
 use Rattle.receiver.specs.Write.{Wrote, write_unsent_of, write_missing_of}
+use Rattle.receiver.specs.Drop.{DropResult, drop_unfinished_of}
 
--- "A list holds the calls receive, take, writing the unsent and writing the missing"; "Datagrams, joining buffers and outputs are each
--- call's own and may hold anything."
+-- "A list holds the calls receive, take, writing the unsent and writing the missing", and dropping the unfinished ("its lists hold this
+-- call too", request 4); "Datagrams, joining buffers and outputs are each call's own and may hold anything."
 pub data Call : Type 0 where
   receive : List ℕ → Call
   take_with : List ℕ → Call
   write_unsent : List ℕ → Call
   write_missing : List ℕ → Call
+  drop_unfinished : ℕ → Call
 
 -- "Each call has the receiver, records and store that the last one returned or left"
 pub record Receiver : Type 0 where
@@ -37,22 +40,32 @@ pub record Accepted : Type 0 where
   pub ready : ℕ
   pub dropped : ℕ
 
--- What a call comes to: what it leaves; "A refusal returns its number"; the message that it handed out, and the datagram that it accepted,
--- at most one each.
+-- unfinished messages dropped: the call's n, and "how many cells it freed"
+pub record Freed : Type 0 where
+  pub past : ℕ
+  pub cells : ℕ
+
+-- What a call did that the bare receiver does too, with what was answered.
+pub data Done : Type 0 where
+  accepted : Accepted → Done
+  freed : Freed → Done
+
+-- What a call comes to: what it leaves; "A refusal returns its number"; the message that it handed out, and what the bare receiver does
+-- too, at most one each.
 pub record Outcome : Type 0 where
   pub left : Receiver
   pub refusal : Option ℕ
   pub handed : List Message
-  pub accepted : List Accepted
+  pub done : List Done
 
 unfoldable pub refusal_of : {A : Type 0} → Answer A → Option ℕ
 refusal_of (refused number) = some number
 refusal_of (gives x) = none
 
 -- "A datagram is accepted when receive gives it no refusal number"; its frames are read under the receiver's profile
-unfoldable pub accepted_by : Profile → List ℕ → Answer Report → List Accepted
+unfoldable pub accepted_by : Profile → List ℕ → Answer Report → List Done
 accepted_by p d (refused number) = []
-accepted_by p d (gives r) = record { frames = frames_in p d; ready = r.ready; dropped = r.dropped } ∷ []
+accepted_by p d (gives r) = accepted (record { frames = frames_in p d; ready = r.ready; dropped = r.dropped }) ∷ []
 
 -- a receive leaves all three
 unfoldable pub receive_outcome : Profile → List ℕ → Received → Outcome
@@ -60,7 +73,7 @@ receive_outcome p d r = record {
   left = record { queue = r.queue; records = r.records; store = r.store };
   refusal = refusal_of r.answer;
   handed = [];
-  accepted = accepted_by p d r.answer;
+  done = accepted_by p d r.answer;
 }
 
 -- the bytes that a take hands out, read where it says that they stand
@@ -85,7 +98,7 @@ take_outcome x r = record {
   left = record { queue = x.queue; records = r.records; store = x.store };
   refusal = refusal_of r.answer;
   handed = took_of x.store r;
-  accepted = [];
+  done = [];
 }
 
 -- "A writing may be lent no cells; records and store then stay as they are."
@@ -94,7 +107,21 @@ write_outcome x w = record {
   left = record { queue = w.queue; records = x.records; store = x.store };
   refusal = refusal_of w.answer;
   handed = [];
-  accepted = [];
+  done = [];
+}
+
+-- where it was not refused
+unfoldable pub dropped_by : ℕ → Answer ℕ → List Done
+dropped_by n (refused number) = []
+dropped_by n (gives cells) = freed (record { past = n; cells = cells }) ∷ []
+
+-- a drop leaves other records
+unfoldable pub drop_outcome : Receiver → ℕ → DropResult → Outcome
+drop_outcome x n r = record {
+  left = record { queue = x.queue; records = r.records; store = x.store };
+  refusal = refusal_of r.answer;
+  handed = [];
+  done = dropped_by n r.answer;
 }
 
 unfoldable pub outcome : Receiver → Call → Outcome
@@ -102,6 +129,7 @@ outcome x (receive d) = receive_outcome (profile_in x.queue) d (receive_of x.que
 outcome x (take_with buffer) = take_outcome x (take_of x.queue x.records x.store buffer)
 outcome x (write_unsent out) = write_outcome x (write_unsent_of x.queue out)
 outcome x (write_missing out) = write_outcome x (write_missing_of x.queue out)
+outcome x (drop_unfinished n) = drop_outcome x n (drop_unfinished_of x.queue x.records x.store n)
 
 -- a joining buffer long enough for every message, and n takes with it
 unfoldable pub zeros : ℕ → List ℕ
@@ -125,10 +153,10 @@ module _ (by : Receiver → Call → Outcome) where
   handed_out x [] = []
   handed_out x (c ∷ cs) = (by x c).handed ++ handed_out (by x c).left cs
 
-  -- its accepted datagrams, in their order
-  unfoldable pub accepted_of : Receiver → List Call → List Accepted
-  accepted_of x [] = []
-  accepted_of x (c ∷ cs) = (by x c).accepted ++ accepted_of (by x c).left cs
+  -- its accepted datagrams and what it dropped, in their order
+  unfoldable pub done_by : Receiver → List Call → List Done
+  done_by x [] = []
+  done_by x (c ∷ cs) = (by x c).done ++ done_by (by x c).left cs
 
   -- "those that takes with a joining buffer long enough would hand out until 20": as many takes as there are cells hand out all that is
   -- ready (the claim says that the take after them gets 20): what they hand out, and what they leave
@@ -138,13 +166,19 @@ module _ (by : Receiver → Call → Outcome) where
   unfoldable pub drained : Receiver → Receiver
   drained x = after_all x (takes (length x.records))
 
--- all frames read from accepted datagrams, in order
-unfoldable pub frames_read : List Accepted → List Frame
-frames_read [] = []
-frames_read (a ∷ rest) = a.frames ++ frames_read rest
+-- what the bare receiver is told of it
+unfoldable pub event_of : Done → Event
+event_of (accepted a) = datagram a.frames
+event_of (freed f) = drop_past f.past
 
--- what the bare receiver answers to the same datagrams
-unfoldable pub bare_answers : Bare → List Accepted → List Accepted
-bare_answers b [] = []
-bare_answers b (a ∷ rest) = record { frames = a.frames; ready = (feed b a.frames).ready; dropped = (feed b a.frames).dropped }
-    ∷ bare_answers (feed b a.frames).after rest
+unfoldable pub events_of : List Done → List Event
+events_of ds = map event_of ds
+
+-- what the bare receiver answers to the same
+unfoldable pub bare_answers : Dated → List Done → List Done
+bare_answers d [] = []
+bare_answers d (accepted a ∷ rest) =
+    accepted (record { frames = a.frames; ready = (feed d.bare a.frames).ready; dropped = (feed d.bare a.frames).dropped })
+    ∷ bare_answers (receive_dated a.frames d) rest
+bare_answers d (freed f ∷ rest) = freed (record { past = f.past; cells = stale_pieces f.past d })
+    ∷ bare_answers (drop_stale f.past d) rest

@@ -5,6 +5,7 @@ use Rattle.receiver.specs.Receive.{Report}
 use Rattle.receiver.specs.Take.{Where, in_store, in_joined, Handed}
 use Rattle.recv_answers.specs.declared.QueueReceived.{QueueReceived}
 use Rattle.recv_answers.specs.declared.QueueTaken.{QueueTaken}
+use Rattle.recv_answers.specs.declared.QueueDropped.{QueueDropped}
 
 abbrev pub not_received : ℕ → QueueReceived
 not_received number = record { number = number; ready = 0; dropped = 0; left = 0 }
@@ -40,3 +41,7 @@ handed_told kind channel order (in_joined len) = record {
 abbrev pub take_told : Answer Handed → QueueTaken
 take_told (refused number) = not_taken number
 take_told (gives h) = handed_told h.kind h.channel h.order h.body
+
+abbrev pub drop_told : Answer ℕ → QueueDropped
+drop_told (refused number) = record { number = number; freed = 0 }
+drop_told (gives freed) = record { number = 0; freed = freed }

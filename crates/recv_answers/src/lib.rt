@@ -8,7 +8,7 @@ ghost use Rattle.base.specs.Refusals.{answer, answer_by};
 ghost use Rattle.recv_steps.specs.Outcome.{report_of};
 ghost use Rattle.recv_take.specs.Outcome.{handed_of};
 ghost use Rattle.exports.specs.Numbers.{number_of};
-ghost use Rattle.recv_answers.specs.Told.{receive_told, take_told};
+ghost use Rattle.recv_answers.specs.Told.{receive_told, take_told, drop_told};
 
 use base::Refusal;
 use recv_steps::Received;
@@ -81,6 +81,28 @@ impl From<Result<Taken, Refusal>> for QueueTaken {
             Err(e) => QueueTaken {
                 number: e.into(),
                 ..QueueTaken::default()
+            },
+        }
+    }
+}
+
+// How many cells were freed.
+#[repr(C)]
+#[derive(Clone, Copy, Debug, Default, PartialEq, Eq)]
+pub struct QueueDropped {
+    pub number: u32,
+    pub freed: u32,
+}
+
+impl From<Result<u32, Refusal>> for QueueDropped {
+    ghost from_gives = { λ r x. x ≡ drop_told (answer r) };
+
+    fn from(r: Result<u32, Refusal>) -> QueueDropped {
+        match r {
+            Ok(freed) => QueueDropped { number: 0, freed },
+            Err(e) => QueueDropped {
+                number: e.into(),
+                ..QueueDropped::default()
             },
         }
     }

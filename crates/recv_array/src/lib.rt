@@ -7,9 +7,11 @@ ghost use Rattle.std.specs.Prelude.{◌≡◌, take, drop};
 ghost use Rattle.receiver.specs.Queue.{new_queue};
 ghost use Rattle.receiver.specs.Receive.{receive_of};
 ghost use Rattle.receiver.specs.Take.{take_of};
+ghost use Rattle.receiver.specs.Drop.{drop_unfinished_of};
 ghost use Rattle.receiver.specs.Write.{write_unsent_of, write_missing_of};
 ghost use Rattle.recv_acks.specs.Wrote.{wrote};
 ghost use Rattle.recv_take.specs.Outcome.{take_result};
+ghost use Rattle.recv_drop.specs.Outcome.{drop_result};
 ghost use Rattle.recv_new.specs.New.{made_new, make_new_of};
 ghost use Rattle.recv_queue.specs.Answers.{received};
 ghost use Rattle.recv_array.specs.Held.{unused_cells, in_use, IsSameBeyond};
@@ -66,6 +68,16 @@ impl Receiver {
     {
         let n = self.cells;
         take_first(&self.queue, &mut self.records, n, store, joined)
+    }
+
+    pub fn drop_unfinished(&mut self, store: &[u8], n: u32) -> Result<u32, Refusal>
+        ensures value { drop_result result (in_use self.new)
+            ≡ drop_unfinished_of self.old.queue (in_use self.old) store.now n }
+        ensures beyond { IsSameBeyond self.old self.new }
+        ensures queue { self.new.queue ≡ self.old.queue }
+    {
+        let cells = self.cells;
+        drop_first(&self.queue, &mut self.records, cells, store, n)
     }
 
     pub fn write_unsent(&mut self, out: &mut [u8]) -> Result<usize, Refusal>
@@ -128,4 +140,19 @@ fn take_first(
 {
     let m = n.min(records.len());
     recv_queue::take(queue, &mut records[..m], store, joined)
+}
+
+fn drop_first(
+    queue: &RecvQueue,
+    records: &mut [CellRecord],
+    cells: usize,
+    store: &[u8],
+    n: u32,
+) -> Result<u32, Refusal>
+    ensures value { drop_result result (take cells records.new)
+        ≡ drop_unfinished_of queue.now (take cells records.old) store.now n }
+    ensures beyond { drop cells records.new ≡ drop cells records.old }
+{
+    let m = cells.min(records.len());
+    recv_queue::drop_unfinished(queue, &mut records[..m], store, n)
 }

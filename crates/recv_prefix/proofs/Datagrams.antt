@@ -2,8 +2,8 @@
 -- Assumes nothing.
 use Prim.Native.Nat.{ℕ, suc, ◌*◌, ◌≤◌}
 use mathlib.Core.Path.{◌≡◌, refl, sym, ◌∙◌, ap}
-use mathlib.Core.Bool.{Bool, true, false}
-use mathlib.Core.List.{List, [], ◌∷◌, ◌++◌, map, map-append, append_assoc}
+use mathlib.Core.Bool.{true, false}
+use mathlib.Core.List.{List, [], ◌∷◌, ◌++◌, map-append, append_assoc}
 use native.Mathlib.Nat.{suc-mul}
 use native.Mathlib.Omega.{arith}
 use lib.Dec.{eqb}
@@ -12,17 +12,19 @@ use lib.Seq.{take-append-le, drop-append-le}
 use borrow.Author.Tests.{eqb-true, ne_eqb}
 use Rattle.base.specs.Lists.{every, count_of}
 use Rattle.base.proofs.Choices.{cases, and_left, and_right}
-use Rattle.base.proofs.Lists.{every-mem}
 use Rattle.base.proofs.Counts.{count_map}
 use Rattle.bare.specs.Frame.{Frame}
-use Rattle.cells.specs.Cell.{Cell, Slot, is_free, is_ready, mark, empty_slot, change, map_if}
-use Rattle.cells.specs.Datagram.{Work, place, frame, frames, is_first, is_before, rank, renumber, sweep, State, with_slots, begin, datagram}
+use Rattle.cells.specs.Cell.{Cell, Slot, is_free, is_open, is_ready, mark, empty_slot, change, map_if}
+use Rattle.cells.specs.Ages.{aged, next_age, grown}
+use Rattle.cells.specs.Datagram.{Work, place, frame, frames, is_first, is_before, rank, renumber, sweep, State, with_slots, begin, grow}
+use Rattle.cells.specs.Datagram.{datagram}
 use Rattle.cells.specs.Store.{cell_size, slots_of, cells_of, laid, store_of}
 use Rattle.cells.proofs.Keys.{used-free, mark-free}
 use Rattle.cells.proofs.Growing.{frame-grows}
+use Rattle.cells.proofs.Aging.{grown-free}
 use Rattle.recv_prefix.specs.First.{is_unused}
 use Rattle.recv_prefix.proofs.Unused.{count-first}
-use Rattle.recv_prefix.proofs.Prefix.{map-fixed, frames-prefix}
+use Rattle.recv_prefix.proofs.Prefix.{change-prefix, frames-prefix}
 
 pub slots-count : (cs : List Cell) (st : List ℕ) → count_of is_free (slots_of cs st) ≡ count_of is_unused cs
 unfolding slots_of count_of is_free is_unused
@@ -61,13 +63,18 @@ store-free (s ∷ l) t st e = ap (λ (r : List ℕ). laid s (take cell_size st) 
 
 -- ---- a datagram over slots after which the unused ones t stand
 
-not-ready : (s : Slot) → is_free s ≡ true → is_ready s ≡ false
-unfolding is_free is_ready
-not-ready s e = let u = eqb-true s.cell.used 0 e in ne_eqb s.cell.used 3 (λ q. omega arith)
-
-not_late : (s : Slot) → is_free s ≡ true → eqb s.cell.used 4 ≡ false
+-- An unused slot has no other use.
+not_used : (u : ℕ) → (0 ≡ u → ⊥) → (s : Slot) → is_free s ≡ true → eqb s.cell.used u ≡ false
 unfolding is_free
-not_late s e = let u = eqb-true s.cell.used 0 e in ne_eqb s.cell.used 4 (λ q. omega arith)
+not_used u n s e = let z = eqb-true s.cell.used 0 e in ne_eqb s.cell.used u (λ q. n (sym z ∙ q))
+
+not-ready : (s : Slot) → is_free s ≡ true → is_ready s ≡ false
+unfolding is_ready
+not-ready = not_used 3 (λ q. omega arith)
+
+not-open : (s : Slot) → is_free s ≡ true → is_open s ≡ false
+unfolding is_open
+not-open = not_used 1 (λ q. omega arith)
 
 not_first : (s : Slot) → is_free s ≡ true → is_first s ≡ false
 unfolding is_first
@@ -93,16 +100,12 @@ frames-many (f ∷ fs) w = frames-many fs (frame w f) ∙ (frame-grows (length w
 
 -- a datagram keeps the number of slots
 pub datagram-many : (s : State) (fs : List Frame) → length (datagram s fs).state.slots ≡ length s.slots
-unfolding datagram begin renumber map_if
-datagram-many s fs = frames-many fs (begin s) ∙ length-map s.slots (change is_ready (λ x. mark 3 (rank s.slots x.cell.turn) x))
+unfolding datagram grow begin place grown renumber map_if
+datagram-many s fs =
+    frames-many fs (grow (begin s)) ∙ length-map (renumber s.slots) (change is_open (λ x. aged (next_age x.cell.age) x))
+    ∙ length-map s.slots (change is_ready (λ x. mark 3 (rank s.slots x.cell.turn) x))
 
 module _ (t : List Slot) (unused : every is_free t ≡ true) where
-  change-beside : (p : Slot → Bool) (g : Slot → Slot) → ((s : Slot) → is_free s ≡ true → p s ≡ false) → (l : List Slot)
-      → map_if p g (l ++ t) ≡ map_if p g l ++ t
-  unfolding map_if change
-  change-beside p g blind l = map-append (change p g) l t
-      ∙ ap (λ (r : List Slot). map (change p g) l ++ r) (map-fixed (change p g) t (λ s m. rw (blind s (every-mem is_free t unused s m))))
-
   rank-beside : (l : List Slot) (n : ℕ) → rank (l ++ t) n ≡ rank l n
   unfolding rank
   rank-beside l n = count-first t unused (is_before n) (not-before n) l
@@ -110,23 +113,33 @@ module _ (t : List Slot) (unused : every is_free t ≡ true) where
   renumber-beside : (l : List Slot) → renumber (l ++ t) ≡ renumber l ++ t
   unfolding renumber
   renumber-beside l = ap (λ (r : ℕ → ℕ). map_if is_ready (λ s. mark 3 (r s.cell.turn) s) (l ++ t)) (λ i n. rank-beside l n i)
-      ∙ change-beside is_ready (λ s. mark 3 (rank l s.cell.turn) s) not-ready l
+      ∙ change-prefix t unused is_ready (λ s. mark 3 (rank l s.cell.turn) s) not-ready l
 
   pub sweep-beside : (l : List Slot) → sweep (l ++ t) ≡ sweep l ++ t
   unfolding sweep
-  sweep-beside l = change-beside (λ s. eqb s.cell.used 4) (λ s. empty_slot) not_late l
+  sweep-beside l = change-prefix t unused (λ s. eqb s.cell.used 4) (λ s. empty_slot) (not_used 4 (λ q. omega arith)) l
 
   begin-beside : (s : State) → begin (with_slots (s.slots ++ t) s) ≡ place ((begin s).state.slots ++ t) (begin s)
   unfolding begin place
   begin-beside s = rw (renumber-beside s.slots, count-first t unused is_first not_first s.slots)
+
+  grown-beside : (l : List Slot) → grown (l ++ t) ≡ grown l ++ t
+  unfolding grown
+  grown-beside l = change-prefix t unused is_open (λ s. aged (next_age s.cell.age) s) not-open l
+
+  grow-beside : (w : Work) → grow (place (w.state.slots ++ t) w) ≡ place ((grow w).state.slots ++ t) (grow w)
+  unfolding grow place
+  grow-beside w = rw (grown-beside w.state.slots)
 
   -- Where the others have an unused one for each frame, they stay as they are, and nothing else changes.
   pub datagram-beside : (s : State) (fs : List Frame) → length fs ≤ count_of is_free s.slots
       → datagram (with_slots (s.slots ++ t) s) fs ≡ place ((datagram s fs).state.slots ++ t) (datagram s fs)
   unfolding datagram
   datagram-beside s fs le =
-      ap (λ (w : Work). frames w fs) (begin-beside s)
-      ∙ frames-prefix fs (begin s) t unused (unfold begin in (let e = free-renumber s.slots in omega arith))
+      ap (λ (w : Work). frames (grow w) fs) (begin-beside s)
+      ∙ ap (λ (w : Work). frames w fs) (grow-beside (begin s))
+      ∙ frames-prefix fs (grow (begin s)) t unused (unfold grow begin place in (let g = grown-free (renumber s.slots) in
+      let e = free-renumber s.slots in omega arith))
 
 pub cells-append : (l t : List Slot) → cells_of (l ++ t) ≡ cells_of l ++ cells_of t
 unfolding cells_of

@@ -10,7 +10,7 @@ use lib.ListN.{length, take, drop, length-drop, take-append-drop}
 use lib.Seq.{length-take-le, drop-length}
 use borrow.Author.Tests.{ltb-true, ltb-false}
 use Rattle.base.specs.Limits.{min_datagram}
-use Rattle.base.specs.Lists.{count_of}
+use Rattle.base.specs.Lists.{every, count_of}
 use Rattle.base.proofs.Choices.{cases}
 use Rattle.base.proofs.Ifs.{true-no}
 use Rattle.frame.specs.Frames.{frames_of}
@@ -20,12 +20,15 @@ use Rattle.receiver.specs.declared.RecvQueue.{RecvQueue}
 use Rattle.receiver.specs.Queue.{profile_in}
 use Rattle.receiver.specs.Receive.{refused_result, receive_of}
 use Rattle.receiver.specs.Take.{take_refuses, take_of}
+use Rattle.receiver.specs.Drop.{drop_unfinished_of}
 use Rattle.recv_prefix.specs.First.{is_unused}
 use Rattle.recv_prefix.specs.Needs.{last_used, receive_needs, take_needs}
 use Rattle.recv_prefix.specs.Receiving.{beside, receive_first}
 use Rattle.recv_prefix.specs.Taking.{beside_taken, take_first}
+use Rattle.recv_prefix.specs.Dropping.{drop_refuses, drop_first, beside_dropped}
 use Rattle.recv_prefix.proofs.ReceiveFirst.{receive-first, receive-unfit}
 use Rattle.recv_prefix.proofs.TakeFirst.{take-first, take-unfit}
+use Rattle.recv_prefix.proofs.DropFirst.{drop-first, drop-unfit}
 use Rattle.recv_prefix.proofs.Used.{last_within, rest-unused, unused-count}
 use Rattle.recv_prefix.proofs.Needs.{receive-some, receive-few, take-some}
 
@@ -75,18 +78,21 @@ module _ (q : RecvQueue) (rs : List Cell) (st d : List ℕ) (k : ℕ)
   pub receive-enough : receive_of q rs st d ≡ beside (drop k rs) (receive_first q (length rs) (take k rs) st d)
   receive-enough = cases (lengths (length rs) (length st)) receive_fit receive-none
 
--- ---- take
+-- ---- take and drop
 
-module _ (q : RecvQueue) (rs : List Cell) (st buffer : List ℕ) (k : ℕ) (is : k ≡ take_needs (last_used rs) (length rs) (length st)) where
-  take-fit : lengths (length rs) (length st) ≡ true → take_of q rs st buffer ≡ beside_taken (drop k rs)
-      (take_first q (length rs) (take k rs) st buffer)
-  take-fit t =
+-- A law of records whose last ones are unused, for the first k, where the lengths fit.
+module _ (rs : List Cell) (st : List ℕ) (k : ℕ) (is : k ≡ take_needs (last_used rs) (length rs) (length st)) where
+  needed-fit : {A : Type 0} (f : List Cell → A) (g : List Cell → List Cell → ℕ → A) → ((first rest : List Cell)
+      → every is_unused rest ≡ true
+      → 1 ≤ length first → f (first ++ rest) ≡ g first rest (length first + length rest)) → lengths (length rs) (length st) ≡ true
+      → f rs ≡ g (take k rs) (drop k rs) (length rs)
+  needed-fit f g law t =
       let some : (1 ≤ k) × (last_used rs ≤ k) × (k ≤ length rs) =
       take-some (last_used rs) (length rs) (length st) k is t (last_within rs) in
       let long = length-take-le k rs some.2 in
-      split (λ cs. take_of q cs st buffer) (λ n. beside_taken (drop k rs) (take_first q n (take k rs) st buffer)) rs k some.2
-      (take-first q (take k rs) (drop k rs) st buffer (rest-unused rs k some.1) (omega (arith, some.0)))
+      split f (g (take k rs) (drop k rs)) rs k some.2 (law (take k rs) (drop k rs) (rest-unused rs k some.1) (omega (arith, some.0)))
 
+module _ (q : RecvQueue) (rs : List Cell) (st buffer : List ℕ) (k : ℕ) (is : k ≡ take_needs (last_used rs) (length rs) (length st)) where
   take_none : lengths (length rs) (length st) ≡ false → take_of q rs st buffer ≡ beside_taken (drop k rs)
       (take_first q (length rs) (take k rs) st buffer)
   unfolding take_first beside_taken
@@ -97,4 +103,22 @@ module _ (q : RecvQueue) (rs : List Cell) (st buffer : List ℕ) (k : ℕ) (is :
 
   -- A take is that over the first k records, with the others beside them.
   pub take-enough : take_of q rs st buffer ≡ beside_taken (drop k rs) (take_first q (length rs) (take k rs) st buffer)
-  take-enough = cases (lengths (length rs) (length st)) take-fit take_none
+  take-enough = cases (lengths (length rs) (length st))
+      (needed-fit rs st k is (λ cs. take_of q cs st buffer) (λ first rest n. beside_taken rest (take_first q n first st buffer))
+      (λ first rest. take-first q first rest st buffer))
+      take_none
+
+module _ (q : RecvQueue) (rs : List Cell) (st : List ℕ) (n k : ℕ) (is : k ≡ take_needs (last_used rs) (length rs) (length st)) where
+  drop_none : lengths (length rs) (length st) ≡ false → drop_unfinished_of q rs st n ≡ beside_dropped (drop k rs)
+      (drop_first q (length rs) (take k rs) st n)
+  unfolding drop_first beside_dropped
+  drop_none t =
+      let e : drop_refuses (take k rs) ≡ drop_first q (length rs) (take k rs) st n = true-no _ _ _ _ t refl in
+      drop-unfit q rs st n t ∙ ap drop_refuses (sym (take-append-drop k rs)) ∙ ap (beside_dropped (drop k rs)) e
+
+  -- So is a drop.
+  pub drop-enough : drop_unfinished_of q rs st n ≡ beside_dropped (drop k rs) (drop_first q (length rs) (take k rs) st n)
+  drop-enough = cases (lengths (length rs) (length st))
+      (needed-fit rs st k is (λ cs. drop_unfinished_of q cs st n) (λ first rest cells. beside_dropped rest (drop_first q cells first st n))
+      (λ first rest. drop-first q first rest st n))
+      drop_none

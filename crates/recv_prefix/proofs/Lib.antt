@@ -5,6 +5,7 @@ pub mod Prefix
 pub mod Datagrams
 pub mod ReceiveFirst
 pub mod TakeFirst
+pub mod DropFirst
 pub mod Used
 pub mod Needs
 pub mod Enough

@@ -3,39 +3,39 @@
 use Prim.Native.Nat.{ℕ, zero, suc, ◌≤◌}
 use mathlib.Core.Path.{◌≡◌, refl, ◌∙◌, ap}
 use mathlib.Core.Bool.{Bool, true, false, cond, ◌||◌, false≢true}
-use mathlib.Core.List.{List, [], ◌∷◌, ◌++◌, map, map-append, Memᴰ}
+use mathlib.Core.List.{List, [], ◌∷◌, ◌++◌, map, map-append}
 use native.Mathlib.Omega.{arith}
 use lib.ListN.{length, length-append}
 use borrow.Author.Tests.{eqb-true}
 use Rattle.base.specs.Lists.{any, every, count_of, below}
 use Rattle.base.proofs.Choices.{by_bool, cases, same_cond}
-use Rattle.base.proofs.Lists.{every-mem}
+use Rattle.base.proofs.Lists.{every-mem, any-map}
 use Rattle.base.proofs.Counts.{count_none, count-length}
 use Rattle.rows.proofs.ListMaps.{any_append}
 use Rattle.bare.specs.Frame.{Frame, in_limits}
 use Rattle.bare.specs.Bare.{seen_before}
 use Rattle.cells.specs.Cell.{Slot, Key, open_as, held_as, of, sits, is_free, all_there, clash, mark, change, map_if, turn_to}
 use Rattle.cells.specs.Cell.{put_slot, slot_of}
+use Rattle.cells.specs.Ages.{with_age, aged, renewed}
 use Rattle.cells.specs.Datagram.{Work, drop_one, fill_up, place, made, rise, remember_in, accept_in, is_held, go_on, cascade, follows}
 use Rattle.cells.specs.Datagram.{Fate, late, early, due, newer, free, fate, fate_of, roomy, readied, whole, joins}
-use Rattle.cells.specs.Datagram.{kept, piece, keep_in, frame, frames}
+use Rattle.cells.specs.Datagram.{kept, put_piece, renew, piece, keep_in, frame, frames}
 use Rattle.cells.proofs.PutSlot.{free-put}
 use Rattle.cells.proofs.Keys.{of-free, sits-free}
 use Rattle.cells.proofs.FrameSlot.{slot-free}
 use Rattle.cells.proofs.Cascade.{is_open-used, is_held_slot, cascade-more, cascade-stops}
 use Rattle.cells.proofs.Room.{free-follows, free-kept}
-use Rattle.recv_prefix.proofs.Unused.{any-first}
-
-pub map-fixed : (h : Slot → Slot) (l : List Slot) → ((s : Slot) → Memᴰ s l → h s ≡ s) → map h l ≡ l
-map-fixed h [] e = refl
-map-fixed h (s ∷ l) e =
-    let a = e s (Memᴰ.head refl) in
-    let b = map-fixed h l (λ x m. e x (Memᴰ.tail m)) in
-    cc
+use Rattle.cells.proofs.Aging.{renewed-free}
+use Rattle.recv_prefix.proofs.Unused.{map-fixed, any-first}
 
 clash-free : (f : Frame) (s : Slot) → is_free s ≡ true → clash f s ≡ false
 unfolding clash is_free
 clash-free f s e = rw (is_open-used s 0 (eqb-true s.cell.used 0 e) (λ q. omega arith))
+
+renewed-any : (id : ℕ) (l : List Slot) → any is_free (renewed id l) ≡ any is_free l
+unfolding renewed map_if change is_free aged with_age
+renewed-any id l = any-map is_free is_free (change (of (open_as id)) (aged 0)) l
+    (λ s m. by_bool (λ (z : Slot). is_free z ≡ is_free s) (of (open_as id) s) (λ y. refl) (λ y. refl))
 
 -- ---- lists that end in the unused slots t
 
@@ -72,11 +72,15 @@ fewer-whole newer f w = fewer-roomy (slot_of f 3 w.turn) (remember_in f w) _ (sl
 fewer-whole free f w = fewer-roomy (slot_of f 3 w.turn) w _ (slot-free f 3 w.turn (λ q. omega arith)) refl
 fewer-whole due f w = fewer-roomy (slot_of f 3 w.turn) w _ (slot-free f 3 w.turn (λ q. omega arith)) (free-follows f.channel _)
 
+fewer-put : (f : Frame) (w : Work) → Fewer w (put_piece f w)
+unfolding put_piece place
+fewer-put f w = fewer-roomy (slot_of f 1 0) w _ (slot-free f 1 0 (λ q. omega arith))
+    (free-kept f (place (put_slot (slot_of f 1 0) w.state.slots) w))
+
 fewer-piece : (f : Frame) (w : Work) → Fewer w (piece f w)
-unfolding piece drop_one place
+unfolding piece drop_one renew place
 fewer-piece f w = by_bool (λ (z : Work). Fewer w z) (any (clash f) w.state.slots) (λ y. omega arith)
-    (λ y. fewer-roomy (slot_of f 1 0) w _ (slot-free f 1 0 (λ q. omega arith))
-    (free-kept f (place (put_slot (slot_of f 1 0) w.state.slots) w)))
+    (λ y. let e = renewed-free f.id w.state.slots in let p = fewer-put f (renew f w) in omega arith)
 
 fewer-keep : (f : Frame) (w : Work) → Fewer w (keep_in f w)
 unfolding keep_in
@@ -97,11 +101,15 @@ module _ (t : List Slot) (unused : every is_free t ≡ true) where
   abbrev Longer : Work → Work → Type 0
   Longer x w = x ≡ longer w
 
+  pub change-prefix : (p : Slot → Bool) (g : Slot → Slot) → ((s : Slot) → is_free s ≡ true → p s ≡ false) → (l : List Slot)
+      → map_if p g (l ++ t) ≡ map_if p g l ++ t
+  unfolding map_if change
+  change-prefix p g blind l = map-append (change p g) l t
+      ∙ ap (λ (r : List Slot). map (change p g) l ++ r) (map-fixed (change p g) t (λ s m. rw (blind s (every-mem is_free t unused s m))))
+
   turn-prefix : (k : Key) (u n : ℕ) (l : List Slot) → turn_to k u n (l ++ t) ≡ turn_to k u n l ++ t
-  unfolding turn_to map_if change
-  turn-prefix k u n l = map-append (change (of k) (mark u n)) l t
-      ∙ ap (λ (r : List Slot). map (change (of k) (mark u n)) l ++ r)
-      (map-fixed (change (of k) (mark u n)) t (λ s m. rw (of-free k s (every-mem is_free t unused s m))))
+  unfolding turn_to
+  turn-prefix k u n l = change-prefix (of k) (mark u n) (of-free k) l
 
   put-prefix : (x : Slot) (l : List Slot) → any is_free l ≡ true → put_slot x (l ++ t) ≡ put_slot x l ++ t
   unfolding any put_slot
@@ -210,11 +218,23 @@ module _ (t : List Slot) (unused : every is_free t ≡ true) where
       w.state.slots f.count) (λ y. ap (λ (x : Fate). joins x f (longer w)) (fate-longer f w) ∙ joins-longer (fate_of f w) f w)
       (λ y. refl)
 
+  renewed-longer : (id : ℕ) (w : Work) → renewed id (longer w).state.slots ≡ renewed id w.state.slots ++ t
+  unfolding renewed longer place
+  renewed-longer id w = change-prefix (of (open_as id)) (aged 0) (of-free (open_as id)) w.state.slots
+
+  renew-longer : (f : Frame) (w : Work) → renew f (longer w) ≡ longer (renew f w)
+  unfolding renew
+  renew-longer f w = place-longer _ _ w (renewed-longer f.id w)
+
+  put-piece-longer : (f : Frame) (w : Work) → any is_free w.state.slots ≡ true → put_piece f (longer w) ≡ longer (put_piece f w)
+  unfolding put_piece
+  put-piece-longer f w e = roomy-longer w _ _ e (ap (kept f) (place-longer _ _ w (put-longer (slot_of f 1 0) w e)) ∙ kept-longer f _)
+
   piece-longer : (f : Frame) (w : Work) → any is_free w.state.slots ≡ true → piece f (longer w) ≡ longer (piece f w)
   unfolding piece
   piece-longer f w e = same_cond Longer (any (clash f) (longer w).state.slots) (any (clash f) w.state.slots) (unfold longer place in
       any-first t unused (clash f) (clash-free f) w.state.slots) (λ y. drop-longer w)
-      (λ y. roomy-longer w _ _ e (ap (kept f) (place-longer _ _ w (put-longer (slot_of f 1 0) w e)) ∙ kept-longer f _))
+      (λ y. ap (put_piece f) (renew-longer f w) ∙ put-piece-longer f (renew f w) (unfold renew place in renewed-any f.id w.state.slots ∙ e))
 
   keep-longer : (f : Frame) (w : Work) → any is_free w.state.slots ≡ true → keep_in f (longer w) ≡ longer (keep_in f w)
   unfolding keep_in

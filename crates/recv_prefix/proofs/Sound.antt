@@ -15,7 +15,7 @@ use Rattle.base.proofs.Choices.{and_left, and_right, and_both}
 use Rattle.base.proofs.Lists.{every-mem, every-all}
 use Rattle.rows.proofs.ListMaps.{every_append}
 use Rattle.cells.specs.Cell.{Cell, bears, at}
-use Rattle.cells.specs.Sound.{key_of, agree, sound_cell, sound_cells, lengths}
+use Rattle.cells.specs.Sound.{key_of, alike, sound_cell, sound_cells, lengths}
 use Rattle.receiver.specs.declared.RecvQueue.{RecvQueue}
 use Rattle.receiver.specs.Queue.{next_of}
 use Rattle.receiver.specs.Receive.{sound_call}
@@ -32,18 +32,18 @@ every-same p q [] h = refl
 every-same p q (c ∷ cs) h = rw (h c, every-same p q cs h)
 
 module _ (first rest : List Cell) (unused : every is_unused rest ≡ true) where
-  agrees_first : (c : Cell) → every (λ d. not (bears (key_of c) d) || agree c d) (first ++ rest)
-      ≡ every (λ d. not (bears (key_of c) d) || agree c d) first
-  agrees_first c =
-      every_append (λ d. not (bears (key_of c) d) || agree c d) first rest
-      ∙ and_yes _ _ (every-all (λ d. not (bears (key_of c) d) || agree c d) rest
+  alike-first : (c : Cell) → every (λ d. not (bears (key_of c) d) || alike c d) (first ++ rest)
+      ≡ every (λ d. not (bears (key_of c) d) || alike c d) first
+  alike-first c =
+      every_append (λ d. not (bears (key_of c) d) || alike c d) first rest
+      ∙ and_yes _ _ (every-all (λ d. not (bears (key_of c) d) || alike c d) rest
       (λ d m. rw (bears-unused (key_of c) d (every-mem is_unused rest unused d m))))
 
   cell-first : (next : ℕ → ℕ) (c : Cell) → sound_cell (first ++ rest) next c ≡ sound_cell first next c
   unfolding sound_cell
   cell-first next c = rw (
     count-first rest unused (at (key_of c) c.index) (at-unused (key_of c) c.index) first,
-    agrees_first c,
+    alike-first c,
     lacks-first rest unused (key_of c) first c.count,
   )
 

@@ -4,7 +4,7 @@ use Prim.Native.Nat.{ℕ, zero, suc, ◌+◌, ◌*◌, ◌≤◌}
 use mathlib.Core.Path.{◌≡◌, refl, sym, ◌∙◌, ap}
 use mathlib.Core.Bool.{Bool, true, false, cond, ◌||◌, false≢true}
 use mathlib.Core.Option.{none, some}
-use mathlib.Core.List.{List, [], ◌∷◌, ◌++◌, map-append}
+use mathlib.Core.List.{List, [], ◌∷◌, ◌++◌}
 use native.Mathlib.Omega.{arith}
 use lib.Dec.{eqb}
 use lib.ListN.{length, take, drop, length-append, take-append-drop}
@@ -12,7 +12,7 @@ use borrow.Author.Tests.{eqb-true, ne_eqb}
 use Rattle.base.specs.If.{if_true, if_lt}
 use Rattle.base.specs.Limits.{cell_bytes}
 use Rattle.base.specs.Lists.{find, any, every}
-use Rattle.base.proofs.Choices.{cases, same_cond, same-option, and_left, and_right, or_left, or_right}
+use Rattle.base.proofs.Choices.{cases, same_cond, same-option, and_left, and_right}
 use Rattle.base.proofs.Lists.{find-some, any-mem}
 use Rattle.base.proofs.Ifs.{true-yes, true-no, le_yes}
 use Rattle.bare.specs.Frame.{Message}
@@ -30,7 +30,7 @@ use Rattle.receiver.specs.Take.{TakeResult, take_refuses, handed, take_of}
 use Rattle.receiver.proofs.Receives.{bodies-short}
 use Rattle.recv_prefix.specs.First.{is_unused}
 use Rattle.recv_prefix.specs.Taking.{take_first, beside_taken}
-use Rattle.recv_prefix.proofs.Unused.{any-rest, find_first, bears-unused, at-unused}
+use Rattle.recv_prefix.proofs.Unused.{changed-first, find_first, bears-unused, at-unused}
 use Rattle.recv_prefix.proofs.Sound.{part-long, sound-first}
 use Rattle.recv_prefix.proofs.Beside.{slots-append, slots-free}
 
@@ -73,11 +73,6 @@ index-first p (c ∷ cs) rest e = go (p c) e (λ f. index-first p cs rest f)
     go true f k = refl
     go false f k = ap suc (k f)
 
-kept-rest : (p : Cell → Bool) (g : Cell → Cell) (rest : List Cell) → any p rest ≡ false → change_cells p g rest ≡ rest
-unfolding change_cells any
-kept-rest p g [] e = refl
-kept-rest p g (c ∷ cs) e = rw (or_left (p c) _ e, kept-rest p g cs (or_right (p c) _ e))
-
 module _ (first rest : List Cell) (unused : every is_unused rest ≡ true) where
   -- A taken message's records become unused.
   freed-first : (k : Key) (st part : List ℕ) → cells_of (freed k (slots_of (first ++ rest) st)) ≡ cells_of (freed k (slots_of first part))
@@ -85,13 +80,9 @@ module _ (first rest : List Cell) (unused : every is_unused rest ≡ true) where
   freed-first k st part =
       cells-freed k (slots_of (first ++ rest) st)
       ∙ ap (change_cells (bears k) (λ c. empty_cell)) (cells-slots (first ++ rest) st)
-      ∙ changed-first
+      ∙ changed-first rest unused (bears k) (bears-unused k) (λ c. empty_cell) first
       ∙ ap (λ (l : List Cell). l ++ rest) (sym (cells-freed k (slots_of first part) ∙ ap (change_cells (bears k) (λ c. empty_cell))
       (cells-slots first part)))
-    where
-      changed-first : change_cells (bears k) (λ c. empty_cell) (first ++ rest) ≡ change_cells (bears k) (λ c. empty_cell) first ++ rest
-      changed-first = unfold change_cells in map-append _ first rest ∙ ap (λ (l : List Cell). change_cells (bears k) (λ c. empty_cell) first
-          ++ l) (kept-rest (bears k) (λ c. empty_cell) rest (any-rest rest unused (bears k) (bears-unused k)))
 
   abbrev Beside : TakeResult → TakeResult → Type 0
   Beside x y = x ≡ beside_taken rest y

@@ -21,6 +21,6 @@ last_used rs = used_in rs (length rs)
 unfoldable pub receive_needs : Profile → ℕ → ℕ → ℕ → List ℕ → ℕ
 receive_needs p used cells store d = if_true (lengths cells store) (min cells (used + length (frames_of p d min_datagram) + 1)) 0
 
--- a take: those up to the last used one, and at least one
+-- a take, and a drop: those up to the last used one, and at least one
 unfoldable pub take_needs : ℕ → ℕ → ℕ → ℕ
 take_needs used cells store = if_true (lengths cells store) (if_lt used 1 1 used) 0

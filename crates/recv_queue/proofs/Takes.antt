@@ -1,60 +1,27 @@
 -- `take` as a call that loads, works and frees the records of the message.
-use mathlib.Core.Path.{◌≡◌, refl, sym, ◌∙◌, ap}
+-- Assumes nothing.
+use mathlib.Core.Path.{◌≡◌, sym, ◌∙◌, ap}
 use Rattle.std.specs.Prelude.{Result, Ok, Err}
-use Prim.Native.Nat.{ℕ, ◌≤◌, max}
-use native.Mathlib.Omega.{arith}
-use mathlib.Core.Bool.{Bool, true, false}
+use Prim.Native.Nat.{ℕ}
 use mathlib.Core.List.{List, ◌++◌, map}
 use lib.ListN.{length, take, drop, take-append-drop}
 use lib.Seq.{length-take-le, take_all}
 use Rattle.base.specs.declared.refusal.Refusal.{Refusal}
 use Rattle.base.specs.Refusals.{answer_by}
-use Rattle.base.specs.Limits.{max_cells}
-use Rattle.base.proofs.Ifs.{by-yes, by-no}
-use Rattle.base.proofs.IfCases.{lt_both}
-use Rattle.cells.specs.Cell.{Cell}
+use Rattle.cells.specs.Cell.{Cell, ready_as, bears}
 use Rattle.cells.specs.Records.{change_cells}
-use Rattle.cells.specs.Sound.{lengths}
 use Rattle.rows.specs.declared.Row.{Row}
 use Rattle.rows.specs.Rows.{cell_of, cells_in, stored_row}
 use Rattle.row_slots.proofs.First.{stored-cells}
 use Rattle.receiver.specs.declared.RecvQueue.{RecvQueue}
 use Rattle.receiver.specs.Take.{take_of}
-use Rattle.recv_prefix.specs.Needs.{last_used, take_needs}
 use Rattle.recv_prefix.specs.Taking.{beside_taken}
 use Rattle.recv_prefix.proofs.Enough.{take-enough}
-use Rattle.recv_prefix.proofs.Used.{last_within}
-use Rattle.recv_prefix.proofs.Needs.{take-few}
 use Rattle.recv_take.specs.declared.TakenRows.{TakenRows}
 use Rattle.recv_take.specs.Outcome.{handed_of, take_result, without_turn, turn_given, taken_rows, take_rows_of, records_left}
 use Rattle.recv_take.proofs.First.{whole_take}
 use Rattle.recv_queue.specs.Records.{Converted, record_left_by}
-
--- how many records a call works on
-abbrev Enough : List Cell → List ℕ → ℕ → Type 0
-Enough rs st k = k ≡ take_needs (last_used rs) (length rs) (length st)
-
--- `needed`, where the lengths fit, and where they do not
-module _ (rs : List Cell) (st : List ℕ) (fit : Bool) (is : fit ≡ lengths (length rs) (length st)) where
-  pub enough_fit : fit ≡ true → (u k : ℕ) → u ≡ last_used rs → k ≡ max u 1 → Enough rs st k
-  unfolding take_needs
-  enough_fit t u k used h = by-yes _ fit _ _ _ is t
-      (lt_both (λ (n : ℕ). k ≡ n) 1 (last_used rs) (last_used rs) 1 (λ l. omega arith) (λ l. omega arith))
-
-  pub enough_none : fit ≡ false → Enough rs st 0
-  unfolding take_needs
-  enough_none t = by-no _ fit _ _ _ is t refl
-
--- they are there, and no more than a receiver may have
-module _ (rs : List Cell) (n : ℕ) where
-  few : (take_needs (last_used rs) (length rs) n ≤ length rs) × (take_needs (last_used rs) (length rs) n ≤ max_cells)
-  few = take-few (last_used rs) (length rs) n (take_needs (last_used rs) (length rs) n) refl (last_within rs)
-
-  pub needs_within : take_needs (last_used rs) (length rs) n ≤ length rs
-  needs_within = few.0
-
-  pub needs_few : take_needs (last_used rs) (length rs) n ≤ max_cells
-  needs_few = few.1
+use Rattle.recv_queue.proofs.Enough.{Enough, needs_within}
 
 -- ---- the call's promise, of what the calls in its body return and leave: the core gets the first k records as the rows ls, answers r and
 -- leaves the joining buffer u
@@ -77,7 +44,7 @@ module _ (q : RecvQueue) (rs : List Cell) (st j : List ℕ) (ls : List Row) (u :
 
   -- it gives a message
   pub taken_ok : (t : TakenRows) (zs : List Cell) → taken_rows (Ok t) u ≡ take_rows_of q (length rs) ls st j
-      → zs ≡ map (record_left_by t.turn) (take k rs) → take_result (Ok t.taken) (zs ++ drop k rs) u ≡ take_of q rs st j
+      → zs ≡ map (record_left_by (bears (ready_as t.turn))) (take k rs) → take_result (Ok t.taken) (zs ++ drop k rs) u ≡ take_of q rs st j
   unfolding change_cells record_left_by
   taken_ok t zs core free = ap (λ (cs : List Cell). take_result (Ok t.taken) (cs ++ drop k rs) u) free ∙ said (Ok t) core
 

@@ -1,25 +1,29 @@
-// "One record stands beside each cell, in a lent slice of structs": receive and take over such a slice, and the few functions that touch
-// it; the other calls are offered here too. The cores of receive and take work on rows.
+// "One record stands beside each cell, in a lent slice of structs": receive, take and drop over such a slice, and the few functions that
+// touch it; the other calls are offered here too. The cores of the three work on rows.
 // (The calls are functions and no methods: a method stands in the crate of its struct, and a must-fail edit costs a check of its whole
 // crate, so the calls have crates of their own. The queue, the records and the store are lent one by one, as other languages hold them
 // apart.)
 
 #![tactic(auto)]
 
-ghost use Rattle.std.specs.Prelude.{◌≡◌, ◌<◌, ◌≤◌, ◌-◌, ◌⊎◌, false, length, map, drop};
+ghost use Rattle.std.specs.Prelude.{◌≡◌, ◌<◌, ◌≤◌, ◌-◌, ◌⊎◌, Bool, false, length, map, drop};
+ghost use Rattle.std.specs.Fn.{FnReturnsAt};
 ghost use Rattle.base.specs.Limits.{max_cells};
 ghost use Rattle.base.specs.Lists.{every};
+ghost use Rattle.cells.specs.declared.CellRecord.{CellRecord};
 ghost use Rattle.recv_prefix.specs.First.{is_unused};
-ghost use Rattle.recv_prefix.specs.Needs.{last_used};
+ghost use Rattle.recv_prefix.specs.Needs.{last_used, take_needs};
 ghost use Rattle.recv_queue.specs.Records.{Converted, record_left_by};
 
 use rows::Row;
 
+pub mod dropping;
 pub mod receiving;
 pub mod taking;
 
 pub use base::Refusal;
 pub use cells::CellRecord;
+pub use dropping::drop_unfinished;
 pub use receiver::RecvQueue;
 pub use receiving::receive;
 pub use recv_acks::{write_missing, write_unsent};
@@ -30,9 +34,11 @@ pub use recv_take::{Body, Taken};
 pub use reliability::Profile;
 pub use taking::take;
 
-// A call works on the records that it may need, and has rows for them from an array: of five sizes, the last for as many records as a
+// A call works on the records that it may need, and has rows for them from an array: of six sizes, the last for as many records as a
 // receiver may have.
 const FEW_CELLS: usize = 8;
+
+const SOME_CELLS: usize = 16;
 
 const SMALL_CELLS: usize = 32;
 
@@ -55,13 +61,14 @@ fn convert<A: Copy, B: Copy + From<A>>(from: &[A], to: &mut [B])
 
 // ---- which are in use
 
-// "A taken message frees its cells": those of the records that are its own.
-#[tactic(auto, using(crate::proofs::Freed::freed_here, crate::proofs::Freed::freed_left))]
-fn free_turn(records: &mut [CellRecord], turn: u32)
-    ensures { records.new ≡ map (record_left_by turn) records.old }
+// The records that pass become unused.
+fn free_where<F: Fn(&CellRecord) -> bool>(records: &mut [CellRecord], test: F)
+    requires { F.IsAlwaysCallable test }
+    ensures { (p : CellRecord → Bool) → ((c : CellRecord) (b : Bool) → FnReturnsAt F.Fn test c b → b ≡ p c)
+        → records.new ≡ map (record_left_by p) records.old }
 {
     for r in records.iter_mut() {
-        if row_tests::is_ready(r, turn) {
+        if test(r) {
             *r = recv_new::unused();
         }
     }
@@ -103,6 +110,18 @@ fn last_used(records: &[CellRecord]) -> usize
     up_to_used::<1>(up_to_used::<8>(records)).len()
 }
 
+// How many records a take or a drop works on: none where the lengths do not fit, which the cores, open functions, test and refuse by
+// themselves.
+#[tactic(auto, using(crate::proofs::Enough::enough_fit, crate::proofs::Enough::enough_none))]
+fn needed(records: &[CellRecord], store: &[u8]) -> usize
+    ensures { result ≡ take_needs (last_used records.now) (length records.now) (length store.now) }
+{
+    if sound_call::lengths_fit(records.len(), store.len()) {
+        return last_used(records).max(1);
+    }
+    0
+}
+
 // ---- rows to work on
 
 // (Of `Row::default()`, an array of 256 rows or more is written twice: as zeros, and row by row.)
@@ -118,6 +137,7 @@ const BLANK: Row = Row {
         sequence: 0,
         order: 0,
         turn: 0,
+        age: 0,
     },
     place: 0,
 };
@@ -154,6 +174,7 @@ fn with_rows<R, F: FnMut(&mut [Row]) -> R>(k: usize, f: &mut F) -> R
 {
     match k {
         ..=FEW_CELLS => on_blank_rows::<FEW_CELLS, R, F>(k, f),
+        ..=SOME_CELLS => on_blank_rows::<SOME_CELLS, R, F>(k, f),
         ..=SMALL_CELLS => on_blank_rows::<SMALL_CELLS, R, F>(k, f),
         ..=MIDDLE_CELLS => on_many_rows::<MIDDLE_CELLS, R, F>(k, f),
         ..=MANY_CELLS => on_many_rows::<MANY_CELLS, R, F>(k, f),

@@ -10,17 +10,6 @@ use receiver::RecvQueue;
 use recv_take::Taken;
 use rows::Row;
 
-// How many records a call works on: none where the lengths do not fit, which the core, an open function, tests and refuses by itself.
-#[tactic(auto, using(crate::proofs::Takes::enough_fit, crate::proofs::Takes::enough_none))]
-fn needed(records: &[CellRecord], store: &[u8]) -> usize
-    ensures { result ≡ take_needs (last_used records.now) (length records.now) (length store.now) }
-{
-    if sound_call::lengths_fit(records.len(), store.len()) {
-        return super::last_used(records).max(1);
-    }
-    0
-}
-
 // The call on as many of the records as there are rows, which are lent too. A refusal frees none.
 #[inline(never)]
 #[tactic(auto, using(crate::proofs::Takes::takes))]
@@ -38,11 +27,11 @@ fn take_in(
     let k = rows.len();
     super::convert(&records[..k], rows);
     let given = recv_take::take_rows(queue, rows, records.len(), store, joined)?;
-    super::free_turn(&mut records[..k], given.turn);
+    super::free_where(&mut records[..k], |c| row_tests::is_ready(c, given.turn));
     Ok(given.taken)
 }
 
-#[tactic(auto, using(crate::proofs::Takes::needs_few))]
+#[tactic(auto, using(crate::proofs::Enough::needs_few))]
 pub fn take(
     queue: &RecvQueue,
     records: &mut [CellRecord],
@@ -52,7 +41,7 @@ pub fn take(
     ensures { take_result result records.new joined.new
         ≡ take_of queue.now records.old store.now joined.old }
 {
-    let k = needed(records, store);
+    let k = super::needed(records, store);
     let mut call = |rows: &mut [Row]| take_in(queue, records, rows, store, joined);
     super::with_rows(k, &mut call)
 }

@@ -2,23 +2,27 @@
 -- Assumes nothing.
 use Prim.Native.Nat.{ℕ, suc, ◌≤◌, ◌<◌}
 use mathlib.Core.Path.{◌≡◌, refl, sym, ◌∙◌, ap}
-use mathlib.Core.Bool.{true, false, true≢false}
+use mathlib.Core.Bool.{Bool, true, false, true≢false}
 use mathlib.Core.List.{List, [], ◌∷◌, map}
 use native.Mathlib.Omega.{arith}
 use borrow.Author.Tests.{lt-ltb, le-ltb}
 use Rattle.std.proofs.lemmas.List.{set_past}
 use lib.ListN.{length, take, drop, set, length-take, length-drop}
-use Rattle.base.specs.Lists.{any}
-use Rattle.base.proofs.Choices.{cases}
+use Rattle.base.specs.Limits.{max_cells}
+use Rattle.base.specs.Lists.{any, count_of}
+use Rattle.base.proofs.Choices.{by_bool, cases}
+use Rattle.base.proofs.Counts.{count-length}
 use Rattle.frame.specs.declared.Placed.{Placed}
-use Rattle.cells.specs.Cell.{Slot, Key, bears, is_free, put_slot, slot_of, turn_to}
+use Rattle.cells.specs.Cell.{Cell, Slot, Key, open_as, bears, is_free, put_slot, slot_of, turn_to}
+use Rattle.cells.specs.Ages.{with_age, renewed}
 use Rattle.cells.specs.Records.{unused_at}
 use Rattle.cells.specs.Store.{cell_size}
 use Rattle.rows.specs.declared.Row.{Row}
-use Rattle.rows.specs.Rows.{cell_of, cells_in, mark_row, change_rows}
+use Rattle.rows.specs.Rows.{cell_of, cells_in, mark_row, age_row, change_row, change_rows}
+use Rattle.rows.proofs.Rows.{cells-length}
 use Rattle.row_slots.specs.Slots.{slots_in}
-use Rattle.row_slots.proofs.Changes.{slots-put, slots-turned}
-use Rattle.row_slots.proofs.Fitting.{fit-frame, fit-set, fit-turned}
+use Rattle.row_slots.proofs.Changes.{slots-put, slots-turned, slots-renewed}
+use Rattle.row_slots.proofs.Fitting.{fit-frame, fit-set, fit-turned, fit-renewed}
 use Rattle.row_slots.proofs.Tests.{room-below}
 use Rattle.receiver.specs.Receive.{frame_in}
 use Rattle.recv_steps.specs.Placing.{row_for, Stands, ReadablePlaced}
@@ -76,6 +80,28 @@ pub turn-changes : (d : List ℕ) (k : Key) (u t : ℕ) (rs rs' : List Row) → 
 turn-changes d k u t rs rs' pos e = record {
   is = λ store. ap (λ (l : List Row). slots_in l store d) e ∙ slots-turned k u t rs store d (λ z. omega arith);
   fits = λ v. rw e (fit-turned d k u t rs v);
+}
+
+-- No more rows pass a test than cells may be.
+pub count_few : (p : Cell → Bool) (rs : List Row) {n : ℕ} → length rs ≤ max_cells → n ≡ count_of p (cells_in rs) → n ≤ max_cells
+count_few p rs h e = omega (arith, count-length p (cells_in rs), cells-length rs)
+
+-- A test that looks at no age passes as often when some rows got another.
+pub aged-count : (p q : Cell → Bool) (a : ℕ) → ((c : Cell) → q (with_age a c) ≡ q c) → (rs : List Row)
+    → count_of q (cells_in (change_rows p (age_row a) rs)) ≡ count_of q (cells_in rs)
+unfolding count_of cells_in change_rows change_row age_row
+aged-count p q a e [] = refl
+aged-count p q a e (r ∷ rs) =
+    let t : q (cell_of (change_row p (age_row a) r)) ≡ q (cell_of r) =
+    by_bool (λ (x : Row). q (cell_of x) ≡ q (cell_of r)) (p (cell_of r)) (λ y. e (cell_of r)) (λ y. refl) in
+    rw (t, aged-count p q a e rs)
+
+-- The rows of an open message get age 0.
+pub renew-changes : (d : List ℕ) (id : ℕ) (rs rs' : List Row) → rs' ≡ change_rows (bears (open_as id)) (age_row 0) rs
+    → Changes d (renewed id) rs rs'
+renew-changes d id rs rs' e = record {
+  is = λ store. ap (λ (l : List Row). slots_in l store d) e ∙ slots-renewed id rs store d;
+  fits = λ v. rw e (fit-renewed d (bears (open_as id)) rs v);
 }
 
 -- ---- room

@@ -1,6 +1,6 @@
 -- Pieces in steps 3 and 4: each way of the code, with the facts as it finds them.
 -- Assumes nothing.
-use Prim.Native.Nat.{ℕ, ◌<◌}
+use Prim.Native.Nat.{ℕ, ◌+◌, ◌<◌}
 use mathlib.Core.Path.{◌≡◌, refl, sym, ◌∙◌, ap}
 use mathlib.Core.Bool.{Bool, true, false}
 use mathlib.Core.List.{List, map}
@@ -11,14 +11,18 @@ use Rattle.base.specs.Limits.{max_ord_chans}
 use Rattle.base.specs.Lists.{any, count_of}
 use Rattle.frame.specs.declared.Placed.{Placed}
 use Rattle.bare.specs.Bare.{memory_of}
-use Rattle.cells.specs.Cell.{Cell, open_as, bears, is_free, all_there, clash, put_slot, slot_of, turn_to}
+use Rattle.cells.specs.Cell.{Cell, Slot, Key, open_as, bears, of, is_free, all_there, clash, put_slot, slot_of, turn_to}
+use Rattle.cells.proofs.PutSlot.{count-put}
+use Rattle.cells.proofs.Keys.{of-free}
+use Rattle.cells.specs.Ages.{with_age, renewed}
+use Rattle.cells.proofs.Aging.{renewed-clash, renewed-sound}
 use Rattle.cells.specs.Records.{clashes}
-use Rattle.cells.specs.Datagram.{drop_one, place, remember_in, fate_of, follows, joins, kept, piece}
+use Rattle.cells.specs.Datagram.{drop_one, place, remember_in, fate_of, follows, joins, kept, put_piece, renew, piece}
 use Rattle.rows.specs.declared.Row.{Row}
-use Rattle.rows.specs.Rows.{cell_of, cells_in, mark_row, change_rows}
+use Rattle.rows.specs.Rows.{cell_of, cells_in, mark_row, age_row, change_rows}
 use Rattle.row_slots.specs.Slots.{slots_in}
-use Rattle.row_slots.proofs.Tests.{piece-clash-rows}
-use Rattle.row_slots.proofs.Complete.{piece-complete}
+use Rattle.row_slots.proofs.Tests.{piece-clash-rows, of-rows}
+use Rattle.row_slots.proofs.Complete.{piece-counted}
 use Rattle.receiver.specs.declared.Nexts.{Nexts}
 use Rattle.receiver.specs.Receive.{frame_in}
 use Rattle.recv_memory.specs.Remembered.{remembered}
@@ -28,8 +32,8 @@ use Rattle.recv_steps.specs.declared.Course.TheVariants.{Late, Early, Due, Newer
 use Rattle.recv_steps.specs.Work.{work_of, fate_is}
 use Rattle.recv_steps.specs.CountChanges.{dropped_one, filled_up, made_one, Rises}
 use Rattle.recv_steps.specs.Placing.{row_for, Stands, ReadablePlaced, Limited}
-use Rattle.recv_steps.specs.Moves.{Changes, Moves, Counted, Sane, Beside, by_fate, put_piece, turn_ready}
-use Rattle.recv_steps.proofs.Changing.{row-cell, turn-changes}
+use Rattle.recv_steps.specs.Moves.{Changes, Moves, Counted, Sane, Beside, by_fate, turn_ready}
+use Rattle.recv_steps.proofs.Changing.{row-cell, turn-changes, aged-count, renew-changes}
 use Rattle.recv_steps.proofs.Moving.{moves-then, moves-drop, moves-place, moves-made, moves-remember, moves-roomy}
 use Rattle.recv_steps.proofs.Wholes.{put_full, found-by}
 
@@ -88,12 +92,11 @@ ready_turned x y rs rs' id e ey ns d = let ch = turn-changes d (open_as id) 3 x.
 
 -- ---- a piece kept
 
-module _ (x : Tally) (ns : Nexts) (rs : List Row) (p : Placed) {id : ℕ} (ei : id ≡ p.frame.meta.id) (n : ℕ)
-    (en : n ≡ count_of (bears (open_as id)) (cells_in rs)) (d : List ℕ) (c : Counted d p rs) where
+module _ (x : Tally) (ns : Nexts) (rs : List Row) (p : Placed) (n : ℕ) (d : List ℕ) (c : Counted d p n rs) where
   there : (a : ℕ → Bool) (store : List ℕ) (b : Bool) → eqb n p.frame.meta.count ≡ b → all_there (open_as (frame_in d p).id)
       (work_of a x ns rs store d).state.slots (frame_in d p).count ≡ b
-  unfolding frame_in work_of cells_in
-  there a store b e = c store ∙ (rw (← ei, ← en) e)
+  unfolding frame_in work_of
+  there a store b e = c store ∙ e
 
   pub kept-joins : n ≡ p.frame.meta.count → (y : Tally) (ns' : Nexts) (rs' : List Row)
       → ((d : List ℕ) → Moves d (by_fate joins (frame_in d p)) x ns rs y ns' rs') → Moves d (kept (frame_in d p)) x ns rs y
@@ -115,29 +118,46 @@ module _ (x : Tally) (ns : Nexts) (rs : List Row) (p : Placed) {id : ℕ} (ei : 
 module _ (x : Tally) (ns : Nexts) (rs rs' : List Row) (p : Placed) (room : Bool)
     (h : (store d : List ℕ) → room ≡ any is_free (slots_in rs store d))
     (ch : (d : List ℕ) → Stands d p → Changes d (put_slot (slot_of (frame_in d p) 1 0)) rs rs') where
-  pub piece-full : room ≡ false → (y : Tally) → y ≡ filled_up x → (d : List ℕ) → Stands d p → Sane d rs → Beside d p rs
+  pub piece-full : room ≡ false → (y : Tally) → y ≡ filled_up x → (d : List ℕ) → Stands d p → Sane d x ns rs → Beside d p rs
       → Moves d (put_piece (frame_in d p)) x ns rs y ns rs'
   unfolding put_piece
   piece-full u y ey d s v c = put_full x rs rs' p 1 0 room h ch u
       (λ w. kept (frame_in d p) (place (put_slot (slot_of (frame_in d p) 1 0) w.state.slots) w)) y ey ns d s
 
-  pub piece-kept : room ≡ true → p.frame.piece ≡ true → Limited p → (y : Tally) (ns' : Nexts) (rs'' : List Row)
-      → ((d : List ℕ) → Counted d p rs' → Moves d (kept (frame_in d p)) x ns rs' y ns' rs'')
-      → (d : List ℕ) → Stands d p → Sane d rs → Beside d p rs → Moves d (put_piece (frame_in d p)) x ns rs y ns' rs''
-  unfolding put_piece
-  piece-kept u e lim y ns' rs'' m d s v c =
+  -- n: how many are open under its id
+  pub piece-kept : room ≡ true → p.frame.piece ≡ true → Limited p → (n : ℕ) → n ≡ count_of (bears (open_as p.frame.meta.id)) (cells_in rs)
+      → (y : Tally) (ns' : Nexts) (rs'' : List Row)
+      → ((d : List ℕ) → Counted d p (n + 1) rs' → Moves d (kept (frame_in d p)) x ns rs' y ns' rs'')
+      → (d : List ℕ) → Stands d p → Sane d x ns rs → Beside d p rs → Moves d (put_piece (frame_in d p)) x ns rs y ns' rs''
+  unfolding put_piece cells_in
+  piece-kept u e lim n en y ns' rs'' m d s v c =
       moves-roomy d x ns rs (λ w. kept (frame_in d p) (place (put_slot (slot_of (frame_in d p) 1 0) w.state.slots) w)) room h u y ns' rs''
       (moves-then d (λ w. place (put_slot (slot_of (frame_in d p) 1 0) w.state.slots) w) (kept (frame_in d p)) x x y ns ns ns' rs rs' rs''
       placed-there (m d counted))
     where
+      key : Key
+      key = open_as p.frame.meta.id
+
       placed-there : Moves d (λ w. place (put_slot (slot_of (frame_in d p) 1 0) w.state.slots) w) x ns rs x ns rs'
       placed-there = unfold work_of in moves-place d x ns rs rs' (λ w. put_slot (slot_of (frame_in d p) 1 0) w.state.slots)
           (λ a. (ch d s).is) (ch d s).fits
 
-      counted : Counted d p rs'
+      own : of key (slot_of (frame_in d p) 1 0) ≡ true
+      own = unfold of bears slot_of frame_in in eq-eqb p.frame.meta.id p.frame.meta.id refl
+
+      one-more : (store : List ℕ) → count_of (of key) (put_slot (slot_of (frame_in d p) 1 0) (slots_in rs store d)) ≡ n + 1
+      one-more store = rw (
+        count-put (of key) (slot_of (frame_in d p) 1 0) (of-free key) (slots_in rs store d) (sym (h store d) ∙ u),
+        own,
+        of-rows rs store d key,
+        ← en,
+      ) (omega arith)
+
+      counted : Counted d p (n + 1) rs'
       counted store = unfold frame_in in
-          piece-complete (frame_in d p) (slots_in rs store d) rs' store d ((ch d s).is store) (v store) (lim d) e (c store)
-          (sym (h store d) ∙ u)
+          ap (λ (l : List Slot). all_there key l p.frame.meta.count) ((ch d s).is store)
+          ∙ piece-counted (frame_in d p) (slots_in rs store d) (v store).core (lim d) e (c store) (sym (h store d) ∙ u)
+          ∙ ap (λ (k : ℕ). eqb k p.frame.meta.count) (one-more store)
 
 -- The test of step 3.
 module _ (x : Tally) (ns : Nexts) (rs : List Row) (p : Placed) (e : p.frame.piece ≡ true) (row : Row) (er : row ≡ row_for p 1 0) (b : Bool)
@@ -148,7 +168,7 @@ module _ (x : Tally) (ns : Nexts) (rs : List Row) (p : Placed) (e : p.frame.piec
       piece-clash-rows rs store d (frame_in d p) (unfold frame_in in e)
       ∙ (ap (λ (c : Cell). any (clashes c) (map cell_of rs)) (sym (row-cell d p s 1 0) ∙ ap cell_of (sym er)) ∙ sym eb)
 
-  pub piece-drops : b ≡ true → (y : Tally) → y ≡ dropped_one x → (d : List ℕ) → Stands d p → Sane d rs
+  pub piece-drops : b ≡ true → (y : Tally) → y ≡ dropped_one x → (d : List ℕ) → Stands d p → Sane d x ns rs
       → Moves d (piece (frame_in d p)) x ns rs y ns rs
   unfolding piece work_of
   piece-drops t y ey d s v = rw ey (record {
@@ -157,11 +177,32 @@ module _ (x : Tally) (ns : Nexts) (rs : List Row) (p : Placed) (e : p.frame.piec
     long = refl;
   })
 
-  pub piece-puts : b ≡ false → (y : Tally) (ns' : Nexts) (rs' : List Row)
-      → ((d : List ℕ) → Stands d p → Sane d rs → Beside d p rs → Moves d (put_piece (frame_in d p)) x ns rs y ns'
-      rs')
-      → (d : List ℕ) → Stands d p → Sane d rs → Moves d (piece (frame_in d p)) x ns rs y ns' rs'
-  unfolding piece put_piece work_of
-  piece-puts t y ns' rs' m d s v =
-      let n = m d s v (λ store. clashing d s store ∙ t) in
-      record { is = λ a store. n.is a store ∙ rw (clashing d s store ∙ t); fits = n.fits; long = n.long }
+  -- The id's pieces are made as old as this one, and it is put.
+  module _ {id : ℕ} (ei : id ≡ p.frame.meta.id) (rs₁ : List Row) (er₁ : rs₁ ≡ change_rows (bears (open_as id)) (age_row 0) rs) where
+    renews : (d : List ℕ) → Changes d (renewed p.frame.meta.id) rs rs₁
+    renews d = renew-changes d p.frame.meta.id rs rs₁ (rw ei at er₁)
+
+    -- as many are open under it as were
+    pub renewed-counted : {n : ℕ} → n ≡ count_of (bears (open_as id)) (cells_in rs)
+        → n ≡ count_of (bears (open_as p.frame.meta.id)) (cells_in rs₁)
+    unfolding bears with_age
+    renewed-counted en = rw (← ei, er₁) (en ∙ sym (aged-count (bears (open_as id)) (bears (open_as id)) 0 (λ c. refl) rs))
+
+    pub piece-puts : b ≡ false → (y : Tally) (ns' : Nexts) (rs' : List Row)
+        → ((d : List ℕ) → Stands d p → Sane d x ns rs₁ → Beside d p rs₁ → Moves d (put_piece (frame_in d p)) x ns rs₁ y ns' rs')
+        → (d : List ℕ) → Stands d p → Sane d x ns rs → Moves d (piece (frame_in d p)) x ns rs y ns' rs'
+    unfolding piece work_of
+    piece-puts t y ns' rs' m d s v =
+        let n = moves-then d (renew (frame_in d p)) (put_piece (frame_in d p)) x x y ns ns ns' rs rs₁ rs' renewing (m d s sane beside) in
+        record { is = λ a store. n.is a store ∙ rw (clashing d s store ∙ t); fits = n.fits; long = n.long }
+      where
+        renewing : Moves d (renew (frame_in d p)) x ns rs x ns rs₁
+        renewing = unfold work_of renew frame_in in moves-place d x ns rs rs₁ (λ w. renewed p.frame.meta.id w.state.slots)
+            (λ a. (renews d).is) (renews d).fits
+
+        sane : Sane d x ns rs₁
+        sane store = rw ((renews d).is store) (renewed-sound p.frame.meta.id (slots_in rs store d) (v store))
+
+        beside : Beside d p rs₁
+        beside store = ap (any (clash (frame_in d p))) ((renews d).is store)
+            ∙ renewed-clash (frame_in d p) p.frame.meta.id (slots_in rs store d) ∙ clashing d s store ∙ t

@@ -147,8 +147,8 @@ module _ (f : Profile) (w₀ : ReliableWindow) (ns₀ : Nexts) (rs₀ : List Row
     nexts = record { long = g.nexts; next = λ c. let p = next_small c in omega arith };
   }
 
-  going-sane : Sane d rs
-  going-sane store = (g.sound store).core
+  going-sane : Sane d x ns rs
+  going-sane = g.sound
 
   module _ (r : Result (Placed × ℕ) Refusal) (er : answer r ≡ read_frame_of f d at) where
     module _ (p : Placed) (next : ℕ) (q : r ≡ Ok (p, next)) where
@@ -238,7 +238,7 @@ module _ (f : Profile) (w₀ : ReliableWindow) (ns₀ : Nexts) (rs₀ : List Row
       pub going-keeps : (v' : ReliableWindow) → (carries_reliable p.frame.kind ≡ true → Sized v) → give v' ≡ number_in v p
           → (y : Tally) (ns' : Nexts) (rs' : List Row)
           → length rs' ≡ length rs
-          → ((d : List ℕ) → Stands d p → Sane d rs → Moves d (limited (frame_in d p)) x ns rs y ns' rs')
+          → ((d : List ℕ) → Stands d p → Sane d x ns rs → Moves d (limited (frame_in d p)) x ns rs y ns' rs')
           → Going f w₀ ns₀ rs₀ turn₀ d v' ns' rs' y next
       going-keeps v' sized e y ns' rs' long steps =
           let m = steps d going-stands going-sane in

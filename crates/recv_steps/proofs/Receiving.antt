@@ -12,7 +12,6 @@ use Rattle.base.specs.declared.refusal.Refusal.{Refusal}
 use Rattle.base.specs.declared.refusal.Refusal.TheVariants.{Cut, TooLong, FirstByte, Old, Beyond, UnsentFull, NotSound}
 use Rattle.base.specs.If.{if_true, if_lt, if_le}
 use Rattle.base.specs.Refusals.{number_of}
-use Rattle.base.specs.Lists.{option}
 use Rattle.base.specs.Limits.{min_datagram, max_datagram, max_unsent, window_places, max_ord_chans}
 use Rattle.base.specs.Numbers.{distance}
 use Rattle.base.proofs.Ifs.{true-yes, true-no}

@@ -19,7 +19,7 @@ use Rattle.base.specs.Lists.{count_of}
 use Rattle.window.specs.Window as Window
 use Rattle.window.specs.declared.ReliableWindow.{ReliableWindow}
 use Rattle.cells.specs.Cell.{released_use}
-use Rattle.cells.specs.Datagram.{Work, begin, frames, datagram, end}
+use Rattle.cells.specs.Datagram.{Work, begin, grow, frames, datagram, end}
 use Rattle.cells.specs.Records.{first_cell}
 use Rattle.cells.specs.Store.{cell_size, cells_of, store_of}
 use Rattle.rows.specs.declared.Row.{Row}
@@ -105,7 +105,7 @@ module _ (q : RecvQueue) (rows : List Row) (st d : List ℕ) {ascends : Bool} {n
     unfolding work datagram
     done = ran.is st ∙ (λ i. frames (begun i) (frames_in (profile-is i) d))
       where
-        begun : work_of (Window.accepted q.reliables) (begun_tally turn) ns rs st d ≡ begin (state_of q (cells_in rows) st)
+        begun : work_of (Window.accepted q.reliables) (begun_tally turn) ns rs st d ≡ grow (begin (state_of q (cells_in rows) st))
         begun = rw (et, er, own) (begun-work q rows st d)
 
     reaches : accept_all q.reliables (frames_in (profile_in q) d) ≡ some v

@@ -39,20 +39,20 @@ pub ruleset limits = (limits-kept, limits-channel, limits-over)
 
 -- k: the frame p, known to be within the limits
 module _ (p k : Placed) (ek : k ≡ p) (lim : Limited k) (x y : Tally) (ns ns' : Nexts) (rs rs' : List Row) where
-  pub limited-piece : k.frame.piece ≡ true → ((d : List ℕ) → Stands d k → Sane d rs → Moves d (piece (frame_in d k)) x ns rs y ns' rs')
-      → (d : List ℕ) → Stands d p → Sane d rs → Moves d (limited (frame_in d p)) x ns rs y ns' rs'
+  pub limited-piece : k.frame.piece ≡ true → ((d : List ℕ) → Stands d k → Sane d x ns rs → Moves d (piece (frame_in d k)) x ns rs y ns' rs')
+      → (d : List ℕ) → Stands d p → Sane d x ns rs → Moves d (limited (frame_in d p)) x ns rs y ns' rs'
   unfolding limited keep_in frame_in
   limited-piece q m = rw (← ek) (λ d s v. let n = m d s v in
       record { is = λ a store. n.is a store ∙ rw (lim d, q); fits = n.fits; long = n.long })
 
   pub limited-whole : k.frame.piece ≡ false → ((d : List ℕ) → Stands d k → Moves d (by_fate whole (frame_in d k)) x ns rs y ns' rs')
-      → (d : List ℕ) → Stands d p → Sane d rs → Moves d (limited (frame_in d p)) x ns rs y ns' rs'
+      → (d : List ℕ) → Stands d p → Sane d x ns rs → Moves d (limited (frame_in d p)) x ns rs y ns' rs'
   unfolding limited keep_in frame_in by_fate
   limited-whole q m = rw (← ek) (λ d s v. let n = m d s in
       record { is = λ a store. n.is a store ∙ rw (lim d, q); fits = n.fits; long = n.long })
 
 pub limited-drops : (p : Placed) → ((d : List ℕ) → in_limits (frame_in d p) ≡ false)
-    → (x y : Tally) (ns : Nexts) (rs : List Row) → y ≡ dropped_one x → (d : List ℕ) → Stands d p → Sane d rs
+    → (x y : Tally) (ns : Nexts) (rs : List Row) → y ≡ dropped_one x → (d : List ℕ) → Stands d p → Sane d x ns rs
     → Moves d (limited (frame_in d p)) x ns rs y ns rs
 unfolding limited
 limited-drops p e x y ns rs ey d s v =

@@ -1,16 +1,16 @@
 -- What a function over counts, nexts and rows does to the working state, whatever the store's bytes.
-use Rattle.std.specs.Prelude.{ℕ, ◌+◌, ◌≤◌, ◌≡◌, Bool, false, cond, List, map, length, eqb}
+use Rattle.std.specs.Prelude.{ℕ, ◌+◌, ◌≤◌, ◌≡◌, Bool, false, cond, List, length, eqb}
 use Rattle.base.specs.Limits.{max_cells}
-use Rattle.base.specs.Lists.{any, count_of}
+use Rattle.base.specs.Lists.{any}
 use Rattle.frame.specs.declared.Placed.{Placed}
 use Rattle.bare.specs.Frame.{Frame, in_limits}
-use Rattle.cells.specs.Cell.{Slot, open_as, bears, all_there, clash, put_slot, slot_of, turn_to, open_use, ready_use}
-use Rattle.cells.specs.Datagram.{Work, Fate, fate_of, drop_one, place, made, roomy, kept, keep_in}
-use Rattle.cells.proofs.SoundCore.{Core}
+use Rattle.cells.specs.Cell.{Slot, open_as, all_there, clash, turn_to, ready_use}
+use Rattle.cells.specs.Datagram.{Work, Fate, fate_of, drop_one, made, keep_in}
+use Rattle.cells.proofs.SoundCascade.{Sound}
 use Rattle.receiver.specs.declared.Nexts.{Nexts}
+use Rattle.receiver.specs.Parts.{next_at}
 use Rattle.receiver.specs.Receive.{frame_in}
 use Rattle.rows.specs.declared.Row.{Row}
-use Rattle.rows.specs.Rows.{cell_of}
 use Rattle.row_slots.specs.Slots.{slots_in, AllFit}
 use Rattle.recv_steps.specs.declared.Tally.{Tally}
 use Rattle.recv_steps.specs.Work.{work_of}
@@ -36,24 +36,20 @@ pub record MayStep (rs : List Row) (ns : Nexts) (x : Tally) : Type 0 where
   pub counts : CanCount (max_cells + 2) x
   pub nexts : Rises (max_cells + 1) ns
 
--- a piece's message has all indices exactly if it has as many records as the piece says
-abbrev pub Counted : List ℕ → Placed → List Row → Type 0
-Counted d p rs =
-    (store : List ℕ) → all_there (open_as p.frame.meta.id) (slots_in rs store d) p.frame.meta.count
-    ≡ eqb (count_of (bears (open_as p.frame.meta.id)) (map cell_of rs)) p.frame.meta.count
+-- a piece's message has all indices exactly if n is the count that the piece says
+abbrev pub Counted : List ℕ → Placed → ℕ → List Row → Type 0
+Counted d p n rs =
+    (store : List ℕ) → all_there (open_as p.frame.meta.id) (slots_in rs store d) p.frame.meta.count ≡ eqb n p.frame.meta.count
 
--- the slots are sound, as far as soundness speaks of slots alone
-abbrev pub Sane : List ℕ → List Row → Type 0
-Sane d rs = (store : List ℕ) → Core (slots_in rs store d)
+-- the slots are sound, with the nexts and the turn of the next message made ready
+abbrev pub Sane : List ℕ → Tally → Nexts → List Row → Type 0
+Sane d x ns rs = (store : List ℕ) → Sound (next_at ns) (slots_in rs store d) x.turn
 
 -- the frame may be kept beside the open pieces
 abbrev pub Beside : List ℕ → Placed → List Row → Type 0
 Beside d p rs = (store : List ℕ) → any (clash (frame_in d p)) (slots_in rs store d) ≡ false
 
--- a frame's slot is put as a piece, where there is room; and an open message's slots become a ready one's
-unfoldable pub put_piece : Frame → Work → Work
-put_piece f w = roomy w (kept f (place (put_slot (slot_of f open_use 0) w.state.slots) w))
-
+-- an open message's slots become a ready one's
 unfoldable pub turn_ready : ℕ → Work → Work
 turn_ready id w = made (turn_to (open_as id) ready_use w.turn w.state.slots) w
 

@@ -22,6 +22,7 @@ row_for p used turn =
             sequence = p.frame.sequence;
             order = p.frame.order;
             turn = turn;
+            age = 0;
           };
       place = p.start + 1;
     }

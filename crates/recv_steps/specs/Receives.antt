@@ -8,12 +8,12 @@ use Rattle.base.specs.Lists.{option, count_of}
 use Rattle.base.specs.Numbers.{distance}
 use Rattle.window.specs.Window.{accepted}
 use Rattle.ack.specs.Write.{ascending}
-use Rattle.cells.specs.Cell.{Cell, ready_use}
+use Rattle.cells.specs.Cell.{Cell, open_use, ready_use}
 use Rattle.cells.specs.Datagram.{datagram}
 use Rattle.cells.specs.Records.{before_cell}
 use Rattle.cells.specs.Sound.{lengths, sound_cells}
 use Rattle.rows.specs.declared.Row.{Row}
-use Rattle.rows.specs.Rows.{cells_in, cell_of, mark_row, change_rows}
+use Rattle.rows.specs.Rows.{cells_in, cell_of, mark_row, older_row, change_row, change_rows}
 use Rattle.receiver.specs.declared.Channel.{Channel}
 use Rattle.receiver.specs.declared.RecvQueue.{RecvQueue}
 use Rattle.receiver.specs.Queue.{next_in, profile_in, unsent_of}
@@ -75,6 +75,10 @@ fresh_of q d = if_true (accepted q.datagrams (datagram_number d)) (Err Old)
 unfoldable pub ranked_rows : List Row → List Row
 ranked_rows rs = change_rows (uses ready_use) (λ r. mark_row ready_use (count_of (before_cell r.cell.turn) (map cell_of rs)) r) rs
 
+-- a row that stands in the store, older by a datagram where it is open
+unfoldable pub begun_row : Row → Row
+begun_row r = change_row (uses open_use) older_row (stored r)
+
 -- the rows that a datagram's frames begin with
 unfoldable pub begun_rows : List Row → List Row
-begun_rows rs = ranked_rows (map stored rs)
+begun_rows rs = map begun_row (ranked_rows rs)

@@ -166,6 +166,7 @@ fn row_of(kept: KeptFrame, used: u32, turn: u32) -> Row
         sequence: f.sequence,
         order: f.order,
         turn,
+        age: 0,
     };
     Row {
         cell,

@@ -5,12 +5,15 @@
 // would each have to say that the nexts stay.)
 ghost use Rattle.std.specs.Prelude.{◌≡◌, List, ℕ, ◌+◌, ◌<◌, ◌≤◌, true, length};
 ghost use Rattle.base.specs.Limits.{max_cells};
+ghost use Rattle.base.specs.Lists.{count_of};
+ghost use Rattle.cells.specs.Cell.{open_as, bears};
 ghost use Rattle.cells.specs.Datagram.{early, due, free};
 ghost use Rattle.receiver.specs.declared.Nexts.{Nexts};
 ghost use Rattle.receiver.specs.Receive.{frame_in};
+ghost use Rattle.rows.specs.Rows.{cells_in};
 ghost use Rattle.recv_steps.specs.CountChanges.{made_one, CanCount, Rises};
 ghost use Rattle.recv_steps.specs.Placing.{Stands, ReadablePlaced};
-ghost use Rattle.recv_steps.specs.Moves.{MayStep, Moves, by_fate, Counted, Sane, Beside, put_piece, turn_ready, limited};
+ghost use Rattle.recv_steps.specs.Moves.{MayStep, Moves, by_fate, Counted, Sane, Beside, turn_ready, limited};
 ghost use Rattle.cells.specs.Datagram as Datagram;
 
 use crate::{Course, KeptFrame, Tally};
@@ -136,53 +139,53 @@ fn joins(rows: &mut [Row], nexts: &mut Nexts, s: Tally, kept: KeptFrame) -> Tall
     }
 }
 
-// A piece was kept: where all indices are there, they are one message. (`as usize`: u32 has no From to it.)
-fn piece_kept(rows: &mut [Row], nexts: &mut Nexts, s: Tally, kept: KeptFrame) -> Tally
+// A piece was kept, and n are open under its id: where all indices are there, they are one message. (`as usize`: u32 has no From to it.)
+fn piece_kept(rows: &mut [Row], nexts: &mut Nexts, s: Tally, kept: KeptFrame, n: usize) -> Tally
     requires { MayStep rows.old nexts.old s }
-    ensures { (d : List ℕ) → Counted d kept.placed rows.old → Moves d (Datagram.kept (frame_in d kept.placed))
+    ensures { (d : List ℕ) → Counted d kept.placed n rows.old → Moves d (Datagram.kept (frame_in d kept.placed))
         s nexts.old rows.old result nexts.new rows.new }
 {
-    let m = kept.placed.frame.meta;
-    let n = row_scans::count_open(rows, m.id.into());
-    if n == m.count as usize {
+    if n == kept.placed.frame.meta.count as usize {
         return joins(rows, nexts, s, kept);
     }
     s
 }
 
-// A piece that may be kept beside the open ones is put, where there is room.
-fn put_piece(rows: &mut [Row], nexts: &mut Nexts, s: Tally, kept: KeptFrame) -> Tally
+// A piece that may be kept beside the open ones, of which n are of its id, is put, where there is room.
+fn put_piece(rows: &mut [Row], nexts: &mut Nexts, s: Tally, kept: KeptFrame, n: usize) -> Tally
     requires piece_value { kept.placed.frame.piece ≡ true }
     requires may_step { MayStep rows.old nexts.old s }
-    ensures { (d : List ℕ) → Stands d kept.placed → Sane d rows.old → Beside d kept.placed rows.old
-        → Moves d (put_piece (frame_in d kept.placed)) s nexts.old rows.old
+    requires others { n ≡ count_of (bears (open_as kept.placed.frame.meta.id)) (cells_in rows.old) }
+    ensures { (d : List ℕ) → Stands d kept.placed → Sane d s nexts.old rows.old → Beside d kept.placed rows.old
+        → Moves d (Datagram.put_piece (frame_in d kept.placed)) s nexts.old rows.old
         result nexts.new rows.new }
 {
     if super::put_frame(rows, kept, cells::OPEN, 0) {
-        return piece_kept(rows, nexts, s, kept);
+        return piece_kept(rows, nexts, s, kept, n + 1);
     }
     s.fill_up()
 }
 
-// Step 3, for a piece within the limits.
+// Step 3, for a piece within the limits. (The walk that makes the id's pieces as old as this one counts them, too.)
 fn piece(rows: &mut [Row], nexts: &mut Nexts, s: Tally, kept: KeptFrame) -> Tally
     requires piece_value { kept.placed.frame.piece ≡ true }
     requires may_step { MayStep rows.old nexts.old s }
-    ensures { (d : List ℕ) → Stands d kept.placed → Sane d rows.old → Moves d (Datagram.piece (frame_in d kept.placed))
+    ensures { (d : List ℕ) → Stands d kept.placed → Sane d s nexts.old rows.old → Moves d (Datagram.piece (frame_in d kept.placed))
         s nexts.old rows.old result nexts.new rows.new }
 {
     let row = super::row_of(kept, cells::OPEN, 0);
     if row_scans::any_clash(rows, &row) {
         return s.drop_one();
     }
-    put_piece(rows, nexts, s, kept)
+    let n = row_sweeps::renew_open(rows, kept.placed.frame.meta.id.into());
+    put_piece(rows, nexts, s, kept, n)
 }
 
 // Steps 2 to 4, for a frame whose reliable number was accepted.
 fn keep_in(rows: &mut [Row], nexts: &mut Nexts, s: Tally, placed: Placed) -> Tally
     requires readable_placed { ReadablePlaced placed }
     requires may_step { MayStep rows.old nexts.old s }
-    ensures { (d : List ℕ) → Stands d placed → Sane d rows.old → Moves d (limited (frame_in d placed))
+    ensures { (d : List ℕ) → Stands d placed → Sane d s nexts.old rows.old → Moves d (limited (frame_in d placed))
         s nexts.old rows.old result nexts.new rows.new }
 {
     let Some(kept) = super::in_limits(placed) else {

@@ -10,9 +10,7 @@ use native.Mathlib.Omega.{arith}
 use lib.Dec.{eqb}
 use lib.ListN.{length, get_or}
 use borrow.Author.Tests.{eq-eqb, ltb-true}
-use Rattle.std.specs.Prelude.{Result, Err}
-use Rattle.std.specs.Result.{is_ok}
-use Rattle.base.specs.declared.refusal.Refusal.{Refusal}
+use Rattle.std.specs.Prelude.{Err}
 use Rattle.base.specs.declared.refusal.Refusal.TheVariants.{NotSound, NoneReady}
 use Rattle.base.specs.Limits.{cell_bytes, max_frags}
 use Rattle.base.specs.Lists.{find, any}
@@ -21,7 +19,6 @@ use Rattle.base.proofs.Ifs.{true-yes, true-no}
 use Rattle.base.proofs.Lists.{find-some, any-all, below_at}
 use Rattle.cells.specs.Cell.{Cell, Slot, ready_as, at, of, sits, is_free, is_ready, all_there, empty_cell}
 use Rattle.cells.specs.Records.{before_cell, first_cell, index_of, earliest_cell}
-use Rattle.cells.specs.Sound.{sound_cells, lengths}
 use Rattle.cells.specs.Store.{cell_size, slots_of, cells_of}
 use Rattle.cells.specs.Take.{earliest}
 use Rattle.cells.proofs.Keys.{of-ready, key-used}
@@ -36,10 +33,8 @@ use Rattle.rows.proofs.Rows.{cells-length, row_here}
 use Rattle.rows.specs.declared.Row.{Row}
 use Rattle.row_scans.specs.Ready.{first_ready}
 use Rattle.row_scans.proofs.Ready.{index-there, ready-is, ready-none}
-use Rattle.sound_queue.specs.Sound.{queue_sound_of}
-use Rattle.sound_queue.proofs.Rules.{told_is_ok}
 use Rattle.receiver.specs.declared.RecvQueue.{RecvQueue}
-use Rattle.receiver.specs.Queue.{next_in, next_of}
+use Rattle.receiver.specs.Queue.{next_of}
 use Rattle.receiver.specs.Receive.{sound_call}
 use Rattle.receiver.specs.Take.{take_refuses, take_of}
 use Rattle.receiver.proofs.Receives.{store_is, cells-sound}
@@ -126,25 +121,6 @@ module _ (q : RecvQueue) (cs : List Cell) (st : List ℕ) (s : sound_call q cs s
 
   first_past : earliest_cell cs ≡ none → first_ready cs ≡ length cs
   first_past e = ready-none cs (none_first cs st e)
-
--- ---- the tests that come first
-
-module _ (q : RecvQueue) (rows : List Row) (st : List ℕ) where
-  pub lengths_not : false ≡ lengths (length rows) (length st) → sound_call q (cells_in rows) st ≡ false
-  unfolding sound_call
-  lengths_not e = rw (cells-length rows, ← e)
-
-  -- r is what the test of the receiver's own values told.
-  module _ (fit : true ≡ lengths (length rows) (length st)) (r : Result Bool Refusal) (told : r ≡ queue_sound_of q) where
-    pub queue_not : is_ok r ≡ false → sound_call q (cells_in rows) st ≡ false
-    unfolding sound_call
-    queue_not e = rw (cells-length rows, ← fit, ← told_is_ok q r told, e)
-
-    pub cells_decide : is_ok r ≡ true → sound_call q (cells_in rows) st ≡ sound_cells (cells_in rows) (next_in q.channels)
-    unfolding sound_call next_of
-    cells_decide e = rw (cells-length rows, ← fit, ← told_is_ok q r told, e)
-
-pub ruleset tests = (lengths_not, queue_not, cells_decide)
 
 -- ---- the code's three ways
 

@@ -6,7 +6,6 @@ ghost use Rattle.std.specs.Prelude.{◌≡◌, ◌<◌, length};
 ghost use Rattle.cells.specs.Cell.{ready_as, at};
 ghost use Rattle.cells.specs.Records.{index_of};
 ghost use Rattle.rows.specs.Rows.{cell_of, cells_in, whole_row};
-ghost use Rattle.receiver.specs.Receive.{sound_call};
 ghost use Rattle.receiver.specs.Take.{take_of};
 ghost use Rattle.recv_take.specs.Outcome.{taken_rows, earliest_turn, outcome_at, take_rows_of};
 ghost use Rattle.recv_take.specs.Pieces.{Takeable, take_turn};
@@ -76,22 +75,11 @@ fn take_part(
     ensures { taken_rows result joined.new ≡ outcome_at (earliest_turn (cells_in rows.now))
         (take_of queue.now (cells_in rows.now) store.now joined.old) }
 {
-    if !is_sound(queue, rows, store) {
+    if !sound_call::is_sound(queue, rows, store) {
         return Err(Refusal::NotSound);
     }
     let i = row_scans::first_ready(rows).ok_or(Refusal::NoneReady)?;
     take_turn(rows, i, store, joined)
-}
-
-// "9 slice lengths .. or records unsound". There is one row for each cell. (Of the lengths, that there is a row is what is new here.)
-#[tactic(auto, using(crate::proofs::Calls::tests))]
-fn is_sound(queue: &RecvQueue, rows: &[Row], store: &[u8]) -> bool
-    ensures { result ≡ sound_call queue.now (cells_in rows.now) store.now }
-{
-    if !sound_call::lengths_fit(rows.len(), store.len()) {
-        return false;
-    }
-    sound_queue::sound_queue(queue).is_ok() && sound_cells::sound_cells(rows, &queue.channels)
 }
 
 // The ready message whose first cell is i: one body stays in its cell, several are joined in the buffer. (`as usize`: u32 has no From to

@@ -7,12 +7,13 @@ use mathlib.Core.List.Memᴰ
 use mathlib.Core.List.{List, [], ◌∷◌, map, Memᴰ}
 use native.Mathlib.Omega.{arith}
 use lib.Dec.{ltb, leb, eqb}
-use borrow.Author.Tests.{ltb-true, leb-true, lt-ltb, le-ltb, eqb-true}
+use borrow.Author.Tests.{ltb-true, leb-true, lt-ltb, le-ltb, eqb-true, eqb-false}
 use Rattle.std.specs.Prelude.{Option, Some, None, MatchOption, IfSome}
 use Rattle.base.specs.Limits.{max_cells}
 use Rattle.base.specs.Lists.{count_of}
 use Rattle.base.proofs.Choices.{cases, and_left, and_right, or-implied}
 use Rattle.base.proofs.Counts.{count-ext, count_none}
+use Rattle.base.proofs.Ifs.{eq_yes, eq_no}
 use Rattle.base.proofs.Indices.{count-below-suc}
 use Rattle.base.proofs.Lists.{any-all, every-mem}
 use Rattle.cells.specs.Cell.{Cell, mark_cell}
@@ -22,7 +23,7 @@ use Rattle.rows.specs.Rows.{cell_of, cells_in, mark_row, change_row, change_rows
 use Rattle.row_tests.specs.Uses.{uses}
 use Rattle.row_ranks.specs.declared.Turns.{Turns}
 use lib.ListN.{length}
-use Rattle.row_ranks.specs.Renumber.{renumbered, gapless, excess, lower_row, first_of_turn, between, Surveyed}
+use Rattle.row_ranks.specs.Renumber.{renumbered, gapless, excess, lower_row, lowered, first_of_turn, between, ageless, Surveyed}
 use Rattle.row_ranks.proofs.Renumbering.{renumbered-is}
 
 before-is : (n : ℕ) (c : Cell) → before_cell n c ≡ (first_cell c && ltb c.turn n)
@@ -92,6 +93,13 @@ module _ (p : Cell → Bool) (g h : Row → Row) where
       one true y k = rw (e r (Memᴰ.head refl) y, k)
       one false y k = rw k
 
+change-own : (p : Cell → Bool) (rs : List Row) → change_rows p (λ r. r) rs ≡ rs
+unfolding change_rows change_row
+change-own p [] = refl
+change-own p (r ∷ rs) = cases (p (cell_of r))
+    (λ y. rw (y, change-own p rs))
+    (λ y. rw (y, change-own p rs))
+
 -- Gapless turns lowered are renumbered.
 module _ (rows : List Row) (t : Turns) (g : gapless t ≡ true) (s : Surveyed (cells_in rows) t) where
   row-rank : (r : Row) → Memᴰ r rows → uses 3 (cell_of r) ≡ true
@@ -99,41 +107,40 @@ module _ (rows : List Row) (t : Turns) (g : gapless t ≡ true) (s : Surveyed (c
   unfolding cells_in
   row-rank r m u = sym (rank_is (cells_in rows) t s g (cell_of r) (Memᴰ.map cell_of m) u)
 
-  lowered_is : length rows ≤ max_cells → change_rows (uses 3) (lower_row (excess t)) rows ≡ renumbered rows
+  changed-is : length rows ≤ max_cells → change_rows (uses 3) (lower_row (excess t)) rows ≡ renumbered rows
   unfolding lower_row
-  lowered_is l =
+  changed-is l =
       change-same (uses 3) (λ r. mark_row 3 (r.cell.turn - excess t) r)
       (λ r. mark_row 3 (count_of (before_cell r.cell.turn) (cells_in rows)) r)
       rows (λ r m u. ap (λ (n : ℕ). mark_row 3 n r) (row-rank r m u))
       ∙ sym (renumbered-is rows l)
 
--- Lowered by 0, rows stay.
-own_turn : (r : Row) → uses 3 (cell_of r) ≡ true → r ≡ lower_row 0 r
-unfolding lower_row mark_row mark_cell
-own_turn r u =
-    let e : r.cell.used ≡ 3 = eqb-true _ _ u in
-    let f : r.cell.turn ≡ r.cell.turn - 0 = omega arith in
-    λ k. mark_row (e k) (f k) r
+  -- Lowered by 0, rows stay.
+  own-row : (r : Row) → Memᴰ r rows → uses 3 (cell_of r) ≡ true → lower_row 0 r ≡ r
+  unfolding lower_row mark_row mark_cell ageless cells_in
+  own-row r m u =
+      let e : 3 ≡ r.cell.used = sym (eqb-true _ _ u) in
+      let f : r.cell.turn - 0 ≡ r.cell.turn = omega arith in
+      let a : 0 ≡ r.cell.age = sym (eqb-true _ _ (or-implied (uses 3 (cell_of r)) _
+      (every-mem ageless (cells_in rows) s.ages (cell_of r) (Memᴰ.map cell_of m)) u)) in
+      λ k. record r { cell = record (cell_of r) { used = e k; turn = f k; age = a k } }
 
-change-own : (rs : List Row) → change_rows (uses 3) (λ r. r) rs ≡ rs
-unfolding change_rows change_row
-change-own [] = refl
-change-own (r ∷ rs) = cases (uses 3 (cell_of r))
-    (λ y. rw (y, change-own rs))
-    (λ y. rw (y, change-own rs))
-
-lowered_none : (rs : List Row) → rs ≡ change_rows (uses 3) (lower_row 0) rs
-lowered_none rs = sym (change-same (uses 3) (lower_row 0) (λ r. r) rs (λ r m u. sym (own_turn r u)) ∙ change-own rs)
-
-pub lowered_zero : (rs : List Row) {by : ℕ} → by ≡ 0 → rs ≡ change_rows (uses 3) (lower_row by) rs
-lowered_zero rs e = rw e (lowered_none rs)
+  lowered_is : length rows ≤ max_cells → lowered (excess t) rows ≡ renumbered rows
+  unfolding lowered
+  lowered_is l = cases (eqb (excess t) 0)
+      (λ y. let e = eqb-true (excess t) 0 y in
+      sym (eq_yes (excess t) 0 (renumbered rows) rows _ e (sym (changed-is l) ∙ stay e)))
+      (λ y. sym (eq_no (excess t) 0 (renumbered rows) rows _ (eqb-false (excess t) 0 y) (sym (changed-is l))))
+    where
+      stay : excess t ≡ 0 → change_rows (uses 3) (lower_row (excess t)) rows ≡ rows
+      stay e = rw e (change-same (uses 3) (lower_row 0) (λ r. r) rows own-row ∙ change-own (uses 3) rows)
 
 -- What a survey told, and then by how much gapless turns are above their ranks.
 pub gapless-renumbered : (rows : List Row) (o : Option Turns) (q : Option ℕ) {by : ℕ} {new : List Row} → length rows ≤ max_cells
     → IfSome o (Surveyed (cells_in rows))
     → MatchOption o (q ≡ None) (λ t. MatchOption q (gapless t ≡ false) (λ by. (gapless t ≡ true) × (by ≡ excess t)))
-    → q ≡ Some by → new ≡ change_rows (uses 3) (lower_row by) rows → new ≡ renumbered rows
+    → q ≡ Some by → new ≡ lowered by rows → new ≡ renumbered rows
 gapless-renumbered rows None q {by} {new} l s e f p = let no : ◌≡◌ {A = Option ℕ} None (Some by) = sym e ∙ f in cc
 gapless-renumbered rows (Some t) q {by} l s e f p =
     let told = subst (λ (x : Option ℕ). MatchOption x (gapless t ≡ false) (λ by. (gapless t ≡ true) × (by ≡ excess t))) f e in
-    p ∙ ap (λ (n : ℕ). change_rows (uses 3) (lower_row n) rows) told.1 ∙ lowered_is rows t told.0 s l
+    p ∙ ap (λ (n : ℕ). lowered n rows) told.1 ∙ lowered_is rows t told.0 s l

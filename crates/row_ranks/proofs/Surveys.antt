@@ -4,7 +4,6 @@ use Prim.Native.Nat.{ℕ, min, max, ◌+◌, ◌-◌, ◌%◌, ◌<◌, ◌≤�
 use mathlib.Core.Path.{◌≡◌, refl, sym, ap, ◌∙◌}
 use mathlib.Core.Bool.{Bool, true, false, cond, not, ◌&&◌}
 use mathlib.Core.List.{List, [], ◌∷◌, ◌++◌}
-use mir.Val.{bool_byte}
 use native.Mathlib.Nat.{mod-lt}
 use native.Mathlib.Omega.{arith}
 use lib.Dec.{leb, eqb}
@@ -26,7 +25,7 @@ use Rattle.rows.proofs.Rows.{cells-more, below-length}
 use Rattle.row_tests.specs.Uses.{uses}
 use Rattle.row_ranks.specs.declared.Turns.{Turns}
 use Rattle.row_ranks.specs.Renumber.{with_turn, mark_at, is_new, marked_with, gapless, excess, first_of_turn, between}
-use Rattle.row_ranks.specs.Renumber.{Surveyed}
+use Rattle.row_ranks.specs.Renumber.{ageless, Surveyed}
 
 -- The cells passed, and the marks of their first ones: where a mark is not set, no first cell of such a turn was there.
 pub record Marked (n : ℕ) (cs : List Cell) (marks : List Bool) (t : Turns) : Type 0 where
@@ -49,18 +48,19 @@ module _ (n : ℕ) (cs : List Cell) (marks : List Bool) (t : Turns) (h : Marked 
     not_at v = rw not_first
 
     pub other-cell : Marked n (cs ++ (c ∷ [])) marks t
-    unfolding between every
+    unfolding between ageless every
     other-cell = record {
       long = h.long;
       told = record {
         count = h.told.count ∙ (let e = more first_cell in omega (arith, rw not_first at e));
         once = λ v. let e = more (first_of_turn v) in omega (arith, rw (not_at v) at e, h.told.once v);
         within = every_append (between t.least t.top) cs (c ∷ []) ∙ rw (h.told.within, u);
+        ages = every_append ageless cs (c ∷ []) ∙ rw (h.told.ages, u);
       };
       clear = λ v z. let e = more (first_of_turn v) in omega (arith, rw (not_at v) at e, h.clear v z);
     }
 
-  module _ (u : uses 3 c ≡ true) (new : is_new marks c ≡ true) (room : 0 < n) where
+  module _ (u : uses 3 c ≡ true) (new : is_new marks c ≡ true) (young : eqb c.age 0 ≡ true) (room : 0 < n) where
     first-is : first_cell c ≡ eqb c.index 0
     unfolding first_cell
     first-is = rw u
@@ -138,10 +138,14 @@ module _ (n : ℕ) (cs : List Cell) (marks : List Bool) (t : Turns) (h : Marked 
         ∙ and_both _ _ (every-all (between (with_turn t c).least (with_turn t c).top) cs
         (λ d m. wider d (every-mem (between t.least t.top) cs h.told.within d m))) (rw own-between)
 
+    ages-more : every ageless (cs ++ (c ∷ [])) ≡ true
+    unfolding every ageless
+    ages-more = every_append ageless cs (c ∷ []) ∙ rw (h.told.ages, u, young)
+
     pub ready-cell : Marked n (cs ++ (c ∷ [])) (marked_with marks c) (with_turn t c)
     ready-cell = record {
       long = long-more;
-      told = record { count = count-more; once = once_more; within = within_more };
+      told = record { count = count-more; once = once_more; within = within_more; ages = ages-more };
       clear = clear-more;
     }
 
@@ -150,7 +154,7 @@ pub survey-starts : (marks : List Bool) (t : Turns) → t.firsts ≡ 0 → Marke
 unfolding cells_in count_of every
 survey-starts marks t e = record {
   long = refl;
-  told = record { count = e; once = λ v. omega arith; within = refl };
+  told = record { count = e; once = λ v. omega arith; within = refl; ages = refl };
   clear = λ v z. refl;
 }
 
@@ -165,17 +169,15 @@ module _ (rows : List Row) {n i : ℕ} {marks : List Bool} {t : Turns} (h : Mark
         (other-cell n (cells_in (take i rows)) marks t h (cell_of (get_or rows i x)) (sym e ∙ y))
 
     pub survey-ready : {v : Bool} {new : List Bool} {s : Turns} → 0 < n → b ≡ true → v ≡ is_new marks (cell_of (get_or rows i x))
-        → v ≡ true → new ≡ marked_with marks (cell_of (get_or rows i x)) → s ≡ with_turn t (cell_of (get_or rows i x))
+        → (v && eqb (cell_of (get_or rows i x)).age 0) ≡ true → new ≡ marked_with marks (cell_of (get_or rows i x))
+        → s ≡ with_turn t (cell_of (get_or rows i x))
         → Marked n (cells_in (take (i + 1) rows)) new s
     survey-ready l y f z g k = rw (cells-more rows i x inside, g, k)
-        (ready-cell n (cells_in (take i rows)) marks t h (cell_of (get_or rows i x)) (sym e ∙ y) (sym f ∙ z) l)
+        (ready-cell n (cells_in (take i rows)) marks t h (cell_of (get_or rows i x)) (sym e ∙ y)
+        (sym f ∙ and_left _ _ z) (and_right _ _ z) l)
 
   pub survey-ends : length rows ≤ i → Surveyed (cells_in rows) t
   survey-ends l = rw (take_all i rows l) at h.told
-
-pub byte_is : (b : Bool) → bool_byte b ≡ cond b 1 0
-byte_is true = refl
-byte_is false = refl
 
 -- The code's ways of its tests.
 module _ (t : Turns) where

@@ -1,7 +1,7 @@
 -- Turns renumbered: the ready messages' turns become 0, 1, 2, .. in their order.
 use Rattle.std.specs.Prelude.{ℕ, ◌+◌, ◌-◌, ◌%◌, ◌≤◌, ◌≡◌, min, max, Bool, true, false, cond, not, ◌&&◌, ◌||◌, List, map}
 use Rattle.std.specs.Prelude.{ltb, leb, eqb, length, get_or, set}
-use Rattle.base.specs.If.{if_le}
+use Rattle.base.specs.If.{if_eq, if_le}
 use Rattle.base.specs.Limits.{max_cells}
 use Rattle.base.specs.Lists.{every, count_of, only}
 use Rattle.cells.specs.Cell.{Cell, ready_use}
@@ -49,6 +49,10 @@ excess t = cond (ltb t.top t.least) 0 t.least
 unfoldable pub lower_row : ℕ → Row → Row
 lower_row by r = mark_row ready_use (r.cell.turn - by) r
 
+-- and none is written where that is 0
+unfoldable pub lowered : ℕ → List Row → List Row
+lowered by rows = if_eq by 0 rows (change_rows (uses ready_use) (lower_row by) rows)
+
 -- a ready message's first cell of this turn, and a ready cell of a turn between these two
 unfoldable pub first_of_turn : ℕ → Cell → Bool
 first_of_turn turn c = first_cell c && eqb c.turn turn
@@ -56,11 +60,17 @@ first_of_turn turn c = first_cell c && eqb c.turn turn
 unfoldable pub between : ℕ → ℕ → Cell → Bool
 between least top c = not (uses ready_use c) || (leb least c.turn && leb c.turn top)
 
--- what a survey of the cells tells: first cells counted, each of another turn, and the bounds of the ready cells' turns
+-- Is a ready cell's age 0? (It is in records that our calls left, but no rule says so.)
+unfoldable pub ageless : Cell → Bool
+ageless c = not (uses ready_use c) || eqb c.age 0
+
+-- what a survey of the cells tells: first cells counted, each of another turn, the bounds of the ready cells' turns, and that their ages
+-- are 0, as renumbering leaves them
 pub record Surveyed (cs : List Cell) (t : Turns) : Type 0 where
   pub count : t.firsts ≡ count_of first_cell cs
   pub once : (v : ℕ) → count_of (first_of_turn v) cs ≤ 1
   pub within : every (between t.least t.top) cs ≡ true
+  pub ages : every ageless cs ≡ true
 
 -- the turns of the ready messages, each as its first record has it
 unfoldable pub first_turns : List Cell → List ℕ

@@ -1,8 +1,8 @@
-// The ready messages' turns become 0, 1, 2, .. in their order. Mostly they follow one another, since a take frees the least one: then each
-// is lowered by the least, and nothing is written where that is 0. Else a rank is counted over the turns as they were, so these are copied
-// first, one for each ready message. Copy and marks are local arrays for as many rows as document 01 has cells. More rows are left as they
-// are: a count of them all need not fit a turn. (Arrays and no `Vec`: the receiver has no heap. A must-fail edit costs a check of its
-// whole crate, so this is a crate of its own.)
+// The ready messages' turns become 0, 1, 2, .. in their order, and their ages 0. Mostly the turns follow one another, since a take frees
+// the least one, and the ages are 0: then each turn is lowered by the least, and nothing is written where that is 0. Else a rank is counted
+// over the turns as they were, so these are copied first, one for each ready message. Copy and marks are local arrays for as many rows as
+// document 01 has cells. More rows are left as they are: a count of them all need not fit a turn. (Arrays and no `Vec`: the receiver has no
+// heap. A must-fail edit costs a check of its whole crate, so this is a crate of its own.)
 
 #![tactic(auto)]
 
@@ -13,7 +13,7 @@ ghost use Rattle.rows.specs.declared.Row.{Row};
 ghost use Rattle.rows.specs.Rows.{cell_of, cells_in, mark_row, change_rows};
 ghost use Rattle.row_tests.specs.Uses.{uses};
 ghost use Rattle.row_ranks.specs.Renumber as Renumber;
-ghost use Rattle.row_ranks.specs.Renumber.{renumbered, with_turn, is_new, marked_with, gapless, Surveyed, lower_row, first_turns, is_below};
+ghost use Rattle.row_ranks.specs.Renumber.{renumbered, with_turn, is_new, marked_with, gapless, Surveyed, lowered, first_turns, is_below};
 ghost use Rattle.row_ranks.specs.Renumber.{rank_row};
 ghost use Rattle.cells.specs.Cell.{ready_use};
 
@@ -34,7 +34,7 @@ struct Turns {
 }
 
 // With one more ready cell.
-#[tactic(auto, using(crate::proofs::Surveys::byte_is), unfolding(crate::specs::Renumber::with_turn))]
+#[tactic(auto, using(rows::proofs::Tests::byte_is), unfolding(crate::specs::Renumber::with_turn))]
 fn with_turn(t: Turns, r: &Row) -> Turns
     requires { t.firsts ≤ max_cells }
     ensures { result ≡ with_turn t (cell_of r.now) }
@@ -61,8 +61,8 @@ fn is_new(marks: &mut [bool], r: &Row) -> bool
     true
 }
 
-// What is told only where the first cells' turns are known to differ. (That the rows are few, here and below, `renumber` tests once: no
-// type of a slice says it.)
+// What is told only where the first cells' turns are known to differ, and the ready cells' ages are 0. (That the rows are few, here and
+// below, `renumber` tests once: no type of a slice says it.)
 fn survey(rows: &[Row], marks: &mut [bool]) -> Option<Turns>
     requires { (0 < length marks.old) × (length rows.now ≤ max_cells) }
     ensures { IfSome result (Surveyed (cells_in rows.now)) }
@@ -74,7 +74,8 @@ fn survey(rows: &[Row], marks: &mut [bool]) -> Option<Turns>
     };
     for r in rows {
         if is_used_as(&r.cell, cells::READY) {
-            if is_new(marks, r) {
+            let new = is_new(marks, r);
+            if new & (r.cell.age == 0) {
                 t = with_turn(t, r);
             } else {
                 return None;
@@ -113,9 +114,9 @@ fn turn_ready<F: Fn(u32) -> u32>(rows: &mut [Row], turn_of: F)
     }
 }
 
-#[tactic(auto, using(crate::proofs::Gapless::lowered_zero), unfolding(crate::specs::Renumber::lower_row))]
+#[tactic(auto, using(base::proofs::Ifs::ifs), unfolding(crate::specs::Renumber::lowered, crate::specs::Renumber::lower_row))]
 fn lower_all(rows: &mut [Row], by: u32)
-    ensures { rows.new ≡ change_rows (uses ready_use) (lower_row by) rows.old }
+    ensures { rows.new ≡ lowered by rows.old }
 {
     if by != 0 {
         turn_ready(rows, |turn| turn.saturating_sub(by));

@@ -7,13 +7,14 @@ ghost use Rattle.std.specs.Prelude.{◌≡◌, Bool, length};
 ghost use Rattle.std.specs.Fn.{FnReturnsAt};
 ghost use Rattle.base.specs.Lists.{any, count_of};
 ghost use Rattle.cells.specs.declared.CellRecord.{CellRecord};
-ghost use Rattle.cells.specs.Cell.{open_as, held_as, ready_as, bears, at};
+ghost use Rattle.cells.specs.Ages.{is_stale};
+ghost use Rattle.cells.specs.Cell.{held_as, ready_as, bears, at};
 ghost use Rattle.cells.specs.Records.{unused_at, clashes, first_cell, index_of};
 ghost use Rattle.rows.specs.declared.Row.{Row};
 ghost use Rattle.rows.specs.Rows.{cell_of, cells_in};
 ghost use Rattle.row_scans.specs.Ready.{first_ready, FoundAt};
 
-use row_tests::{is_clash, is_first, is_held, is_open, is_ready_at, is_used_as};
+use row_tests::{is_clash, is_first, is_held, is_ready_at, is_stale, is_used_as};
 use rows::Row;
 
 // The lowest-numbered unused cell.
@@ -71,18 +72,18 @@ fn count_rows<F: Fn(&Row) -> bool>(rows: &[Row], test: F) -> usize
     n
 }
 
-// How many pieces are open under this id?
-pub fn count_open(rows: &[Row], id: u32) -> usize
-    ensures { result ≡ count_of (bears (open_as id)) (cells_in rows.now) }
-{
-    count_rows(rows, |r| is_open(&r.cell, id))
-}
-
 // How many messages are ready?
 pub fn count_first(rows: &[Row]) -> usize
     ensures { result ≡ count_of first_cell (cells_in rows.now) }
 {
     count_rows(rows, |r| is_first(&r.cell))
+}
+
+// How many cells have the unfinished messages that are dropped, since more than n datagrams were accepted after their last kept piece?
+pub fn count_stale(rows: &[Row], n: u32) -> usize
+    ensures { result ≡ count_of (is_stale n) (cells_in rows.now) }
+{
+    count_rows(rows, |r| is_stale(&r.cell, n))
 }
 
 // The first cell of the ready message with the least turn.

@@ -11,7 +11,8 @@ use borrow.Author.Tests.{eqb-true, ne_eqb}
 use Rattle.base.proofs.Choices.{cases}
 use Rattle.base.specs.Lists.{count_of}
 use Rattle.bare.specs.Frame.{Frame}
-use Rattle.cells.specs.Cell.{Cell, Slot, Key, bears, of, is_free, is_ready, mark, empty_slot, change, map_if, turn_to}
+use Rattle.cells.specs.Ages.{with_age, aged, next_age, grown, renewed}
+use Rattle.cells.specs.Cell.{Cell, Slot, Key, open_as, bears, of, is_free, is_open, is_ready, mark, empty_slot, change, map_if, turn_to}
 use Rattle.cells.specs.Cell.{put_slot, slot_of, mark_cell}
 use Rattle.cells.specs.Cell.{empty_cell}
 use Rattle.cells.specs.Records.{unused_at, before_cell}
@@ -19,7 +20,7 @@ use Rattle.cells.specs.Store.{cell_size}
 use Rattle.cells.specs.Datagram.{rank, renumber, sweep}
 use Rattle.cells.proofs.Records.{rank-cells}
 use Rattle.rows.specs.declared.Row.{Row}
-use Rattle.rows.specs.Rows.{cell_of, mark_row, blank_row, change_row, change_rows}
+use Rattle.rows.specs.Rows.{cell_of, mark_row, age_row, older_row, blank_row, change_row, change_rows}
 use Rattle.row_slots.specs.Slots.{row_bytes, row_body, slot_in, slots_in}
 use Rattle.row_slots.proofs.Meaning.{cells_in}
 use Rattle.cells.proofs.Keys.{key-used}
@@ -102,6 +103,11 @@ pub mark-in : (u t : ℕ) (r : Row) (bytes d : List ℕ) → (u ≡ 0 → ⊥) �
 unfolding slot_in mark_row mark mark_cell row_body row_bytes
 mark-in u t r bytes d n e = rw (ne_eqb u 0 n, e)
 
+-- A row that gets another age.
+age-in : (a : ℕ) (r : Row) (bytes d : List ℕ) → slot_in (age_row a r) bytes d ≡ aged a (slot_in r bytes d)
+unfolding slot_in age_row aged with_age row_body row_bytes
+age-in a r bytes d = refl
+
 -- The row of an unused cell.
 pub blank-in : (bytes d : List ℕ) → slot_in blank_row bytes d ≡ empty_slot
 unfolding slot_in blank_row empty_slot empty_cell row_body
@@ -119,6 +125,19 @@ pub slots-turned : (k : Key) (u t : ℕ) (rs : List Row) (st d : List ℕ) → (
 unfolding turn_to of
 slots-turned k u t rs st d n = slots-changed (bears k) (mark_row u t) (of k) (mark u t) d (λ s. refl)
     (λ r bytes e. mark-in u t r bytes d n (bears-used k (cell_of r) e)) rs st
+
+-- The rows of open ids grow older by a datagram.
+pub slots-grown : (rs : List Row) (st d : List ℕ) → slots_in (change_rows (λ c. eqb c.used 1) older_row rs) st d ≡ grown (slots_in rs st d)
+unfolding grown is_open older_row
+slots-grown rs st d = slots-changed (λ c. eqb c.used 1) older_row is_open (λ s. aged (next_age s.cell.age) s) d (λ s. refl)
+    (λ r bytes e. (unfold slot_in in age-in (next_age r.cell.age) r bytes d)) rs st
+
+-- The rows of an id get age 0.
+pub slots-renewed : (id : ℕ) (rs : List Row) (st d : List ℕ) → slots_in (change_rows (bears (open_as id)) (age_row 0) rs) st d
+    ≡ renewed id (slots_in rs st d)
+unfolding renewed of
+slots-renewed id rs st d = slots-changed (bears (open_as id)) (age_row 0) (of (open_as id)) (aged 0) d (λ s. refl)
+    (λ r bytes e. age-in 0 r bytes d) rs st
 
 -- The rows of messages that were dropped become unused after the datagram.
 pub slots-swept : (rs : List Row) (st d : List ℕ) → slots_in (change_rows (λ c. eqb c.used 4) (λ r. blank_row) rs) st d

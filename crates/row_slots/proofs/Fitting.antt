@@ -12,10 +12,11 @@ use lib.ListN.{length, set, length-map}
 use borrow.Author.Tests.{eqb-true, eq-eqb, ne_eqb, not-true}
 use Rattle.base.proofs.Choices.{by_bool, neither, and_left, and_right}
 use Rattle.bare.specs.Frame.{Frame}
+use Rattle.cells.specs.Ages.{with_age, next_age}
 use Rattle.cells.specs.Cell.{Cell, Key, bears, slot_of, mark_cell}
 use Rattle.cells.specs.Store.{cell_size}
 use Rattle.rows.specs.declared.Row.{Row}
-use Rattle.rows.specs.Rows.{cell_of, mark_row, change_row, change_rows}
+use Rattle.rows.specs.Rows.{cell_of, mark_row, age_row, older_row, change_row, change_rows}
 use Rattle.row_slots.specs.Slots.{is_placed, Fits, AllFit}
 use Rattle.row_slots.proofs.ListMembers.{mem-set}
 use Rattle.row_slots.proofs.Changes.{bears-used}
@@ -81,6 +82,18 @@ pub fit-renumbered : (d : List ℕ) (t : Row → ℕ) (rs : List Row) → AllFit
     → AllFit d (change_rows (λ c. eqb c.used 3) (λ r. mark_row 3 (t r) r) rs)
 fit-renumbered d t rs v = fit-marked d (λ c. eqb c.used 3) 3 t rs (λ c e. let q = eqb-true c.used 3 e in
     ne_eqb c.used 0 (λ z. omega arith)) v
+
+-- Rows that grow older, and rows that get age 0.
+fit-age : (d : List ℕ) (a : ℕ) (r : Row) → Fits d r → Fits d (age_row a r)
+unfolding age_row with_age is_placed
+fit-age d a r z = record { short = z.short; within = z.within }
+
+pub fit-grown : (d : List ℕ) (p : Cell → Bool) (rs : List Row) → AllFit d rs → AllFit d (change_rows p older_row rs)
+unfolding older_row
+fit-grown d p rs v = fit-changed d p older_row rs (λ r e z. fit-age d (next_age r.cell.age) r z) v
+
+pub fit-renewed : (d : List ℕ) (p : Cell → Bool) (rs : List Row) → AllFit d rs → AllFit d (change_rows p (age_row 0) rs)
+fit-renewed d p rs v = fit-changed d p (age_row 0) rs (λ r e z. fit-age d 0 r z) v
 
 -- A change keeps the number of rows.
 pub changed-length : (p : Cell → Bool) (g : Row → Row) (rs : List Row) → length (change_rows p g rs) ≡ length rs

@@ -2,19 +2,23 @@
 -- Assumes nothing.
 use Prim.Native.Nat.{ℕ, zero, suc, ◌+◌, ◌<◌, ◌≤◌}
 use mathlib.Core.Path.{◌≡◌, refl, sym, ap, ◌∙◌}
-use mathlib.Core.Bool.{Bool, true, false, cond, ◌||◌}
+use mathlib.Core.Bool.{Bool, true, false, cond, not}
 use mathlib.Core.List.{List, [], ◌∷◌, ◌++◌, map, append-nil}
+use mir.Val.{bool_byte}
 use native.Mathlib.Omega.{arith}
+use lib.Dec.{eqb}
 use lib.ListN.{length, get_or, take, drop, set}
 use lib.Seq.{take_all}
 use Rattle.std.proofs.lemmas.List.{get_or-drop, drop-drop, drop-set-lt, drop_all}
 use Rattle.std.proofs.lemmas.List.Edits.{map_over_more}
-use Rattle.base.specs.Lists.{any}
+use borrow.Author.Tests.{ne_eqb}
+use Rattle.base.specs.Lists.{any, count_of}
+use Rattle.base.proofs.Choices.{cases}
+use Rattle.base.proofs.Counts.{count_none, count-some}
 use Rattle.cells.specs.Cell.{Cell}
 use Rattle.rows.specs.declared.Row.{Row}
 use Rattle.rows.specs.Rows.{cell_of, cells_in, change_row, change_rows}
-use Rattle.rows.proofs.ListMaps.{any_append}
-use Rattle.rows.proofs.Rows.{cells-more}
+use Rattle.rows.proofs.Tests.{count-step}
 
 -- The rows below i are changed, and the others are as they were.
 abbrev pub swept : (Cell → Bool) → (Row → Row) → ℕ → List Row → List Row
@@ -24,10 +28,6 @@ get_own : {A : Type 0} (l : List A) (i : ℕ) (d : A) → get_or l i d ≡ get_o
 get_own [] i d = refl
 get_own (x ∷ l) zero d = refl
 get_own (x ∷ l) (suc i) d = get_own l i d
-
-or-none : (a b : Bool) → (a || b) ≡ (a || (b || false))
-or-none a true = refl
-or-none a false = refl
 
 -- Row i is as it was, and so are all after it. It is put, changed or as it was.
 module _ (old now : List Row) (i : ℕ) (kept : drop i now ≡ drop i old) where
@@ -48,10 +48,9 @@ module _ (old now : List Row) (i : ℕ) (kept : drop i now ≡ drop i old) where
     tested : p (cell_of (get_or old i x)) ≡ b
     tested = ap (λ (r : Row). p (cell_of r)) (sym here) ∙ sym t
 
-    pub found-more : {a : Bool} → a ≡ any p (cells_in (take i old)) → (a || b) ≡ any p (cells_in (take (i + 1) old))
-    unfolding any
-    found-more {a} e = rw (cells-more old i x l, any_append p (cells_in (take i old)) (cell_of (get_or old i x) ∷ []), ← e, tested)
-        (or-none a b)
+    pub counted-more : {n k : ℕ} → k ≡ bool_byte b → n ≡ count_of p (cells_in (take i old))
+        → n + k ≡ count_of p (cells_in (take (i + 1) old))
+    counted-more f e = count-step p old i x l (sym tested) f e
 
     module _ (g : Row → Row) (e : now ≡ swept p g i old) where
       more : set now i (change_row p g (get_or now i x)) ≡ swept p g (i + 1) old
@@ -71,3 +70,9 @@ module _ (old now : List Row) (i : ℕ) (kept : drop i now ≡ drop i old) where
 pub swept-all : (p : Cell → Bool) (g : Row → Row) (i : ℕ) (old : List Row) → length old ≤ i → swept p g i old ≡ change_rows p g old
 unfolding change_rows
 swept-all p g i old l = rw (take_all i old l, drop_all i old l) (append-nil (map (change_row p g) old))
+
+-- There is one that passes where they are not 0.
+pub any_counted : (p : Cell → Bool) (cs : List Cell) (n : ℕ) → n ≡ count_of p cs → not (eqb n 0) ≡ any p cs
+any_counted p cs n e = cases (any p cs)
+    (λ y. let q = count-some p cs y in rw (y, ne_eqb n 0 (λ z. omega arith)))
+    (λ y. rw (y, e, count_none p cs y))

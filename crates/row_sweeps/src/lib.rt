@@ -5,35 +5,35 @@
 
 ghost use Rattle.std.specs.Prelude.{◌≡◌, Bool};
 ghost use Rattle.std.specs.Fn.{FnReturnsAt};
-ghost use Rattle.base.specs.Lists.{any};
+ghost use Rattle.base.specs.Lists.{any, count_of};
 ghost use Rattle.cells.specs.declared.CellRecord.{CellRecord};
 ghost use Rattle.cells.specs.Cell.{open_as, held_as, bears, ready_use};
 ghost use Rattle.rows.specs.declared.Row.{Row};
-ghost use Rattle.rows.specs.Rows.{cell_of, cells_in, mark_row, change_rows};
+ghost use Rattle.rows.specs.Rows.{cell_of, cells_in, mark_row, age_row, change_rows};
 
 use row_tests::{is_held, is_open};
-use rows::{Row, mark_row};
+use rows::{Row, age_row, mark_row};
 
-// The rows that pass are changed. Was there one?
-fn sweep<P: Fn(&Row) -> bool, G: Fn(Row) -> Row>(rows: &mut [Row], test: P, change: G) -> bool
+// The rows that pass are changed. How many are they?
+fn sweep<P: Fn(&Row) -> bool, G: Fn(Row) -> Row>(rows: &mut [Row], test: P, change: G) -> usize
     requires test { P.IsAlwaysCallable test }
     requires change { G.IsAlwaysCallable change }
-    ensures found { (p : CellRecord → Bool) → ((r : Row) (b : Bool) → FnReturnsAt P.Fn test r b → b ≡ p (cell_of r))
-        → result ≡ any p (cells_in rows.old) }
+    ensures many { (p : CellRecord → Bool) → ((r : Row) (b : Bool) → FnReturnsAt P.Fn test r b → b ≡ p (cell_of r))
+        → result ≡ count_of p (cells_in rows.old) }
     ensures is { (p : CellRecord → Bool) (g : Row → Row)
         → ((r : Row) (b : Bool) → FnReturnsAt P.Fn test r b → b ≡ p (cell_of r))
         → ((r q : Row) → G.post change r q → q ≡ g r)
         → rows.new ≡ change_rows p g rows.old }
 {
-    let mut found = false;
+    let mut n: usize = 0;
     for r in rows.iter_mut() {
         let passes = test(r);
         if passes {
             *r = change(*r);
         }
-        found |= passes;
+        n += usize::from(passes);
     }
-    found
+    n
 }
 
 // The cells of the open message of this id get another use and turn.
@@ -44,13 +44,23 @@ pub fn turn_open(rows: &mut [Row], id: u32, used: u32, turn: u32)
 }
 
 // The cells of the held message of this channel and order number become ready, with this turn. Was there one?
+#[tactic(auto, using(crate::proofs::Sweeps::any_counted))]
 pub fn turn_held(rows: &mut [Row], channel: u32, order: u32, turn: u32) -> bool
     ensures held { result ≡ any (bears (held_as channel order)) (cells_in rows.old) }
     ensures is { rows.new ≡ change_rows (bears (held_as channel order)) (mark_row ready_use turn) rows.old }
 {
-    sweep(
+    let n = sweep(
         rows,
         |r| is_held(&r.cell, channel, order),
         |r| mark_row(r, cells::READY, turn),
-    )
+    );
+    n != 0
+}
+
+// The cells of the open message of this id get age 0: a piece of it is kept. How many are they?
+pub fn renew_open(rows: &mut [Row], id: u32) -> usize
+    ensures many { result ≡ count_of (bears (open_as id)) (cells_in rows.old) }
+    ensures is { rows.new ≡ change_rows (bears (open_as id)) (age_row 0) rows.old }
+{
+    sweep(rows, |r| is_open(&r.cell, id), |r| age_row(r, 0))
 }

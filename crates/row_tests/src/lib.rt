@@ -4,9 +4,11 @@
 #![tactic(auto, unfolding(cells::specs::Cell::bears))]
 
 ghost use Rattle.std.specs.Prelude.{◌≡◌};
+ghost use Rattle.bare.specs.Frame.{carries_reliable};
+ghost use Rattle.cells.specs.Ages.{is_stale};
 ghost use Rattle.cells.specs.Cell.{open_as, held_as, ready_as, bears, at};
 ghost use Rattle.cells.specs.Records.{clashes, first_cell};
-ghost use Rattle.cells.specs.Sound.{agree};
+ghost use Rattle.cells.specs.Sound.{agree, alike, age_of};
 ghost use Rattle.row_tests.specs.Uses.{uses};
 
 use cells::CellRecord;
@@ -63,6 +65,38 @@ pub fn agrees(a: &CellRecord, c: &CellRecord) -> bool
     (a.count == c.count)
         & ((a.kind == c.kind)
             & ((a.sequence == c.sequence) & ((a.order == c.order) & (a.channel == c.channel))))
+}
+
+// An open record's age; no other's is looked at, and 0 stands for it.
+#[tactic(auto, unfolding(cells::specs::Sound::age_of))]
+pub fn age_of(c: &CellRecord) -> u64
+    ensures { result ≡ age_of c.now }
+{
+    if c.used == cells::OPEN { c.age } else { 0 }
+}
+
+// Do two cells say the same of their message, and of its age?
+#[tactic(auto, unfolding(cells::specs::Sound::alike))]
+pub fn is_like(a: &CellRecord, c: &CellRecord) -> bool
+    ensures { result ≡ alike a.now c.now }
+{
+    agrees(a, c) & (age_of(a) == age_of(c))
+}
+
+// Does a kind carry a reliable number? (One from 256 on is no kind.)
+#[tactic(auto, using(crate::proofs::Carried::carried))]
+fn carries_reliable(kind: u32) -> bool
+    ensures { result ≡ carries_reliable kind }
+{
+    u8::try_from(kind).is_ok_and(reliability::has_reliable)
+}
+
+// An open cell whose message's kind carries no reliable number, and since whose last kept piece more than n datagrams were accepted.
+#[tactic(auto, unfolding(cells::specs::Ages::is_stale))]
+pub fn is_stale(c: &CellRecord, n: u32) -> bool
+    ensures { result ≡ is_stale n c.now }
+{
+    (c.used == cells::OPEN) & (!carries_reliable(c.kind) & (u64::from(n) < c.age))
 }
 
 // An open piece beside which a may not be kept: of its id, with another count, kind, sequence, order number or channel, or with its index.

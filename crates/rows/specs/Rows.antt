@@ -1,5 +1,6 @@
 -- Rows, and the cells' records that they stand for.
 use Rattle.std.specs.Prelude.{ℕ, Bool, cond, List, map, get_or}
+use Rattle.cells.specs.Ages.{next_age, with_age}
 use Rattle.cells.specs.Cell.{Cell, mark_cell, empty_cell}
 use Rattle.rows.specs.declared.Row.{Row}
 
@@ -14,10 +15,18 @@ stored_row c = record { cell = c; place = 0 }
 unfoldable pub cells_in : List Row → List Cell
 cells_in rows = map cell_of rows
 
--- a row with another use and turn, and the row of an unused cell
+-- a row with another use and turn
 unfoldable pub mark_row : ℕ → ℕ → Row → Row
 mark_row u t r = record { cell = mark_cell u t r.cell; place = r.place }
 
+-- a row with another age, and one that grows older by a datagram
+unfoldable pub age_row : ℕ → Row → Row
+age_row a r = record { cell = with_age a r.cell; place = r.place }
+
+unfoldable pub older_row : Row → Row
+older_row r = age_row (next_age r.cell.age) r
+
+-- the row of an unused cell
 unfoldable pub blank_row : Row
 blank_row = stored_row empty_cell
 

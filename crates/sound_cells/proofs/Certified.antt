@@ -14,7 +14,7 @@ use Rattle.base.specs.Lists.{below}
 use Rattle.base.proofs.Choices.{cases, neither, and_left, and_right}
 use Rattle.base.proofs.Lists.{below_at}
 use Rattle.cells.specs.Cell.{Cell}
-use Rattle.cells.specs.Sound.{limits, agree, sound_cells}
+use Rattle.cells.specs.Sound.{limits, alike, sound_cells}
 use Rattle.rows.specs.declared.Row.{Row}
 use Rattle.rows.specs.Rows.{cells_in}
 use Rattle.sound_cells.specs.Counted.{mate, twin, ahead_of_next}
@@ -22,9 +22,10 @@ use Rattle.sound_cells.specs.declared.order.entries.Place.{Place}
 use Rattle.sound_cells.specs.Sorted.{cell_at, place_of, key_part, upper_part, upper_at, key_at, row_number_at, rises}
 use Rattle.sound_cells.specs.Sorted.{is_own, is_led, is_placed_entry}
 use Rattle.sound_cells.specs.Sorted.{tallied, due_cell, is_due}
+use Rattle.sound_cells.proofs.Alike.{alike-through}
 use Rattle.sound_cells.proofs.Counting.{same_truth}
 use Rattle.sound_cells.proofs.Numbered.{climb, count_below, count_same}
-use Rattle.sound_cells.proofs.RowsSound.{mate-key, mate-used, twin-mate, twin-index, same-key-mate, agree-through, Passing}
+use Rattle.sound_cells.proofs.RowsSound.{mate-key, mate-used, twin-mate, twin-index, same-key-mate, Passing}
 use Rattle.sound_cells.proofs.RowsSound.{rows-sound}
 use Rattle.sound_cells.proofs.Tallies.{tallied-at}
 
@@ -52,7 +53,7 @@ module _ (rows : List Row) (next : ℕ → ℕ) (es : List ℕ) (places : List P
     begins : key_at es (place_of places i).lead ≡ key_at es ((place_of places i).lead + 1) → ⊥
     key : key_at es ((place_of places i).lead + 1) ≡ key_part (cell_at rows i)
     mated : mate (cell_at rows i) (cell_at rows (row_number_at es ((place_of places i).lead + 1))) ≡ true
-    like : agree (cell_at rows i) (cell_at rows (row_number_at es ((place_of places i).lead + 1))) ≡ true
+    like : alike (cell_at rows i) (cell_at rows (row_number_at es ((place_of places i).lead + 1))) ≡ true
 
   placed : (i : ℕ) → eqb (cell_at rows i).used 0 ≡ false → is_placed_entry rows next es places i ≡ true → Placed i
   unfolding is_placed_entry is_own is_led
@@ -65,7 +66,7 @@ module _ (rows : List Row) (next : ℕ → ℕ) (es : List ℕ) (places : List P
       && ((ltb p (length es) && (eqb (upper_at es p) (upper_part c) && eqb (row_number_at es p) i))
       && (ltb q last
       && (not (eqb (key_at es q) (key_at es (q + 1)))
-      && (eqb (key_at es (q + 1)) (key_part c) && (mate c d && agree c d)))))) ≡ true = rw u at e in
+      && (eqb (key_at es (q + 1)) (key_part c) && (mate c d && alike c d)))))) ≡ true = rw u at e in
       let alone = and_left (limits c && ahead_of_next next c) _ a in
       let there = and_right (limits c && ahead_of_next next c) _ a in
       let at_own = and_left (ltb p (length es) && (eqb (upper_at es p) (upper_part c) && eqb (row_number_at es p) i)) _ there in
@@ -141,12 +142,12 @@ module _ (rows : List Row) (next : ℕ → ℕ) (es : List ℕ) (places : List P
             sym b.self ∙ ap (row_number_at es) q ∙ mine.self
 
         like-other : (j : ℕ) → j < length rows → mate (cell_at rows i) (cell_at rows j) ≡ true
-            → agree (cell_at rows i) (cell_at rows j) ≡ true
+            → alike (cell_at rows i) (cell_at rows j) ≡ true
         like-other j h e =
             let b = other j h e in
-            let like : agree (cell_at rows j) (cell_at rows (row_number_at es ((place_of places i).lead + 1))) ≡ true
+            let like : alike (cell_at rows j) (cell_at rows (row_number_at es ((place_of places i).lead + 1))) ≡ true
             = rw b.1 at b.0.like in
-            agree-through (cell_at rows i) (cell_at rows j) (cell_at rows (row_number_at es ((place_of places i).lead + 1))) mine.like like
+            alike-through (cell_at rows i) (cell_at rows j) (cell_at rows (row_number_at es ((place_of places i).lead + 1))) mine.like like
 
         -- A used row's cell is of this message exactly when it is led from the same place.
         mate-lead : (j : ℕ) → j < length rows → mate (cell_at rows i) (cell_at rows j)

@@ -14,8 +14,9 @@ use Rattle.base.proofs.Lists.{any-true, every-mem, every-all}
 use Rattle.base.proofs.Counts.{count_none}
 use Rattle.base.proofs.Indices.{indices-all}
 use Rattle.cells.specs.Cell.{Cell, Key, open_as, held_as, ready_as, bears, at}
-use Rattle.cells.specs.Sound.{key_of, limits, agree, lacks_none, sound_cell, sound_cells}
+use Rattle.cells.specs.Sound.{key_of, limits, alike, lacks_none, sound_cell, sound_cells}
 use Rattle.sound_cells.specs.Counted.{mate, twin, unlike, all_mates, ahead_of_next, counted_cell}
+use Rattle.sound_cells.proofs.Alike.{alike-told}
 
 -- Two tests that are true alike are equal.
 pub same_truth : (a b : Bool) → (a ≡ true → b ≡ true) → (b ≡ true → a ≡ true) → a ≡ b
@@ -69,20 +70,16 @@ index_below c e =
     let e₇ = and_right (leb c.count max_frags) _ e₆ in
     ltb-true _ _ (and_left (ltb c.index c.count) _ e₇)
 
-agree-count : (c d : Cell) → agree c d ≡ true → c.count ≡ d.count
-unfolding agree
-agree-count c d e = eqb-true _ _ (and_left (eqb c.count d.count) _ e)
-
 module _ (cs : List Cell) where
   -- What both tests say of a cell; rest is what they say differently.
   ruled : Cell → Bool → Bool
   ruled c rest = eqb c.used 0 || (limits c && (eqb (count_of (at (key_of c) c.index) cs) 1
-      && (every (λ d. not (bears (key_of c) d) || agree c d) cs && rest)))
+      && (every (λ d. not (bears (key_of c) d) || alike c d) cs && rest)))
 
   record Apart (c : Cell) : Type 0 where
     limit : limits c ≡ true
     once : count_of (at (key_of c) c.index) cs ≡ 1
-    like : (d : Cell) → Memᴰ d cs → bears (key_of c) d ≡ true → agree c d ≡ true
+    like : (d : Cell) → Memᴰ d cs → bears (key_of c) d ≡ true → alike c d ≡ true
 
   apart : (c : Cell) (rest : Bool) → eqb c.used 0 ≡ false → ruled c rest ≡ true → Apart c
   unfolding ruled
@@ -93,8 +90,8 @@ module _ (cs : List Cell) where
       record {
         limit = and_left (limits c) _ e;
         once = eqb-true _ _ (and_left (eqb (count_of (at (key_of c) c.index) cs) 1) _ e₁);
-        like = λ d m y. or-implied (bears (key_of c) d) (agree c d) (every-mem (λ d. not (bears (key_of c) d) || agree c d) cs
-            (and_left (every (λ d. not (bears (key_of c) d) || agree c d) cs) _ e₂) d m) y;
+        like = λ d m y. or-implied (bears (key_of c) d) (alike c d) (every-mem (λ d. not (bears (key_of c) d) || alike c d) cs
+            (and_left (every (λ d. not (bears (key_of c) d) || alike c d) cs) _ e₂) d m) y;
       }
 
   -- The cells under a key, where all cells are apart.
@@ -113,7 +110,7 @@ module _ (cs : List Cell) where
     unfolding lacks_none all_mates mate at
     lacks-none-counted c m u = indices-all (bears (key_of c)) (λ (d : Cell). d.index) cs (once-at (key_of c)) c.count (λ d i y.
         let l = index_below d (all d i (bears-used (key_of c) d y)).limit in
-        let a = agree-count c d ((all c m u).like d i y) in
+        let a = (alike-told c d ((all c m u).like d i y)).count in
         omega arith)
 
   module _ (next : ℕ → ℕ) where
@@ -129,7 +126,7 @@ module _ (cs : List Cell) where
 
     counted-ruled : (c : Cell) → counted_cell cs next c ≡ ruled c (rest_counted c)
     unfolding counted_cell twin unlike rest_counted ruled
-    counted-ruled c = rw (none-fail (bears (key_of c)) (agree c) cs)
+    counted-ruled c = rw (none-fail (bears (key_of c)) (alike c) cs)
 
     rest-same : ((c : Cell) → Memᴰ c cs → eqb c.used 0 ≡ false → Apart c) → (c : Cell) → Memᴰ c cs → ruled c (rest_counted c)
         ≡ ruled c (rest_sound c)

@@ -1,3 +1,4 @@
+pub mod Alike
 pub mod Counting
 pub mod Tests
 pub mod Scans

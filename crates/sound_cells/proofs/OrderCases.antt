@@ -13,7 +13,7 @@ use Rattle.std.specs.List.{IsChunkByPrefix}
 use Rattle.std.proofs.lemmas.List.{get_or_append_left, get_or-append-add, get_or_default, length-append, append_assoc}
 use Rattle.base.proofs.Choices.{cases, neither, and_left, and_right}
 use Rattle.cells.specs.Cell.{Cell}
-use Rattle.cells.specs.Sound.{limits, agree, sound_cells}
+use Rattle.cells.specs.Sound.{limits, alike, sound_cells}
 use Rattle.rows.specs.declared.Row.{Row}
 use Rattle.rows.specs.Rows.{blank_row, cells_in, whole_row}
 use Rattle.sound_cells.specs.Counted.{mate, ahead_of_next}
@@ -86,7 +86,7 @@ module _ (rows : List Row) (next : ℕ → ℕ) (seen : List ℕ) (greatest : �
       (λ y. let a = cell_at rows (at + 0) in
       let d = cell_at rows (at + (0 + 1)) in
       let f = and_right (mate a d) _ (and_right (not (eqb a.count 1)) _ (goes 0 (ltb-true _ _ y))) in
-      let n : not (eqb a.used 0) ≡ true = and_left (not (eqb a.used 0)) _ (and_right (agree d a) _ f) in
+      let n : not (eqb a.used 0) ≡ true = and_left (not (eqb a.used 0)) _ (and_right (alike d a) _ f) in
       neither (not (eqb a.used 0)) n (rw (add-zero at, eq-eqb (cell_at rows at).used 0 u) refl))
       (λ y. let l = ltb-false _ _ y in omega arith)
 

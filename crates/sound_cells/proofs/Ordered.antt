@@ -9,17 +9,18 @@ use native.Mathlib.Omega.{arith}
 use lib.ListN.{length}
 use lib.Dec.{ltb, leb, eqb}
 use borrow.Author.Tests.{ltb-true, ltb-false, eqb-true, eqb-false}
-use Rattle.base.specs.Limits.{numbers16, numbers24, max_ord_chans, max_frags, cell_bytes}
+use Rattle.base.specs.Limits.{numbers16, numbers24, max_ord_chans, max_frags, max_age, cell_bytes}
 use Rattle.base.proofs.Choices.{cases, and_left, and_right, and_both}
 use Rattle.cells.specs.Cell.{Cell, Key, open_as, held_as, ready_as, bears}
-use Rattle.cells.specs.Sound.{key_of, limits, agree, sound_cells}
+use Rattle.cells.specs.Sound.{key_of, age_of, limits, alike, sound_cells}
 use Rattle.rows.specs.declared.Row.{Row}
 use Rattle.rows.specs.Rows.{cells_in}
 use Rattle.sound_cells.specs.Counted.{mate, ahead_of_next}
 use Rattle.sound_cells.specs.Sorted.{cell_at, key_part}
 use Rattle.sound_cells.specs.Ordered.{is_fresh, noted, message_goes_on}
 use Rattle.sound_cells.proofs.Numbered.{climb, count-span}
-use Rattle.sound_cells.proofs.RowsSound.{mate-key, mate-used, twin-mate, twin-index, same-key-mate, agree-own, agree-through}
+use Rattle.sound_cells.proofs.Alike.{Alike, alike-told, alike-own, alike-through}
+use Rattle.sound_cells.proofs.RowsSound.{mate-key, mate-used, twin-mate, twin-index, same-key-mate}
 use Rattle.sound_cells.proofs.RowsSound.{Passing, rows-sound}
 use Rattle.sound_cells.proofs.Seen.{Told, fresh-new, noted-room, noted-own, noted-keeps}
 
@@ -33,57 +34,47 @@ pub record MessageRun (rows : List Row) (i e : ℕ) : Type 0 where
 abbrev Due : Cell → ℕ → Type 0
 Due c m = cond (eqb c.used 1) (not (eqb m c.count)) (eqb m c.count) ≡ true
 
-bears-alike : (k : Key) (c d : Cell) → bears k c ≡ true → bears k d ≡ true → c.used ≡ d.used
+one-use : (k : Key) (c d : Cell) → bears k c ≡ true → bears k d ≡ true → c.used ≡ d.used
 unfolding bears
-bears-alike (open_as id) c d s t = eqb-true _ _ (and_left (eqb c.used 1) _ s) ∙ sym (eqb-true _ _ (and_left (eqb d.used 1) _ t))
-bears-alike (held_as x o) c d s t = eqb-true _ _ (and_left (eqb c.used 2) _ s) ∙ sym (eqb-true _ _ (and_left (eqb d.used 2) _ t))
-bears-alike (ready_as x) c d s t = eqb-true _ _ (and_left (eqb c.used 3) _ s) ∙ sym (eqb-true _ _ (and_left (eqb d.used 3) _ t))
+one-use (open_as id) c d s t = eqb-true _ _ (and_left (eqb c.used 1) _ s) ∙ sym (eqb-true _ _ (and_left (eqb d.used 1) _ t))
+one-use (held_as x o) c d s t = eqb-true _ _ (and_left (eqb c.used 2) _ s) ∙ sym (eqb-true _ _ (and_left (eqb d.used 2) _ t))
+one-use (ready_as x) c d s t = eqb-true _ _ (and_left (eqb c.used 3) _ s) ∙ sym (eqb-true _ _ (and_left (eqb d.used 3) _ t))
 
 swap : (p q r : Bool) → (p && q) ≡ true → (q ≡ true → r ≡ true) → (p && r) ≡ true
 swap p q r e f = and_both p r (and_left p q e) (f (and_right p q e))
 
--- A mate that agrees is within the limits, as far ahead_of_next, and as due.
-module _ (next : ℕ → ℕ) (a d : Cell) (e : mate a d ≡ true) (u : eqb a.used 0 ≡ false) (l : limits a ≡ true) (g : agree d a ≡ true) where
+-- A mate that is alike is within the limits, as far ahead_of_next, and as due.
+module _ (next : ℕ → ℕ) (a d : Cell) (e : mate a d ≡ true) (u : eqb a.used 0 ≡ false) (l : limits a ≡ true) (g : alike d a ≡ true) where
   same-used : d.used ≡ a.used
   unfolding mate
-  same-used = bears-alike (key_of a) d a e (same-key-mate a a u l refl)
+  same-used = one-use (key_of a) d a e (same-key-mate a a u l refl)
 
-  record Alike : Type 0 where
-    count : d.count ≡ a.count
-    kind : d.kind ≡ a.kind
-    sequence : d.sequence ≡ a.sequence
-    order : d.order ≡ a.order
-    channel : d.channel ≡ a.channel
-
-  alike : Alike
-  unfolding agree
-  alike =
-      let g₁ = and_right (eqb d.count a.count) _ g in
-      let g₂ = and_right (eqb d.kind a.kind) _ g₁ in
-      let g₃ = and_right (eqb d.sequence a.sequence) _ g₂ in
-      record {
-        count = eqb-true _ _ (and_left (eqb d.count a.count) _ g);
-        kind = eqb-true _ _ (and_left (eqb d.kind a.kind) _ g₁);
-        sequence = eqb-true _ _ (and_left (eqb d.sequence a.sequence) _ g₂);
-        order = eqb-true _ _ (and_left (eqb d.order a.order) _ g₃);
-        channel = eqb-true _ _ (and_right (eqb d.order a.order) _ g₃);
-      }
+  same : Alike d a
+  same = alike-told d a g
 
   like-limits : (ltb d.index d.count && (leb d.length cell_bytes && ltb d.id numbers16)) ≡ true → limits d ≡ true
   unfolding limits
   like-limits f =
-      rw (same-used, alike.kind, alike.channel, alike.sequence, alike.order, alike.count)
+      rw (same.age, same-used, same.kind, same.channel, same.sequence, same.order, same.count)
       (swap (leb a.used 3) _ _ l (λ l. swap (leb a.kind 7) _ _ l
       (λ l. swap (ltb a.channel max_ord_chans) _ _ l (λ l. swap (ltb a.sequence numbers24) _ _ l
       (λ l. swap (ltb a.order numbers24) _ _ l
-      (λ l. swap (leb 1 a.count) _ _ l (λ l. swap (leb a.count max_frags) _ _ l (λ l. rw alike.count at f))))))))
+      (λ l. swap (leb 1 a.count) _ _ l (λ l. swap (leb a.count max_frags) _ _ l
+      (λ l. own (ltb d.index a.count) _ _ l (rw same.count at f)))))))))
+    where
+      own : (i n m : Bool) → (ltb a.index a.count && (leb a.length cell_bytes && (ltb a.id numbers16 && leb (age_of a) max_age))) ≡ true
+          → (i && (n && m)) ≡ true → (i && (n && (m && leb (age_of a) max_age))) ≡ true
+      own i n m l f =
+          let g = and_right i _ f in
+          let aged = and_right (ltb a.id numbers16) _ (and_right (leb a.length cell_bytes) _ (and_right (ltb a.index a.count) _ l)) in
+          and_both i _ (and_left i _ f) (and_both n _ (and_left n _ g) (and_both m _ (and_right n _ g) aged))
 
   like-ahead : ahead_of_next next a ≡ true → ahead_of_next next d ≡ true
   unfolding ahead_of_next
-  like-ahead f = rw (same-used, alike.order, alike.channel) f
+  like-ahead f = rw (same-used, same.order, same.channel) f
 
   like-due : (m : ℕ) → Due a m → Due d m
-  like-due m f = rw (same-used, alike.count) f
+  like-due m f = rw (same-used, same.count) f
 
 module _ (rows : List Row) (next : ℕ → ℕ) where
   abbrev Used : ℕ → Type 0
@@ -95,7 +86,7 @@ module _ (rows : List Row) (next : ℕ → ℕ) where
     limit : limits (cell_at rows k) ≡ true
     over : ahead_of_next next (cell_at rows k) ≡ true
     key : key_of (cell_at rows k) ≡ key_of (cell_at rows i)
-    like : agree (cell_at rows k) (cell_at rows i) ≡ true
+    like : alike (cell_at rows k) (cell_at rows i) ≡ true
     due : Due (cell_at rows k) m
 
   module _ (i e : ℕ) (run : MessageRun rows i e) (u : Used i)
@@ -107,7 +98,7 @@ module _ (rows : List Row) (next : ℕ → ℕ) where
       limit = and_left (limits (cell_at rows i)) _ alone;
       over = and_right (limits (cell_at rows i)) _ alone;
       key = refl;
-      like = agree-own (cell_at rows i);
+      like = alike-own (cell_at rows i);
       due = due;
     }
 
@@ -119,15 +110,15 @@ module _ (rows : List Row) (next : ℕ → ℕ) where
         let g = and_right (not (eqb a.count 1)) _ (run.step t l h) in
         let m = and_left (mate a d) _ g in
         let g₁ = and_right (mate a d) _ g in
-        let like = and_left (agree d a) _ g₁ in
-        let g₂ = and_right (not (eqb a.used 0)) _ (and_right (agree d a) _ g₁) in
+        let like = and_left (alike d a) _ g₁ in
+        let g₂ = and_right (not (eqb a.used 0)) _ (and_right (alike d a) _ g₁) in
         record {
           used = mate-used a d m;
           limit = like-limits next a d m p.used p.limit like (and_right (ltb a.index d.index) _ g₂);
           over = like-ahead next a d m p.used p.limit like p.over;
           key = mate-key a d m ∙ p.key;
-          like = agree-through d (cell_at rows i) a like
-              (agree-through (cell_at rows i) a (cell_at rows i) (agree-own (cell_at rows i)) p.like);
+          like = alike-through d (cell_at rows i) a like
+              (alike-through (cell_at rows i) a (cell_at rows i) (alike-own (cell_at rows i)) p.like);
           due = like-due next a d m p.used p.limit like (e - i) p.due;
         }
 
@@ -144,7 +135,7 @@ module _ (rows : List Row) (next : ℕ → ℕ) where
         let a = cell_at rows t in
         let d = cell_at rows (t + 1) in
         let g = and_right (mate a d) _ (and_right (not (eqb a.count 1)) _ (run.step t l h)) in
-        ltb-true _ _ (and_left (ltb a.index d.index) _ (and_right (not (eqb a.used 0)) _ (and_right (agree d a) _ g)))
+        ltb-true _ _ (and_left (ltb a.index d.index) _ (and_right (not (eqb a.used 0)) _ (and_right (alike d a) _ g)))
 
     rise : (p q : ℕ) → i ≤ p → p < q → q < e → (cell_at rows p).index < (cell_at rows q).index
     rise p q l h g = climb (λ t. (cell_at rows t).index) i (e - 1) (λ t a c. risen t a (omega arith)) p q l h (omega arith)
@@ -261,7 +252,7 @@ module _ (rows : List Row) (next : ℕ → ℕ) where
             (λ y. cases (ltb i j)
             (λ z. absurd (omega (arith, b.rise i j b.low (ltb-true i j z) r.1, q)))
             (λ z. omega (arith, ltb-false j i y, ltb-false i j z)));
-        like = λ j h e. let r = mates j h e in agree-through (cell_at rows i) (cell_at rows j) (cell_at rows b.from) own.like
+        like = λ j h e. let r = mates j h e in alike-through (cell_at rows i) (cell_at rows j) (cell_at rows b.from) own.like
             (b.piece j r.0 r.1).like;
         mates = b.to - b.from;
         counted = count-span (λ j. mate (cell_at rows i) (cell_at rows j)) b.from b.to (length rows) (omega (arith, b.low, b.high))

@@ -11,7 +11,7 @@ use borrow.Author.Tests.{leb-true, eqb-true, eqb-false, eq-eqb}
 use Rattle.base.specs.Lists.{count_of}
 use Rattle.base.proofs.Choices.{cases, and_left, and_right, and_both}
 use Rattle.cells.specs.Cell.{Cell, bears, at}
-use Rattle.cells.specs.Sound.{key_of, limits, agree, sound_cells}
+use Rattle.cells.specs.Sound.{key_of, limits, alike, sound_cells}
 use Rattle.rows.specs.declared.Row.{Row}
 use Rattle.rows.specs.Rows.{cells_in}
 use Rattle.sound_cells.specs.Counted.{mate, twin, unlike, all_mates, ahead_of_next, counted_cell}
@@ -56,43 +56,14 @@ pub same-key-mate : (c d : Cell) → eqb d.used 0 ≡ false → limits d ≡ tru
 unfolding mate
 same-key-mate c d u l e = rw (← e) (own_key d u l)
 
--- A cell agrees with itself, and cells that agree with one cell agree.
-pub agree-own : (c : Cell) → agree c c ≡ true
-unfolding agree
-agree-own c = and_both _ _ (eq-eqb c.count _ refl) (and_both _ _ (eq-eqb c.kind _ refl)
-    (and_both _ _ (eq-eqb c.sequence _ refl) (and_both _ _ (eq-eqb c.order _ refl) (eq-eqb c.channel _ refl))))
-
-pub agree-through : (c d e : Cell) → agree c e ≡ true → agree d e ≡ true → agree c d ≡ true
-unfolding agree
-agree-through c d e p q =
-    let p₁ = and_right (eqb c.count e.count) _ p in
-    let p₂ = and_right (eqb c.kind e.kind) _ p₁ in
-    let p₃ = and_right (eqb c.sequence e.sequence) _ p₂ in
-    let q₁ = and_right (eqb d.count e.count) _ q in
-    let q₂ = and_right (eqb d.kind e.kind) _ q₁ in
-    let q₃ = and_right (eqb d.sequence e.sequence) _ q₂ in
-    and_both _ _ (through c.count d.count e.count (and_left (eqb c.count e.count) _ p)
-    (and_left (eqb d.count e.count) _ q))
-    (and_both _ _ (through c.kind d.kind e.kind (and_left (eqb c.kind e.kind) _ p₁)
-    (and_left (eqb d.kind e.kind) _ q₁))
-    (and_both _ _ (through c.sequence d.sequence e.sequence (and_left (eqb c.sequence e.sequence) _ p₂)
-    (and_left (eqb d.sequence e.sequence) _ q₂))
-    (and_both _ _ (through c.order d.order e.order (and_left (eqb c.order e.order) _ p₃)
-    (and_left (eqb d.order e.order) _ q₃))
-    (through c.channel d.channel e.channel (and_right (eqb c.order e.order) _ p₃)
-    (and_right (eqb d.order e.order) _ q₃)))))
-  where
-    through : (a b x : ℕ) → eqb a x ≡ true → eqb b x ≡ true → eqb a b ≡ true
-    through a b x s t = eq-eqb a b (eqb-true _ _ s ∙ sym (eqb-true _ _ t))
-
--- Of a used row i: it is within the limits; no other row has its message and index; the rows of its message agree with it, and are as many
+-- Of a used row i: it is within the limits; no other row has its message and index; the rows of its message are like it, and are as many
 -- as they must be.
 module _ (rows : List Row) (next : ℕ → ℕ) where
   pub record Passing (i : ℕ) : Type 0 where
     pub limit : limits (cell_at rows i) ≡ true
     pub over : ahead_of_next next (cell_at rows i) ≡ true
     pub alone : (j : ℕ) → j < length rows → twin (cell_at rows i) (cell_at rows j) ≡ true → j ≡ i
-    pub like : (j : ℕ) → j < length rows → mate (cell_at rows i) (cell_at rows j) ≡ true → agree (cell_at rows i) (cell_at rows j) ≡ true
+    pub like : (j : ℕ) → j < length rows → mate (cell_at rows i) (cell_at rows j) ≡ true → alike (cell_at rows i) (cell_at rows j) ≡ true
     pub mates : ℕ
     pub counted : count_below (λ j. mate (cell_at rows i) (cell_at rows j)) (length rows) ≡ mates
     pub due : cond (eqb (cell_at rows i).used 1) (not (eqb mates (cell_at rows i).count)) (eqb mates (cell_at rows i).count) ≡ true
@@ -103,7 +74,7 @@ module _ (rows : List Row) (next : ℕ → ℕ) where
         (own-twin (cell_at rows i) u p.limit) p.alone
 
     like-bears : (j : ℕ) → j < length rows → bears (key_of (cell_at rows i)) (cell_at rows j) ≡ true
-        → agree (cell_at rows i) (cell_at rows j) ≡ true
+        → alike (cell_at rows i) (cell_at rows j) ≡ true
     unfolding mate
     like-bears = p.like
 

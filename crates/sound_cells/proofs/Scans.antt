@@ -2,7 +2,7 @@
 -- Assumes nothing.
 use Prim.Native.Nat.{ℕ, ◌+◌, ◌<◌, ◌≤◌}
 use mathlib.Core.Path.{◌≡◌, refl, ◌∙◌, ap}
-use mathlib.Core.Bool.{Bool, true, false, cond, ◌&&◌}
+use mathlib.Core.Bool.{Bool, ◌&&◌}
 use mathlib.Core.List.{List, [], ◌∷◌}
 use mir.Val.{bool_byte}
 use native.Mathlib.Omega.{arith}
@@ -14,7 +14,7 @@ use Rattle.cells.specs.Cell.{Cell}
 use Rattle.cells.specs.Sound.{sound_cells}
 use Rattle.rows.specs.declared.Row.{Row}
 use Rattle.rows.specs.Rows.{cells_in}
-use Rattle.rows.proofs.Tests.{count_none, count-step}
+use Rattle.rows.proofs.Tests.{byte-le, count_none, count-step}
 use Rattle.sound_cells.specs.declared.Tally.{Tally}
 use Rattle.sound_cells.specs.Counted.{mate, twin, unlike, mates_of, counted_cell}
 use Rattle.sound_cells.proofs.Counting.{counted-sound}
@@ -25,14 +25,6 @@ pub record Tallied (a : Cell) (rows : List Row) (i : ℕ) (t : Tally) : Type 0 w
   pub mates : t.mates ≡ count_of (mate a) (cells_in (take i rows))
   pub twins : t.twins ≡ count_of (twin a) (cells_in (take i rows))
   pub unlike : t.unlike ≡ count_of (unlike a) (cells_in (take i rows))
-
-byte-is : (b : Bool) → bool_byte b ≡ cond b 1 0
-byte-is true = refl
-byte-is false = refl
-
-byte-le : (b : Bool) → bool_byte b ≤ 1
-byte-le true = omega arith
-byte-le false = omega arith
 
 pub tally-starts : (a : Cell) (rows : List Row) (t : Tally) → t.mates ≡ 0 → t.twins ≡ 0 → t.unlike ≡ 0 → Tallied a rows 0 t
 tally-starts a rows t m n k = record {
@@ -50,9 +42,9 @@ pub tally-more : (a : Cell) (rows : List Row) (i : ℕ) (d : Row) {t : Tally} (h
     → Tallied a rows (i + 1) (record { mates = t.mates + m; twins = t.twins + n; unlike = t.unlike + k })
 tally-more a rows i d h l {x} {y} {z} e f g m n k = record {
   few = (omega (arith, h.few.0, m, byte-le x), omega (arith, h.few.1, n, byte-le y), omega (arith, h.few.2, k, byte-le z));
-  mates = count-step (mate a) rows i d l e (m ∙ byte-is x) h.mates;
-  twins = count-step (twin a) rows i d l f (n ∙ byte-is y) h.twins;
-  unlike = count-step (unlike a) rows i d l g (k ∙ byte-is z) h.unlike;
+  mates = count-step (mate a) rows i d l e m h.mates;
+  twins = count-step (twin a) rows i d l f n h.twins;
+  unlike = count-step (unlike a) rows i d l g k h.unlike;
 }
 
 pub tally-end : (a : Cell) (rows : List Row) (i : ℕ) {t : Tally} → Tallied a rows i t → length rows ≤ i → t ≡ mates_of (cells_in rows) a

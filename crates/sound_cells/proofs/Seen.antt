@@ -1,7 +1,7 @@
 -- What is known of the keys that occurred: a fresh one is none of them.
 -- Assumes nothing.
 use Prim.Native.Nat.{ℕ, max, ◌+◌, ◌%◌, ◌^◌, ◌<◌, ◌≤◌}
-use mathlib.Core.Path.{◌≡◌, refl, sym, ◌∙◌}
+use mathlib.Core.Path.{◌≡◌, refl, ◌∙◌}
 use mathlib.Core.Bool.{Bool, true, false, not}
 use mathlib.Core.List.{List}
 use native.Mathlib.Omega.{arith}

@@ -9,7 +9,7 @@ use borrow.Author.Tests.{eq-eqb, ne_eqb}
 use Rattle.base.specs.Lists.{count_of}
 use Rattle.base.proofs.Choices.{and_left, and_right}
 use Rattle.cells.specs.Cell.{Cell, at}
-use Rattle.cells.specs.Sound.{limits, agree}
+use Rattle.cells.specs.Sound.{limits, alike}
 use Rattle.sound_cells.specs.declared.Tally.{Tally}
 use Rattle.sound_cells.specs.Counted.{mate, twin, unlike, mates_of, all_mates, ahead_of_next, counted_cell}
 
@@ -18,7 +18,7 @@ module _ (a d : Cell) where
   unfolding twin mate at
   twin-is e = rw e
 
-  pub unlike-is : {m l : Bool} → m ≡ mate a d → l ≡ agree a d → (m && not l)
+  pub unlike-is : {m l : Bool} → m ≡ mate a d → l ≡ alike a d → (m && not l)
       ≡ unlike a d
   unfolding unlike mate
   unlike-is e f = rw (e, f)

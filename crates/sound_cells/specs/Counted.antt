@@ -3,7 +3,7 @@
 use Rattle.std.specs.Prelude.{ℕ, Bool, cond, not, ◌&&◌, ◌||◌, List, ltb, eqb}
 use Rattle.base.specs.Lists.{count_of}
 use Rattle.cells.specs.Cell.{Cell, bears, at, held_use, open_use, unused_use}
-use Rattle.cells.specs.Sound.{key_of, limits, agree}
+use Rattle.cells.specs.Sound.{key_of, limits, alike}
 use Rattle.sound_cells.specs.declared.Tally.{Tally}
 
 -- a cell of c's message
@@ -14,9 +14,9 @@ mate c d = bears (key_of c) d
 unfoldable pub twin : Cell → Cell → Bool
 twin c d = at (key_of c) c.index d
 
--- a cell of c's message that does not agree with c
+-- a cell of c's message that is not like c
 unfoldable pub unlike : Cell → Cell → Bool
-unlike c d = bears (key_of c) d && not (agree c d)
+unlike c d = bears (key_of c) d && not (alike c d)
 
 -- how many of each there are
 unfoldable pub mates_of : List Cell → Cell → Tally

@@ -4,7 +4,7 @@ use Rattle.std.specs.Prelude.{ℕ, ◌+◌, ◌*◌, ◌/◌, ◌%◌, ◌^◌, 
 use Rattle.base.specs.Limits.{numbers16, cell_bytes}
 use Rattle.window.specs.Places.{bit}
 use Rattle.cells.specs.Cell.{Cell, unused_use}
-use Rattle.cells.specs.Sound.{agree}
+use Rattle.cells.specs.Sound.{alike}
 use Rattle.sound_cells.specs.Counted.{mate}
 
 -- is bit n, of 64, set? the number with this bit set
@@ -30,7 +30,7 @@ is_fresh seen greatest key = ltb greatest key || not (has_bit (get_or seen (word
 unfoldable pub noted : List ℕ → ℕ → List ℕ
 noted seen key = set seen (word_of key) (with_bit (get_or seen (word_of key) 0) (mark_of key))
 
--- is d one more cell of the message of a, the cell before it? (Of the limits, those of which it is not known by agreement.)
+-- is d one more cell of the message of a, the cell before it? (Of the limits, those that do not follow from its being like a.)
 unfoldable pub message_goes_on : Cell → Cell → Bool
-message_goes_on a d = not (eqb a.count 1) && (mate a d && (agree d a && (not (eqb a.used unused_use) && (ltb a.index d.index
+message_goes_on a d = not (eqb a.count 1) && (mate a d && (alike d a && (not (eqb a.used unused_use) && (ltb a.index d.index
     && (ltb d.index d.count && (leb d.length cell_bytes && ltb d.id numbers16))))))

@@ -4,7 +4,7 @@ use Rattle.std.specs.Prelude.{ℕ, zero, suc, ◌+◌, ◌*◌, ◌/◌, ◌%◌
 use Rattle.base.specs.Limits.{max_cells, max_frags}
 use Rattle.base.specs.Lists.{below}
 use Rattle.cells.specs.Cell.{Cell, Key, open_as, held_as, ready_as, open_use, unused_use}
-use Rattle.cells.specs.Sound.{key_of, limits, agree}
+use Rattle.cells.specs.Sound.{key_of, limits, alike}
 use Rattle.rows.specs.declared.Row.{Row}
 use Rattle.rows.specs.Rows.{whole_row}
 use Rattle.sound_cells.specs.Counted.{mate, ahead_of_next}
@@ -53,13 +53,13 @@ all_rise es = below (length es - 1) (rises es)
 unfoldable pub is_own : List ℕ → ℕ → ℕ → Cell → Bool
 is_own es p i c = ltb p (length es) && (eqb (upper_at es p) (upper_part c) && eqb (row_number_at es p) i)
 
--- do the entries of c's message begin after place q, with one of a cell that agrees with c?
+-- do the entries of c's message begin after place q, with one of a cell that is like c?
 unfoldable pub is_led : List Row → List ℕ → ℕ → Cell → Bool
 is_led rows es q c =
     ltb q (length es - 1)
     && (not (eqb (key_at es q) (key_at es (q + 1)))
     && (eqb (key_at es (q + 1)) (key_part c)
-    && (mate c (cell_at rows (row_number_at es (q + 1))) && agree c (cell_at rows (row_number_at es (q + 1))))))
+    && (mate c (cell_at rows (row_number_at es (q + 1))) && alike c (cell_at rows (row_number_at es (q + 1))))))
 
 -- both, with the places noted for row i, and all that is asked of the cell alone
 unfoldable pub is_placed_entry : List Row → (ℕ → ℕ) → List ℕ → List Place → ℕ → Bool

@@ -11,7 +11,7 @@ ghost use Rattle.sound_cells.specs.Sorted.{key_part};
 
 use cells::CellRecord;
 use receiver::Channel;
-use row_tests::{agrees, is_held, is_open, is_ready};
+use row_tests::{age_of, is_held, is_like, is_open, is_ready};
 use rows::Row;
 
 mod order;
@@ -49,7 +49,9 @@ fn in_limits(c: &CellRecord) -> bool
                         & ((1 <= c.count)
                             & ((c.count <= base::MAX_FRAGS)
                                 & ((c.index < c.count)
-                                    & ((c.length <= CELL_BYTES) & (c.id < base::NUMBERS_16)))))))))
+                                    & ((c.length <= CELL_BYTES)
+                                        & ((c.id < base::NUMBERS_16)
+                                            & (age_of(c) <= base::MAX_AGE))))))))))
 }
 
 // Is d a cell of a's message?
@@ -78,7 +80,7 @@ fn key_part(c: &CellRecord) -> u64
     part % KEYS
 }
 
-// How many cells are of a cell's message, how many of them have its index, and how many do not agree with it.
+// How many cells are of a cell's message, how many of them have its index, and how many are not like it.
 #[derive(Clone, Copy, Debug, Default, PartialEq, Eq)]
 struct Tally {
     mates: usize,
@@ -96,7 +98,7 @@ fn count_mates(rows: &[Row], a: &CellRecord) -> Tally
         let mate = is_mate(a, d);
         t.mates += usize::from(mate);
         t.twins += usize::from(mate & (d.index == a.index));
-        t.unlike += usize::from(mate & !agrees(a, d));
+        t.unlike += usize::from(mate & !is_like(a, d));
     }
     t
 }

@@ -9,7 +9,7 @@ ghost use Rattle.sound_cells.specs.Ordered.{has_bit, with_bit, word_of, mark_of,
 
 use super::{CELL_BYTES, is_due, is_mate, is_within, key_part};
 use receiver::Channel;
-use row_tests::agrees;
+use row_tests::is_like;
 use rows::Row;
 
 mod entries;
@@ -72,7 +72,7 @@ fn goes_on(r: &Row, s: &Row) -> bool
         return false;
     }
     let mate = is_mate(a, d);
-    let like = agrees(d, a);
+    let like = is_like(d, a);
     mate & (like
         & ((a.used != cells::UNUSED)
             & ((a.index < d.index)

@@ -11,7 +11,7 @@ ghost use Rattle.rows.specs.Rows.{cells_in};
 ghost use Rattle.row_slots.specs.Slots.{is_placed, flushed, Fits, AllFit};
 ghost use Rattle.recv_steps.specs.Flush.{flushed_row, stored, settled, settled_rows};
 ghost use Rattle.recv_steps.specs.Frames.{number_in, Begun, Ran};
-ghost use Rattle.recv_steps.specs.Receives.{begun_rows};
+ghost use Rattle.recv_steps.specs.Receives.{begun_row, begun_rows};
 
 use crate::{Framed, Tally};
 use base::Refusal;
@@ -22,17 +22,17 @@ use window::ReliableWindow;
 
 pub mod receive;
 
-// What the frames begin with: all bodies stand in the store, and the ready messages' turns are 0, 1, 2, .. The next turn. (`as u32`: there
-// are at most 4,096 rows, which no type of a slice says.)
-#[tactic(auto, using(crate::proofs::Beginning::begins_rows, crate::proofs::Beginning::turn_few))]
+// What the frames begin with: the ready messages' turns are 0, 1, 2, .., all bodies stand in the store, and the open rows have grown older.
+// The next turn. (`as u32`: there are at most 4,096 rows, which no type of a slice says.)
+#[tactic(auto, using(crate::proofs::Beginning::begins_rows, crate::proofs::Changing::count_few))]
 fn begin(rows: &mut [Row]) -> u32
     requires { length rows.old ≤ max_cells }
     ensures turn { result ≡ count_of first_cell (cells_in rows.old) }
     ensures rows { rows.new ≡ begun_rows rows.old }
 {
     let turn = row_scans::count_first(rows);
-    clear_places(rows);
     row_ranks::renumber(rows);
+    begin_each(rows);
     turn as u32
 }
 
@@ -46,11 +46,23 @@ fn clear_place(r: &mut Row)
     }
 }
 
-fn clear_places(rows: &mut [Row])
-    ensures { rows.new ≡ map stored rows.old }
+// The row's body stands in the store, and an open row is older by this datagram.
+#[tactic(auto, using(crate::proofs::Beginning::begins), unfolding(crate::specs::Receives::begun_row))]
+fn begin_row(r: &mut Row)
+    ensures { r.new ≡ begun_row r.old }
+{
+    clear_place(r);
+    if r.cell.used == cells::OPEN {
+        *r = rows::older_row(*r);
+    }
+}
+
+// (One loop for both: the walk is most of what either costs.)
+fn begin_each(rows: &mut [Row])
+    ensures { rows.new ≡ map begun_row rows.old }
 {
     for r in rows.iter_mut() {
-        clear_place(r);
+        begin_row(r);
     }
 }
 

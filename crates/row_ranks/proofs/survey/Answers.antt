@@ -2,7 +2,7 @@ use mathlib.Core.Path.{refl, ◌∙◌}
 use native.Mathlib.Omega.{arith}
 use Rattle.row_ranks.proofs.Surveys.{survey-starts, survey-other, survey-ready, survey-ends, few-firsts}
 use Rattle.row_ranks.proofs.survey.Goals as goal
-use Rattle.row_ranks.proofs.survey.Goals.{then-is_used_as+then-is_new, else-is_used_as}
+use Rattle.row_ranks.proofs.survey.Goals.{then-is_used_as+then-new-r, else-is_used_as}
 
 pub loop-r-init : goal.loop-r-init
 loop-r-init c = survey-starts _ _ refl
@@ -12,8 +12,9 @@ with_turn-t-requires c = omega (arith, few-firsts _ c.loop-r.invariant c.loop-r.
 
 pub loop-r-preserved : goal.loop-r-preserved
 loop-r-preserved c = elim c.if-is_used_as.branch [
-  | then-is_used_as+then-is_new w ↦ survey-ready _ c.loop-r.invariant _ c.loop-r-test.true c.is_used_as.ensures c.requires.0
-      w.if-is_used_as.true w.is_new.ensures.is w.if-is_new.true (w.marks-is ∙ w.is_new.ensures.marks) (w.t-is ∙ w.with_turn-t.ensures)
+  | then-is_used_as+then-new-r w ↦ survey-ready _ c.loop-r.invariant _ c.loop-r-test.true c.is_used_as.ensures c.requires.0
+      w.if-is_used_as.true w.is_new-new.ensures.is w.if-new-r.true (w.marks-is ∙ w.is_new-new.ensures.marks)
+      (w.t-is ∙ w.with_turn-t.ensures)
   | else-is_used_as w ↦ rw (w.marks-is, w.t-is)
       (survey-other _ c.loop-r.invariant _ c.loop-r-test.true c.is_used_as.ensures w.if-is_used_as.false)
 ]

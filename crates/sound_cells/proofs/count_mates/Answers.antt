@@ -7,7 +7,7 @@ loop-r-init c = let z = c.default-t.ensures in tally-starts _ _ c.default-t.resu
 
 pub loop-r-preserved : goal.loop-r-preserved
 loop-r-preserved c = let m = c.is_mate-mate.ensures in
-    tally-more _ _ _ _ c.loop-r.invariant c.loop-r-test.true m (twin-is _ _ m) (unlike-is _ _ m c.agrees.ensures) c.from.ensures
+    tally-more _ _ _ _ c.loop-r.invariant c.loop-r-test.true m (twin-is _ _ m) (unlike-is _ _ m c.is_like.ensures) c.from.ensures
     c.from-in-loop-r.ensures c.from-in-loop-r-2.ensures
 
 pub returns : goal.returns

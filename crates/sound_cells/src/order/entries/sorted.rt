@@ -12,7 +12,7 @@ use super::{Place, key, prepare, row_number, upper, upper_part};
 use crate::{FEW, MANY, SOME, by_pairs, is_due, is_mate, is_within, key_part};
 use cells::CellRecord;
 use receiver::Channel;
-use row_tests::agrees;
+use row_tests::is_like;
 use rows::Row;
 
 mod tiers;
@@ -38,7 +38,7 @@ fn is_own(entries: &[u64], p: usize, i: usize, c: &CellRecord) -> bool
     (p < entries.len()) & ((upper(own) == part) & (row_number(own) == i))
 }
 
-// Do the entries of the cell's message begin after place q, with one of a cell that agrees with it?
+// Do the entries of the cell's message begin after place q, with one of a cell that is like it?
 #[tactic(auto, unfolding(crate::specs::Sorted::is_led, crate::specs::Sorted::cell_at))]
 fn is_led(rows: &[Row], entries: &[u64], q: usize, c: &CellRecord) -> bool
     ensures { result ≡ is_led rows.now entries.now q c.now }
@@ -49,7 +49,7 @@ fn is_led(rows: &[Row], entries: &[u64], q: usize, c: &CellRecord) -> bool
         let part = key_part(c);
         let d = rows::whole_row(rows, row_number(first)).cell;
         let mate = is_mate(c, &d);
-        let like = agrees(c, &d);
+        let like = is_like(c, &d);
         return (before != key(first)) & ((key(first) == part) & (mate & like));
     }
     false

@@ -1,7 +1,0 @@
-use Rattle.std.proofs.Common.{rules}
-use Rattle.std.proofs.lemmas.List.Edits.{map_over_more}
-use Rattle.recv_steps.specs.Flush.{stored}
-use Rattle.recv_steps.proofs.steps.datagram.clear_places.Goals as goal
-
-pub loop-r-preserved : goal.loop-r-preserved
-loop-r-preserved c = search (rules, map_over_more stored)
