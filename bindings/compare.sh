@@ -4,7 +4,8 @@
 # Builds the static libraries (libraries.sh) and the program `trace` (`rt run` in crates/trace), then with gcc and rustc the C and the Rust
 # programs of this folder, all under target/bindings.
 # fields.c and fields.rs make every call and must both print fields.txt. The examples of README.md must print the same. replay.c and
-# replay.rs must print, byte for byte, what `trace` prints on each recording (crates/trace/stdin where none is named).
+# replay.rs must print, byte for byte, what `trace` prints on each recording (crates/trace/stdin where none is named); so must replay.c
+# where it stops after every 5 datagrams, saves the receiver, and goes on from the image.
 set -eu
 HERE=$(cd "$(dirname "$0")" && pwd)
 ROOT=$(dirname "$HERE")
@@ -42,4 +43,14 @@ for recording; do
     cmp "$B/trace.txt" "$B/replay_$language.txt"
   done
   echo "replay: trace, C and Rust print the same, $(wc -l < "$B/trace.txt") lines, on $recording"
+  FROM=-
+  PARTS=0
+  : > "$B/parts.txt"
+  while "$B/replay_c" "$FROM" "$B/image" 5 > "$B/part.txt" && [ -s "$B/part.txt" ]; do
+    cat "$B/part.txt" >> "$B/parts.txt"
+    FROM="$B/image"
+    PARTS=$((PARTS + 1))
+  done < "$recording"
+  cmp "$B/trace.txt" "$B/parts.txt"
+  echo "replay: the same in $PARTS parts, each resumed from the image that the one before saved"
 done

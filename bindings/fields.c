@@ -186,6 +186,10 @@ static struct {
     uint8_t after[4];
 } lent;
 static uint8_t store[STORE], joined[STORE];
+static uint8_t image[POGHDUKA_IMAGE_BYTES + CELLS * POGHDUKA_IMAGE_CELL_BYTES];
+
+/* Where an image has its unsent acknowledgements, and how long it is here. */
+enum { UNSENT_AT = 1076, WHOLE = 1273 };
 
 static void made(size_t store_len, uint32_t profile) {
     if (done("make", poghduka_make_new(&lent.queue, lent.records, CELLS, store, store_len, profile)))
@@ -378,6 +382,51 @@ static void unfinished(uint32_t profile) {
     dropped(STORE, 0);
 }
 
+static void saved(size_t store_len, size_t room) {
+    PoghdukaQueueSaved s = poghduka_save(&lent.queue, lent.records, CELLS, store, store_len, image, room);
+    if (!done("save", s.number))
+        return;
+    printf("of %zu\n", s.len);
+    for (size_t at = UNSENT_AT; at < s.len; at += 64)
+        show_bytes(image + at, s.len - at < 64 ? s.len - at : 64);
+}
+
+static void restored(size_t cells, size_t len) {
+    size_t store_len = cells * POGHDUKA_CELL_BYTES;
+    if (done("restore", poghduka_restore(&lent.queue, lent.records, cells, store, store_len, image, len)))
+        printf("ok\n");
+}
+
+/* An open piece, a held message and a ready one. The receiver is saved, made anew and restored; refused restores change nothing. */
+static void images(uint32_t profile) {
+    PoghdukaFrame open = {.kind = 0, .piece = true, .meta = {3, 0x0a0b, 1}}, held = {.kind = 3, .order = 0x010203, .channel = 5};
+    made(STORE, profile);
+    poghduka_write_head(out, sizeof out, 0);
+    received(out, add(add(4, open, "open"), held, "held"));
+    poghduka_write_head(out, sizeof out, 2);
+    received(out, add(4, (PoghdukaFrame){.kind = 1, .sequence = 7, .order = 6, .channel = 31}, "ready"));
+    saved(STORE - 1, sizeof image);
+    saved(STORE, WHOLE - 1);
+    saved(STORE, sizeof image);
+    made(STORE, POGHDUKA_CONSOLE);
+    memset(store, 0, sizeof store);
+    restored(0, WHOLE);
+    restored(CELLS, WHOLE - 1);
+    restored(CELLS, WHOLE + 1);
+    restored(CELLS - 1, WHOLE);
+    image[11] += 2;
+    restored(CELLS, WHOLE);
+    image[11] -= 2;
+    state();
+    restored(CELLS, WHOLE);
+    state();
+    taken(STORE);
+    taken(STORE);
+    missing(sizeof out);
+    unsent(sizeof out);
+    saved(STORE, sizeof image);
+}
+
 /* A number that is no profile's is refused by 9, with 0 beside it and nothing written; a line is printed only where it is not. (In Rust no
  * call takes such a number.) */
 static void no_profile(uint32_t profile) {
@@ -408,6 +457,8 @@ int main(void) {
     cpp_receiving();
     unfinished(POGHDUKA_CONSOLE);
     unfinished(POGHDUKA_CPP);
+    images(POGHDUKA_CONSOLE);
+    images(POGHDUKA_CPP);
     no_profile(2);
     no_profile(256);
     no_profile(UINT32_MAX);

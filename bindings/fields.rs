@@ -7,6 +7,10 @@ use poghduka::*;
 const CELLS: usize = 3;
 const STORE: usize = CELLS * CELL_BYTES;
 
+/// Where an image has its unsent acknowledgements, and how long it is in `images`.
+const UNSENT_AT: usize = 1076;
+const WHOLE: usize = 1273;
+
 fn hex(s: &[u8]) -> String {
     s.iter().map(|b| format!("{b:02x}")).collect()
 }
@@ -190,6 +194,18 @@ impl Receiver {
         line("missing", write_missing(&self.queue, out), |s| format!("{}\nof {}", hex(&s[..s.len().min(64)]), s.len()));
     }
 
+    fn saved(&self, store_len: usize, image: &mut [u8]) {
+        line("save", save(&self.queue, &self.records, &self.store[..store_len], image), |s| {
+            let lines: String = s[UNSENT_AT..].chunks(64).map(|part| format!("\n{}", hex(part))).collect();
+            format!("of {}{lines}", s.len())
+        });
+    }
+
+    fn restored(&mut self, cells: usize, image: &[u8]) {
+        let (records, store) = (&mut self.records[..cells], &mut self.store[..cells * CELL_BYTES]);
+        line("restore", restore(&mut self.queue, records, store, image), |()| "ok".into());
+    }
+
     fn state(&self) {
         let q = &self.queue;
         let next: String = q.channels.iter().map(|c| format!(" {}", c.next)).collect();
@@ -344,6 +360,43 @@ fn unfinished(receiver: &mut Receiver, profile: Profile, out: &mut [u8]) {
     receiver.dropped(STORE, 0);
 }
 
+/// An open piece, a held message and a ready one. The receiver is saved, made anew and restored; refused restores change nothing.
+fn images(receiver: &mut Receiver, profile: Profile, out: &mut [u8]) {
+    let meta = FragmentMeta { count: 3, id: 0x0a0b, index: 1 };
+    let open = Frame { kind: 0, piece: true, meta, ..Frame::default() };
+    let held = Frame { kind: 3, order: 0x010203, channel: 5, ..Frame::default() };
+    let ready = Frame { kind: 1, sequence: 7, order: 6, channel: 31, ..Frame::default() };
+    let mut image = [0; IMAGE_BYTES + CELLS * IMAGE_CELL_BYTES];
+    receiver.made(STORE, profile);
+    write_head(out, 0).expect("a head is written");
+    let at = add(profile, out, 4, open, b"open");
+    let end = add(profile, out, at, held, b"held");
+    receiver.received(&out[..end]);
+    write_head(out, 2).expect("a head is written");
+    let end = add(profile, out, 4, ready, b"ready");
+    receiver.received(&out[..end]);
+    receiver.saved(STORE - 1, &mut image);
+    receiver.saved(STORE, &mut image[..WHOLE - 1]);
+    receiver.saved(STORE, &mut image);
+    receiver.made(STORE, Console);
+    receiver.store.fill(0);
+    receiver.restored(0, &image[..WHOLE]);
+    receiver.restored(CELLS, &image[..WHOLE - 1]);
+    receiver.restored(CELLS, &image[..WHOLE + 1]);
+    receiver.restored(CELLS - 1, &image[..WHOLE]);
+    image[11] += 2;
+    receiver.restored(CELLS, &image[..WHOLE]);
+    image[11] -= 2;
+    receiver.state();
+    receiver.restored(CELLS, &image[..WHOLE]);
+    receiver.state();
+    receiver.taken(STORE);
+    receiver.taken(STORE);
+    receiver.missing(out);
+    receiver.unsent(out);
+    receiver.saved(STORE, &mut image);
+}
+
 fn main() {
     let mut out = [0xee; LIST_BYTES];
     let mut receiver = Receiver { queue: RecvQueue::BLANK, records: [CellRecord::UNUSED; CELLS], store: [0; STORE], joined: [0; STORE] };
@@ -356,4 +409,6 @@ fn main() {
     cpp_receiving(&mut receiver, &mut out);
     unfinished(&mut receiver, Console, &mut out);
     unfinished(&mut receiver, Cpp, &mut out);
+    images(&mut receiver, Console, &mut out);
+    images(&mut receiver, Cpp, &mut out);
 }

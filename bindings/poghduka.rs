@@ -21,12 +21,15 @@ pub const MAX_BODY: usize = 8191;
 pub const HEAD_BYTES: usize = 4;
 /// How many numbers a window can lack.
 pub const MAX_MISSING: usize = 2048;
-/// Outputs that always have room: for the unsent, for the missing, and for any list.
+/// Outputs that always have room: for the unsent, for the missing, for any list,
 pub const UNSENT_BYTES: usize = 4099;
 pub const MISSING_BYTES: usize = 4784;
 pub const LIST_BYTES: usize = 8195;
+/// and for an image: so many, and so many more for each cell in use.
+pub const IMAGE_BYTES: usize = 9284;
+pub const IMAGE_CELL_BYTES: usize = 1572;
 
-/// The number of a refusal, 1 to 20.
+/// The number of a refusal, 1 to 22.
 #[derive(Clone, Copy, Debug, PartialEq, Eq)]
 pub struct Refused(pub u32);
 
@@ -186,6 +189,24 @@ pub fn write_unsent<'a>(queue: &mut RecvQueue, out: &'a mut [u8]) -> Result<&'a 
 pub fn write_missing<'a>(queue: &RecvQueue, out: &'a mut [u8]) -> Result<&'a [u8], Refused> {
     let w = unsafe { linked::poghduka_write_missing(queue, out.as_mut_ptr(), out.len()) };
     refused(w.number, &out[..w.len])
+}
+
+/// An image of the receiver, with all that its cells hold. Receivers that hold the same have the same image, wherever their cells lie.
+/// Refusals: 9, 12.
+pub fn save<'a>(queue: &RecvQueue, records: &[CellRecord], store: &[u8], out: &'a mut [u8]) -> Result<&'a [u8], Refused> {
+    let (cells, bytes, room) = (records.len(), store.len(), out.len());
+    let s = unsafe { linked::poghduka_save(queue, records.as_ptr(), cells, store.as_ptr(), bytes, out.as_mut_ptr(), room) };
+    refused(s.number, &out[..s.len])
+}
+
+/// Restores the receiver of an image, whatever receiver and records held before; there may be more or fewer cells than the saved receiver
+/// had. Of the store only the bodies are written. Refusals: 9 (for the lengths alone), 21, 22.
+pub fn restore(queue: &mut RecvQueue, records: &mut [CellRecord], store: &mut [u8], image: &[u8]) -> Result<(), Refused> {
+    let (cells, bytes) = (records.len(), store.len());
+    let number = unsafe {
+        linked::poghduka_restore(queue, records.as_mut_ptr(), cells, store.as_mut_ptr(), bytes, image.as_ptr(), image.len())
+    };
+    refused(number, ())
 }
 
 // ---- frames and a datagram's head
@@ -358,6 +379,12 @@ mod linked {
     }
 
     #[repr(C)]
+    pub struct QueueSaved {
+        pub number: u32,
+        pub len: usize,
+    }
+
+    #[repr(C)]
     #[derive(Clone, Copy)]
     pub struct Placed {
         pub frame: Frame,
@@ -454,6 +481,24 @@ mod linked {
         ) -> QueueDropped;
         pub fn poghduka_write_unsent(queue: *mut RecvQueue, out: *mut u8, out_len: usize) -> AckWritten;
         pub fn poghduka_write_missing(queue: *const RecvQueue, out: *mut u8, out_len: usize) -> AckWritten;
+        pub fn poghduka_save(
+            queue: *const RecvQueue,
+            records: *const CellRecord,
+            cells: usize,
+            store: *const u8,
+            store_len: usize,
+            out: *mut u8,
+            out_len: usize,
+        ) -> QueueSaved;
+        pub fn poghduka_restore(
+            queue: *mut RecvQueue,
+            records: *mut CellRecord,
+            cells: usize,
+            store: *mut u8,
+            store_len: usize,
+            image: *const u8,
+            image_len: usize,
+        ) -> u32;
 
         pub fn poghduka_read_frames(profile: u32, s: *const u8, len: usize, at: usize) -> FramesFound;
         pub fn poghduka_read_frame(profile: u32, s: *const u8, len: usize, at: usize) -> FrameFound;

@@ -2,7 +2,7 @@
  *
  * Three static libraries have them. Each stands alone, and needs memcpy and memset:
  *
- *     exports_queue     the receiver: make_new, receive, take, drop_unfinished, write_unsent, write_missing
+ *     exports_queue     the receiver: make_new, receive, take, drop_unfinished, write_unsent, write_missing, save, restore
  *     exports_frames    frames and a datagram's head: read_frames, read_frame, write_frame, write_head
  *     exports           windows, ACKs and splits: window_*, write_list, read_ack_*, split_piece
  *
@@ -20,7 +20,8 @@
  * Memory that a call may write overlaps nothing else that the same call is lent.
  * A bool is 0 or 1. The padding of a returned struct has no meaning.
  *
- * Stack, measured and not proved: up to 10,000 bytes a call where the receiver has at most 32 cells, up to 300,000 where it has more.
+ * Stack, measured and not proved: up to 10,000 bytes a call where the receiver has at most 32 cells (a restore up to 30,000), up to 300,000
+ * where it has more.
  *
  * Refusals. A refused call changes nothing that it was lent. It returns its number, and 0 in every field beside the number (only a window
  * insert returns the window as it was). Each number is given exactly on its condition, the first in the order that stands at the call.
@@ -62,7 +63,9 @@ enum {
     POGHDUKA_FITS_ONE_CHUNK = 17,  /* the data needs no split */
     POGHDUKA_TOO_MANY_PIECES = 18, /* more than 1,024 pieces */
     POGHDUKA_BEYOND_LAST = 19,     /* there is no piece k */
-    POGHDUKA_NONE_READY = 20       /* no message is ready */
+    POGHDUKA_NONE_READY = 20,      /* no message is ready */
+    POGHDUKA_BAD_FORM = 21,        /* an image that is cut off, or has bytes after its last section */
+    POGHDUKA_NOT_RESTORABLE = 22   /* an image that no receiver of these calls has, or that needs more cells than are lent */
 };
 
 /* ---- profiles: who sends. A receiver is made for one and keeps it; frames are read and written under one. */
@@ -83,7 +86,9 @@ enum {
     POGHDUKA_MAX_MISSING = 2048,   /* numbers that a window can lack */
     POGHDUKA_UNSENT_BYTES = 4099,  /* an output that always has room for the unsent, */
     POGHDUKA_MISSING_BYTES = 4784, /* for the missing, */
-    POGHDUKA_LIST_BYTES = 8195     /* and for any list */
+    POGHDUKA_LIST_BYTES = 8195,    /* for any list, */
+    POGHDUKA_IMAGE_BYTES = 9284,   /* and for an image: so many, */
+    POGHDUKA_IMAGE_CELL_BYTES = 1572 /* and so many more for each cell in use */
 };
 
 /* ---- the receiver: library exports_queue */
@@ -156,6 +161,11 @@ typedef struct {
     size_t len;
 } PoghdukaAckWritten;
 
+typedef struct {
+    uint32_t number;
+    size_t len; /* of the image, from the output's start on */
+} PoghdukaQueueSaved;
+
 /* A new receiver of `cells` cells for a profile, whatever memory held before. `store_len` is 1,500 times `cells`, also in every later call.
  * Refusals: 9. */
 uint32_t poghduka_make_new(PoghdukaRecvQueue *queue, PoghdukaCellRecord *records, size_t cells, const uint8_t *store,
@@ -181,6 +191,16 @@ PoghdukaAckWritten poghduka_write_unsent(PoghdukaRecvQueue *queue, uint8_t *out,
 
 /* The datagram numbers missing, as a NACK. Refusals: 9, 12. */
 PoghdukaAckWritten poghduka_write_missing(const PoghdukaRecvQueue *queue, uint8_t *out, size_t out_len);
+
+/* Writes an image of the receiver, with all that its cells hold; nothing else is changed. Receivers that hold the same have the same image,
+ * wherever their cells lie. Refusals: 9, 12. */
+PoghdukaQueueSaved poghduka_save(const PoghdukaRecvQueue *queue, const PoghdukaCellRecord *records, size_t cells, const uint8_t *store,
+                                 size_t store_len, uint8_t *out, size_t out_len);
+
+/* Restores the receiver of an image, whatever receiver and records held before; `cells` may differ from the saved receiver's. Of the store
+ * only the bodies are written. Refusals: 9 (for the lengths alone), 21, 22. */
+uint32_t poghduka_restore(PoghdukaRecvQueue *queue, PoghdukaCellRecord *records, size_t cells, uint8_t *store, size_t store_len,
+                          const uint8_t *image, size_t image_len);
 
 /* ---- frames and a datagram's head: library exports_frames */
 
@@ -351,6 +371,9 @@ POGHDUKA_FIELD(PoghdukaQueueDropped, freed, 4);
 
 POGHDUKA_SIZE(PoghdukaAckWritten, 16);
 POGHDUKA_FIELD(PoghdukaAckWritten, len, 8);
+
+POGHDUKA_SIZE(PoghdukaQueueSaved, 16);
+POGHDUKA_FIELD(PoghdukaQueueSaved, len, 8);
 
 POGHDUKA_SIZE(PoghdukaFragmentMeta, 12);
 POGHDUKA_FIELD(PoghdukaFragmentMeta, id, 4);

@@ -12,7 +12,7 @@ for crate in $crates; do
   cp -a "crates/$crate" "$copy/crates/"
   grep "^$crate:" crates.txt >> "$copy/crates.txt"
 done
-for kind in cells bytes sound values; do
+for kind in cells bytes sound values images; do
   target/model/model examples "$kind" "$1" "$2" > "$copy/crates/examples/proofs/${kind^}.antt"
 done
 cd "$copy/crates/examples"

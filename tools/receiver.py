@@ -1,15 +1,16 @@
 #!/usr/bin/env python3
-"""A receiver of its own, written from the sentences of document 01 and of document 02's requests 1, 2 and 4, and not from the crates: it
-makes the stored input and the expected output of the programs trace and calls.
+"""A receiver of its own, written from the sentences of document 01 and of document 02's requests 1, 2, 4 and 5, and not from the crates: it
+makes the stored input and the expected output of the programs trace and calls. Images are image.py's.
 
   receiver.py recording FILE      a recording for trace (datagrams, each after a 16-bit big-endian length)
   receiver.py list FILE SEED N    a list for calls: N random ones to a console receiver, half as many to a C++ one, among both levers that
-                                  come late; then new receivers in mid list; then previews that lack pieces, and drops of them (stored:
-                                  seed 26, 700 calls)
+                                  come late; then new receivers in mid list; then previews that lack pieces, and drops of them; then images
+                                  saved and restored, whole and damaged (stored: seed 26, 700 calls)
   receiver.py trace FILE          what trace prints for the recording
   receiver.py calls FILE          what calls prints for the list
 """
 import copy, random, sys
+import image
 
 CELL, REACH, TOP = 1500, 2048, 1 << 24
 CONSOLE, CPP = 0, 1
@@ -84,7 +85,8 @@ class State:
         # the highest sequence number made ready: of kind 1 by channel; of kind 4 under None, in C++ by channel too ("its channel's memory")
         self.newest = {}
         self.line = []  # ready and not yet taken: kind, channel, order number, bodies
-        self.history = []  # of each accepted datagram, the ids that a piece was kept for
+        self.history = []  # of each accepted datagram since the last restore, the ids that a piece was kept for
+        self.aged = {}  # what the last restore gave: how many datagrams since an id's last kept piece
 
     def used(self):
         pieces = sum(len(m["pieces"]) for m in self.open.values())
@@ -97,8 +99,11 @@ def make_ready(s, m):
     made = 1
     if m[0] in (3, 7):
         s.next[m[1]] += 1
-        if (m[1], s.next[m[1]]) in s.held:
-            made += make_ready(s, s.held.pop((m[1], s.next[m[1]])))
+        # "in the same way", whatever kind an image gave it
+        while (m[1], s.next[m[1]]) in s.held:
+            s.line.append(s.held.pop((m[1], s.next[m[1]])))
+            s.next[m[1]] += 1
+            made += 1
     return made
 
 
@@ -177,17 +182,72 @@ def take(s, room):
     return body, kind, channel, number
 
 
+def further(s, ident):
+    """The datagrams accepted since the last that a piece was kept for the id in; "the age kept for an id stops at 2^32"."""
+    for back, ids in enumerate(reversed(s.history)):
+        if ident in ids:
+            return back
+    return min(s.aged[ident] + len(s.history), image.OLDEST)
+
+
 def drop_unfinished(s, n):
     """How many cells a drop frees."""
-    def further(ident):
-        """The datagrams accepted since the last that a piece was kept for the id in."""
-        back = 0
-        while ident not in s.history[-1 - back]:
-            back += 1
-        return back
-
-    old = [ident for ident, m in s.open.items() if m["alike"][1] not in RELIABLE and further(ident) > n]
+    old = [ident for ident, m in s.open.items() if m["alike"][1] not in RELIABLE and further(s, ident) > n]
     return sum(len(s.open.pop(ident)["pieces"]) for ident in old)
+
+
+# ---- images
+
+def image_of(s):
+    def message(m):
+        return dict(kind=m[0], channel=m[1], order=m[2], bodies=m[3])
+
+    def piece(ident, m, index):
+        count, kind, sequence, order, channel = m["alike"]
+        return dict(id=ident, index=index, count=count, kind=kind, sequence=sequence, order=order, channel=channel, age=further(s, ident),
+                    body=m["pieces"][index])
+
+    memory = [s.newest.get(c, -1) + 1 for c in (*range(32), None)]
+    return dict(
+        profile=[s.profile], windows=[(w.low, image.bits_of(w.low, w.above)) for w in (s.datagrams, s.reliables)],
+        channels=list(zip(s.next + [0], memory)), unsent=sorted(s.unsent),
+        pieces=[piece(ident, m, i) for ident, m in sorted(s.open.items()) for i in sorted(m["pieces"])],
+        held=[message(s.held[key]) for key in sorted(s.held)], ready=[message(m) for m in s.line])
+
+
+def saved(s, room):
+    out = image.write(image_of(s))
+    if len(out) > room:
+        raise Refused(12)
+    return out
+
+
+def restored(i, cells):
+    """The receiver that a good image restores to."""
+    def message(m):
+        return m["kind"], m["channel"], m["order"], list(m["bodies"])
+
+    s = State(cells, i["profile"][0])
+    for w, (low, bits) in zip((s.datagrams, s.reliables), i["windows"]):
+        w.low, w.above = low, image.places((low, bits))
+    s.next = [n for n, _ in i["channels"][:32]]
+    s.newest = {c: m - 1 for c, (_, m) in zip((*range(32), None), i["channels"]) if m}
+    s.unsent = list(i["unsent"])
+    for p in i["pieces"]:
+        alike = (p["count"], p["kind"], p["sequence"], p["order"], p["channel"])
+        s.open.setdefault(p["id"], dict(alike=alike, pieces={}))["pieces"][p["index"]] = p["body"]
+        s.aged[p["id"]] = p["age"]
+    s.held = {(m["channel"], m["order"]): message(m) for m in i["held"]}
+    s.line = [message(m) for m in i["ready"]]
+    return s
+
+
+def restore(data, cells):
+    """The receiver restored into so many cells, as `calls` has them."""
+    number = image.answer(data, cells) if 1 <= cells <= 256 else 9
+    if number:
+        raise Refused(number)
+    return restored(image.read(data), cells)
 
 
 def written(first, numbers, room):
@@ -242,16 +302,18 @@ def calls(data):
 
 def run(data, cells):
     """The lines of a list of calls, and the receiver after it."""
-    s, at, out = State(cells), 2, []
+    s, at, out, kept = State(cells), 2, [], b""
     while at + 3 <= len(data):
         what, n = data[at], int.from_bytes(data[at + 1:at + 3], "big")
         at += 3
-        more = {0: n, 5: 2}.get(what, 0)
+        length = int.from_bytes(data[at:at + 4], "big")
+        at += 4 if what == 8 else 0
+        more = {0: n, 5: 2, 8: length}.get(what, 0)
         d = data[at:at + more]
-        if what > 5 or len(d) < more or what == 4 and n > 1:
+        if what > 8 or at > len(data) or len(d) < more or what == 4 and n > 1 or what == 8 and length > 1048576:
             break
         at += more
-        letter = "rtumnx"[what]
+        letter = "rtumnxsii"[what]
         try:
             if what == 0:
                 s, ready, dropped, left = receive(s, d)
@@ -260,10 +322,16 @@ def run(data, cells):
                 body, kind, channel, number = take(s, n)
                 out.append(f"t 0 {len(body)} {checksum(body)} {kind} {channel} {number}")
             elif what == 4:
-                s = State(cells, n)
+                s = State(s.cells, n)
                 out.append("n 0")
             elif what == 5:
                 out.append(f"x 0 {drop_unfinished(s, n * 65536 + int.from_bytes(d, 'big'))}")
+            elif what == 6:
+                kept = saved(s, min(64 * n, 1048576))
+                out.append(f"s 0 {len(kept)} {checksum(kept)}")
+            elif what in (7, 8):
+                s = restore(kept if what == 7 else d, n)
+                out.append("i 0")
             else:
                 w = written(0xC0, s.unsent, n) if what == 2 else written(0xA0, s.datagrams.missing(), n)
                 s.unsent = [] if what == 2 else s.unsent
@@ -520,9 +588,75 @@ def previews(profile, cells):
     return out + new(profile) + drop(0) + b"\0" + put(datagram(0, piece(0, 30, 0))) + drop(0) + b"\0" + put(datagram(1)) + drop(1) + drop(0)
 
 
+def save(n):
+    return b"\6" + n.to_bytes(2, "big")
+
+
+def resume(n):
+    return b"\7" + n.to_bytes(2, "big")
+
+
+def given(n, data):
+    return b"\10" + n.to_bytes(2, "big") + len(data).to_bytes(4, "big") + data
+
+
+def units(s):
+    """The n of a save that is just enough."""
+    return -(-len(image.write(image_of(s))) // 64)
+
+
+def saves(profile):
+    """Calls to a receiver just made: it is saved, goes on, and is resumed as it was; into as few cells as it uses, too few, more."""
+    def after(calls):
+        return run(bytes(2) + new(profile) + calls, 250)[1]
+
+    def hums(number, n):
+        return b"\0" + put(datagram(number, *[frame(0, b"hum%d" % i) for i in range(n)]))
+
+    # nothing is kept; then a new receiver's image, whose output is one unit too short, then just enough
+    out = resume(0) + resume(257) + resume(1) + save(units(after(b"")) - 1) + resume(1) + save(units(after(b""))) + resume(1) + resume(250)
+    # something of everything; the save changes nothing; too little room for it, or none, leaves the image kept
+    out += in_use(profile, 0)
+    used, enough = after(out).used(), units(after(out))
+    out += save(enough) + save(enough - 1) + save(0) + other_half(9) + TAKE + drop(0) + MISSING + UNSENT
+    # refused: none of it has an effect
+    out += resume(0) + resume(used - 1) + resume(257) + resume(65535) + save(65535)[:1] + enough.to_bytes(2, "big") + MISSING
+    # as it was, in just enough cells, with no room for one more; then in one more
+    out = new(profile) + out + in_use(profile, 20)
+    s = after(out)
+    used, enough = s.used(), units(s)
+    out += save(enough) + resume(used) + hums(30, 1) + resume(used + 1) + hums(30, 1) + TAKE * 4
+    # and again; what came since is not known, what was taken is there; it grows older from there on
+    out += resume(used + 5) + hums(30, 2) + TAKE * 9 + other_half(31) + TAKE * 3 + UNSENT + MISSING
+    out += resume(200) + b"".join(b"\0" + put(datagram(40 + i)) for i in range(3)) + save(65535) + drop(2) + drop(3) + resume(200) + drop(0)
+    # a receiver of the other profile goes on as the one that was saved
+    return out + new(CPP - profile) + resume(30) + other_half(50) + TAKE * 9 + UNSENT + MISSING + new(CPP - profile) + TAKE + save(18)
+
+
+def damages(profile, seed):
+    """Images given to restore, whole and some of the broken, to a receiver that holds something; what restores is gone on with for some
+    calls."""
+    r = random.Random(seed)
+    s = run(bytes(2) + new(profile) + in_use(profile, 0) + in_use(profile, 4) + b"\0" + put(datagram(9, frame(0, b"more"))), 250)[1]
+    s.open[9] = dict(alike=(3, 0, 5, 6, 7), pieces={0: b"first", 2: b"last"})
+    s.aged = {1: 3, 9: image.OLDEST - 1}
+    s.history = []
+    # held messages of all kinds are released alike
+    s.held[1, 2], s.held[1, 4], s.held[31, 1] = (0, 1, 2, [b"a", b"b"]), (4, 1, 4, [b"c"]), (7, 31, 1, [b"d"])
+    s.next[1] = 1
+    after = b"\0" + put(datagram(60, frame(3, b"due", 70, order=1, channel=1, profile=profile))) + drop((1 << 32) - 1) + TAKE * 3
+    good, out = image_of(s), in_use(profile, 0)
+    for i, data in enumerate(image.Damage(good).all()[profile::8]):
+        cells = image.used(good) + r.choice((0, 0, 1, 5, 50))
+        out += given(cells, data) + (after + MISSING + save(65535) if i % 4 == 0 else TAKE)
+    used = image.used(good)
+    out += b"".join(given(n, image.write(good)) for n in (0, 1, used - 1, used, used + 1, 256, 257, 65535))
+    return out + after + UNSENT + resume(200)
+
+
 class Console:
     """Random frames of a few senders to a console receiver."""
-    calls = (60, 25, 8, 7, 0)
+    calls = (60, 25, 8, 7, 0, 0, 0)
 
     def __init__(self, r):
         self.r, self.reliable, self.ident = r, 0, 0
@@ -587,7 +721,7 @@ class Cpp(Console):
 
 class Previews(Console):
     """Pieces above all, most of kinds without reliable numbers, which are the same in both profiles; many are lost."""
-    calls = (60, 10, 4, 4, 22)
+    calls = (60, 10, 4, 4, 22, 0, 0)
 
     def __init__(self, r):
         super().__init__(r)
@@ -602,6 +736,11 @@ class Previews(Console):
         return frame(kind, r.randbytes(r.choice((0, 1, 9))), self.reliable_number(), sequence, 0, 0, piece)
 
 
+class Resumed(Cpp):
+    """Frames to a C++ receiver that is often saved and resumed."""
+    calls = (60, 12, 4, 4, 4, 9, 7)
+
+
 def random_calls(r, before, sender, count, spent=None):
     """Calls of all kinds after those before, to a receiver just made: a few senders' worth of frames, reordered, doubled, lost, damaged.
     After two thirds of them, where numbers are spent on it, lever positions that come late, for which so many datagram and reliable numbers
@@ -611,7 +750,10 @@ def random_calls(r, before, sender, count, spent=None):
         if spent and i == 2 * count // 3:
             out += late_levers(run(out, int.from_bytes(out[:2], "big"))[1], number + 1, sender.reliable + 1)
             number, sender.reliable = number + spent[0], sender.reliable + spent[1]
-        what = r.choices((0, 1, 2, 3, 5), sender.calls)[0]
+        what = r.choices((0, 1, 2, 3, 5, 6, 7), sender.calls)[0]
+        if what > 5:
+            out += save(r.choice((0, 17, 18, 40, 65535))) if what == 6 else resume(r.choice((1, 8, 16, 32, 32, 64, 256)))
+            continue
         if what == 5:
             out += drop(r.choice((0, 0, 1, 1, 2, 3, 5, 1 << 16, TOP, TOP * 256 - 1)))
             continue
@@ -663,6 +805,9 @@ def random_list(seed, count):
     for profile in (CONSOLE, CPP):
         out += new(profile) + previews(profile, cells)
         out = random_calls(r, out + new(profile), Previews(r), count // 4)
+    for profile in (CONSOLE, CPP):
+        out += new(profile) + saves(profile) + new(profile) + damages(profile, seed)
+    out = random_calls(r, out + new(CPP), Resumed(r), count // 2)
     # no profile: the list ends there
     return out + new(CPP + 1) + other_half(9) + TAKE + UNSENT + MISSING
 
@@ -677,4 +822,5 @@ def main(what, path, *rest):
         sys.stdout.write("".join(line + "\n" for line in out))
 
 
-main(*sys.argv[1:])
+if __name__ == "__main__":
+    main(*sys.argv[1:])

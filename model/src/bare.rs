@@ -1,5 +1,7 @@
 //! Document 01's bare receiver, without cells, and its line. The model with cells is held against it in every comparison.
-use crate::model::{ordered, over_limit, Message};
+use crate::image::{Image, MessageEntry};
+use crate::model::{ordered, over_limit, Message, CHANNELS, OLDEST};
+use crate::window::REACH;
 use crate::wire::{self, Frame, Profile};
 use std::collections::{BTreeMap, BTreeSet, HashMap, HashSet};
 
@@ -7,23 +9,27 @@ use std::collections::{BTreeMap, BTreeSet, HashMap, HashSet};
 type Agreed = (u32, u8, u32, u32, u8);
 
 /// Whose newest sequence number it is: a channel's, or kind 4's own.
-#[derive(PartialEq, Eq, Hash)]
+#[derive(Clone, PartialEq, Eq, Hash)]
 enum Memory {
     Channel(u8),
     KindFour,
 }
 
 /// A piece as it is kept: its body, and at which count of accepted datagrams that was.
+#[derive(Clone)]
 struct Kept {
     at: u64,
     body: Vec<u8>,
 }
 
+#[derive(Clone)]
 pub struct Bare {
     /// "The bare receiver has its list's profile."
     profile: Profile,
     /// "it counts the accepted datagrams"
     fed: u64,
+    /// The reliable numbers accepted: those below one, and others.
+    below: u32,
     reliables: HashSet<u32>,
     open: HashMap<u16, (Agreed, BTreeMap<u32, Kept>)>,
     next: HashMap<u8, u32>,
@@ -36,7 +42,31 @@ pub struct Bare {
 impl Bare {
     pub fn new(profile: Profile) -> Bare {
         let (reliables, open, next, held, newest) = Default::default();
-        Bare { profile, fed: 0, reliables, open, next, held, newest, line: Vec::new() }
+        Bare { profile, fed: 0, below: 0, reliables, open, next, held, newest, line: Vec::new() }
+    }
+
+    /// What is held where an image was restored whose list is not known: its ready messages begin the line. The image is one that restores.
+    pub fn of_image(image: &Image) -> Bare {
+        let mut bare = Bare::new(Profile::of(image.profile[0] as u32).expect("a profile"));
+        bare.fed = 2 * OLDEST;
+        let (low, places) = &image.windows[1];
+        bare.below = *low as u32;
+        bare.reliables = (0..REACH).filter(|p| places[*p as usize / 8] >> (p % 8) & 1 == 1).map(|p| bare.below + 1 + p).collect();
+        for p in &image.pieces {
+            let agreed = (p.count as u32, p.kind as u8, p.sequence as u32, p.order as u32, p.channel as u8);
+            let (_, pieces) = bare.open.entry(p.id as u16).or_insert_with(|| (agreed, BTreeMap::new()));
+            pieces.insert(p.index as u32, Kept { at: bare.fed - p.age, body: p.body.clone() });
+        }
+        for (c, (next, memory)) in image.channels.iter().enumerate() {
+            let c = c as u8;
+            bare.next.insert(c, *next as u32);
+            if *memory > 0 {
+                bare.newest.insert(if c < CHANNELS { Memory::Channel(c) } else { Memory::KindFour }, *memory as u32 - 1);
+            }
+        }
+        bare.held = image.held.iter().map(|m| ((m.channel as u8, m.order as u32), joined(m))).collect();
+        bare.line = image.ready.iter().map(joined).collect();
+        bare
     }
 
     /// An accepted datagram: how many messages it made ready and how many frames it dropped.
@@ -69,7 +99,7 @@ impl Bare {
 
     /// The four steps; false where the frame or the message that it completed is dropped.
     fn frame(&mut self, f: Frame) -> bool {
-        if wire::reliable(f.kind) && !self.reliables.insert(f.reliable) {
+        if wire::reliable(f.kind) && (f.reliable < self.below || !self.reliables.insert(f.reliable)) {
             return false;
         }
         if over_limit(&f) {
@@ -128,4 +158,8 @@ impl Bare {
         }
         newer
     }
+}
+
+fn joined(m: &MessageEntry) -> Message {
+    Message { kind: m.kind as u8, channel: m.channel as u8, order: m.order as u32, body: m.bodies.concat() }
 }

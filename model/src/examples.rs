@@ -1,6 +1,8 @@
 //! Random examples for the definitions, as a file of proofs by computation: what every call is told and the state after it, from the model.
 use crate::bare::Bare;
 use crate::gen::about_an_age;
+use crate::image::{image_of, read, Image};
+use crate::images;
 use crate::model::{Cell, Message, Receiver, Use, CHANNELS, MEMORIES, OLDEST};
 use crate::rng::Rng;
 use crate::sender::datagram;
@@ -274,6 +276,14 @@ fn bytes_call(rng: &mut Rng, small: &mut Small, r: &mut Receiver) -> (String, St
     }
 }
 
+/// What is told, and the state after it.
+fn saw(told: &str, r: &Receiver) -> String {
+    let lows = arg([r.datagrams.low, r.reliables.low]);
+    let nexts = arg([r.next[0], r.next[1]]);
+    let memories = arg([0, 1, MEMORIES - 1].map(|m| stored(r.newest[m])));
+    format!("saw {told} {lows} {} {nexts} {memories} {}", arg(&r.unsent), slots(&r.cells, &r.ages()))
+}
+
 /// Bytes on a receiver: every call's answer and the whole state after it.
 fn bytes_example(rng: &mut Rng, name: &str) -> String {
     let profile = rng.pick(&PROFILES);
@@ -283,13 +293,105 @@ fn bytes_example(rng: &mut Rng, name: &str) -> String {
     let (mut calls, mut seen) = (Vec::new(), Vec::new());
     for _ in 0..rng.from_to(most / 2, most) {
         let (call, told) = bytes_call(rng, &mut small, &mut r);
-        let lows = arg([r.datagrams.low, r.reliables.low]);
-        let nexts = arg([r.next[0], r.next[1]]);
-        let memories = arg([0, 1, MEMORIES - 1].map(|m| stored(r.newest[m])));
-        seen.push(format!("saw {told} {lows} {} {nexts} {memories} {}", arg(&r.unsent), slots(&r.cells, &r.ages())));
+        seen.push(saw(&told, &r));
         calls.push(call);
     }
     format!("pub {name} :\n    run {profile:?} {cells} ({})\n    ≡ {}\nunfolding run\n{name} = refl\n", lines(&calls), lines(&seen))
+}
+
+/// Bytes, of which many in a row are alike.
+fn runs(bytes: &[u8]) -> String {
+    let mut parts = Vec::new();
+    let mut single: Vec<u8> = Vec::new();
+    for run in bytes.chunk_by(|a, b| a == b) {
+        if run.len() < 4 {
+            single.extend(run);
+            continue;
+        }
+        if !single.is_empty() {
+            parts.push(hex(&single));
+            single.clear();
+        }
+        parts.push(format!("replicate {} 0x{:02X}", run.len(), run[0]));
+    }
+    if !single.is_empty() || parts.is_empty() {
+        parts.push(hex(&single));
+    }
+    format!("({})", parts.join(" ++ "))
+}
+
+/// Images in examples have no more bytes.
+const IMAGE: usize = 1400;
+
+/// A restore over a receiver just made, of so many cells.
+fn restoring(profile: Profile, cells: usize, bytes: &[u8]) -> String {
+    let image = read(bytes);
+    let restored = match &image {
+        None => Err(21),
+        Some(image) if image.flaw(cells).is_some() => Err(22),
+        Some(image) => Ok(image.restored(cells).expect("a receiver")),
+    };
+    let seen = match restored {
+        Err(number) => saw(&format!("(no {number})"), &Receiver::new(cells, profile)),
+        Ok(r) => saw("(wrote [])", &r),
+    };
+    format!("(restoring {profile:?} {cells} {}\n    ≡ {seen})", runs(bytes))
+}
+
+/// Calls on a receiver, which is saved; its image restored, and images that differ from it in one thing.
+fn images_example(rng: &mut Rng, name: &str) -> String {
+    let profile = rng.pick(&PROFILES);
+    let mut small = Small::new(rng, profile);
+    let cells = rng.from_to(2, 6);
+    let mut r = Receiver::new(cells, profile);
+    let (mut calls, mut seen) = (Vec::new(), Vec::new());
+    for _ in 0..rng.from_to(3, 6) {
+        let d = small_datagram(rng, &mut small, &r);
+        let answer = r.receive(&d).map(|report| format!("{} {} {}", report.ready, report.dropped, report.left));
+        seen.push(saw(&told("gave", answer), &r));
+        calls.push(format!("receive {}", hex(&d)));
+    }
+    let image = image_of(&r);
+    let bytes = image.bytes();
+    for room in [bytes.len() - 1, bytes.len()] {
+        let answer = if room < bytes.len() { "(no 12)".to_string() } else { format!("(wrote {})", runs(&bytes)) };
+        seen.push(saw(&answer, &r));
+        calls.push(format!("save (replicate {room} 0)"));
+    }
+    let mut facts = vec![format!("(run {profile:?} {cells} ({})\n    ≡ {})", lines(&calls), lines(&seen))];
+    let over = rng.pick(&PROFILES);
+    let needed = image.cells();
+    facts.push(restoring(over, needed.max(1), &bytes));
+    facts.push(restoring(over, rng.pick(&[needed.saturating_sub(1).max(1), needed + 1]), &bytes));
+    while facts.len() < 6 {
+        let mut other = image.clone();
+        let damaged = if rng.percent(25) { images::damaged(rng, &image) } else { changed(rng, &mut other) };
+        if damaged != bytes && damaged.len() <= IMAGE {
+            facts.push(restoring(over, needed + 2, &damaged));
+        }
+    }
+    facts.push(made_up(rng));
+    let proofs = vec!["refl"; facts.len()].join(", ");
+    format!("pub {name} :\n    {}\nunfolding run restoring\n{name} = ({proofs})\n", facts.join("\n    × "))
+}
+
+/// A restore of an image that no calls led to, as it is or with one thing changed.
+fn made_up(rng: &mut Rng) -> String {
+    loop {
+        let mut image = images::made_up(rng);
+        if rng.percent(40) {
+            images::changed(rng, &mut image);
+        }
+        let bytes = image.bytes();
+        if image.cells() > 0 && runs(&bytes).len() <= 4000 {
+            return restoring(Profile::Console, image.cells().min(7), &bytes);
+        }
+    }
+}
+
+fn changed(rng: &mut Rng, image: &mut Image) -> Vec<u8> {
+    images::changed(rng, image);
+    image.bytes()
 }
 
 /// A random field of a random cell is changed, or its record's age, or an open record's, or that of all open records of an id.
@@ -405,7 +507,16 @@ use mathlib.Core.List.{[], ◌∷◌}
 use Rattle.examples.proofs.Shown.{run, sound_values}
 ";
 
-/// A file of n examples: `cells`, `bytes`, `sound` or `values`.
+const IMAGES_HEAD: &str = "use mathlib.Core.Path.{◌≡◌, refl}
+use mathlib.Core.List.{[], ◌∷◌, ◌++◌}
+use lib.ListN.{replicate}
+use Rattle.reliability.specs.declared.Profile.TheVariants.{Console, Cpp}
+use Rattle.cells.specs.Cell.{empty_slot}
+use Rattle.receiver.specs.Calls.{receive, save}
+use Rattle.examples.proofs.Shown.{slot, run, restoring, saw, gave, wrote, no}
+";
+
+/// A file of n examples: `cells`, `bytes`, `sound`, `values` or `images`.
 pub fn file(what: &str, seed: u64, n: u64) -> Option<String> {
     type Maker = fn(&mut Rng, &str) -> String;
     let (about, head, one): (&str, &str, Maker) = match what {
@@ -421,6 +532,11 @@ pub fn file(what: &str, seed: u64, n: u64) -> Option<String> {
             VALUES_HEAD,
             values_example,
         ),
+        "images" => (
+            "a receiver's image, restored as it is and with one thing changed or damaged; and one that is made up",
+            IMAGES_HEAD,
+            images_example,
+        ),
         _ => return None,
     };
     let mut text = format!("-- Random examples: {about}.\n-- Made by `model examples {what} {seed} {n}` (folder model/), an independent model of document 01; here they are computed.\n-- Assumes nothing.\n{head}");
@@ -434,15 +550,16 @@ pub fn file(what: &str, seed: u64, n: u64) -> Option<String> {
 /// A line of a file has no more columns than this.
 const COLUMNS: usize = 140;
 
-/// A line, broken before a ∷ where it is too long.
+/// A line, broken before a ∷ or ++ where it is too long.
 fn folded(line: &str) -> String {
     let columns = |text: &str| text.chars().count();
     let mut out = String::new();
     let mut rest = line.to_string();
     while columns(&rest) > COLUMNS {
         let fits = |at: &usize| columns(&rest[..*at]) <= COLUMNS;
-        let places = rest.match_indices(" ∷ ").map(|(at, _)| at).take_while(fits);
-        let Some(at) = places.last().filter(|at| !rest[..*at].trim().is_empty()) else { break };
+        let mut places: Vec<usize> = [" ∷ ", " ++ "].iter().flat_map(|text| rest.match_indices(text)).map(|(at, _)| at).filter(fits).collect();
+        places.sort();
+        let Some(&at) = places.last().filter(|at| !rest[..**at].trim().is_empty()) else { break };
         out += &format!("{}\n", &rest[..at]);
         rest = format!("    {}", &rest[at + 1..]);
     }

@@ -1,7 +1,9 @@
 //! A recording for `trace` and a list of calls for `calls`, from a seed.
+use crate::image::{image_of, read};
+use crate::images;
 use crate::model::Receiver;
-use crate::programs::{call_line, drop_item, new_item, other_item, receive_item, trace_lines, with_length};
-use crate::programs::{Input, Program, CALLS_CELLS, TRACE_CELLS};
+use crate::programs::{call_line, drop_item, new_item, other_item, receive_item, restore_item, trace_lines, with_length};
+use crate::programs::{Input, Program, CALLS_CELLS, TRACE_CELLS, UNIT};
 use crate::rng::Rng;
 use crate::sender::datagram;
 use crate::session::Session;
@@ -78,7 +80,7 @@ fn about(rng: &mut Rng, needed: usize) -> usize {
 /// A number for a drop: about an open id's age, small, an end, or the age with its bytes at other places.
 pub fn about_an_age(rng: &mut Rng, live: &Receiver) -> u32 {
     let open: Vec<u16> = live.open().map(|c| c.id).collect();
-    let age = if open.is_empty() { 0 } else { live.age(rng.pick(&open)) as u32 };
+    let age = if open.is_empty() { 0 } else { live.age(rng.pick(&open)).min(u32::MAX as u64) as u32 };
     match rng.below(20) {
         0..=2 => 0,
         3 | 4 => 1,
@@ -88,8 +90,45 @@ pub fn about_an_age(rng: &mut Rng, live: &Receiver) -> u32 {
         9 => rng.pick(&[age << 8, age << 16, age.swap_bytes()]),
         10 => rng.next() as u32,
         11..=14 => age.saturating_sub(1),
-        15 | 16 => age + 1,
+        15 | 16 => age.saturating_add(1),
         _ => age,
+    }
+}
+
+/// A number of cells about one that an image needs, or another.
+fn cells_about(rng: &mut Rng, needed: usize) -> usize {
+    match rng.below(12) {
+        0 => needed.saturating_sub(1),
+        1..=3 => needed.clamp(1, CALLS_CELLS),
+        4 => needed + 1,
+        5 => rng.pick(&[0, 257, 4096, 65535]),
+        6 => rng.from_to(1, 40),
+        _ => (needed + rng.from_to(0, 60)).clamp(1, CALLS_CELLS),
+    }
+}
+
+/// A save, seldom into too little; a restore of the image kept; or of one given.
+fn image_call(rng: &mut Rng, session: &Session) -> Vec<u8> {
+    match rng.below(10) {
+        0..=3 => {
+            let units = image_of(&session.receiver).bytes().len().div_ceil(UNIT);
+            let n = match rng.below(8) {
+                0 | 1 => units - 1,
+                2 => rng.pick(&[0, 1, 16384, 16385, 65535]),
+                3 => units + 1,
+                _ => units,
+            };
+            other_item(6, n)
+        }
+        4..=6 => {
+            let needed = read(session.kept()).map_or(0, |image| image.cells());
+            other_item(7, cells_about(rng, needed))
+        }
+        _ => {
+            let image = images::any(rng, &session.receiver);
+            let needed = read(&image).map_or(0, |image| image.cells());
+            restore_item(cells_about(rng, needed), &image)
+        }
     }
 }
 
@@ -119,22 +158,29 @@ impl List {
     fn other(&mut self, rng: &mut Rng, what: u8) {
         self.put(other_call(rng, &self.live.receiver, what));
     }
+
+    fn image(&mut self, rng: &mut Rng) {
+        self.put(image_call(rng, &self.live));
+    }
 }
 
-/// How often a list takes, writes the unsent, writes the missing and drops the unfinished after a datagram, of a hundred.
+/// How often a list takes, writes the unsent, writes the missing, drops the unfinished, and saves or restores after a datagram, of a
+/// hundred.
 struct Habits {
     take: usize,
     unsent: usize,
     missing: usize,
     drop: usize,
+    image: usize,
 }
 
 fn habits(rng: &mut Rng, mode: Mode) -> Habits {
     if mode == Mode::Full {
-        return Habits { take: 0, unsent: 0, missing: 1, drop: rng.pick(&[0, 0, 1]) };
+        return Habits { take: 0, unsent: 0, missing: 1, drop: rng.pick(&[0, 0, 1]), image: rng.pick(&[0, 0, 1]) };
     }
     let drop = if mode == Mode::Previews { rng.pick(&[30, 60]) } else { rng.pick(&[0, 3, 15]) };
-    Habits { take: rng.pick(&[5, 40, 60, 75]), unsent: rng.pick(&[2, 20]), missing: rng.pick(&[5, 25]), drop }
+    let image = rng.pick(&[0, 3, 10, 40]);
+    Habits { take: rng.pick(&[5, 40, 60, 75]), unsent: rng.pick(&[2, 20]), missing: rng.pick(&[5, 25]), drop, image }
 }
 
 /// The end of a full list: the unsent sent, then room again.
@@ -165,15 +211,20 @@ fn receiver_calls(rng: &mut Rng, list: &mut List, stream: &mut Stream, habits: &
         while rng.percent(habits.drop) {
             list.other(rng, 5);
         }
+        while rng.percent(habits.image) {
+            list.image(rng);
+        }
     }
 }
 
-/// A cut call or drop, a cut datagram, a byte that is no call's, a number that is no profile's.
+/// A cut call or drop, a cut datagram, a cut image or one too long, a byte that is no call's, a number that is no profile's.
 fn calls_tail(rng: &mut Rng) -> Vec<u8> {
-    match rng.below(18) {
+    match rng.below(20) {
         0 => vec![1, 0],
         1 => vec![0, 0, 5, 0x84, 0, 0, 0],
-        2 => vec![rng.pick(&[6, 9, 255]), 0, 0, 2, 0, 3],
+        2 => vec![rng.pick(&[9, 10, 255]), 0, 0, 2, 0, 3],
+        18 => [8, 0, 1, 0, 0, 0, 9, 0, 0, 0][..rng.from_to(1, 10)].to_vec(),
+        19 => [vec![8, 0, 1], rng.pick(&[[0, 16, 0, 1], [1, 0, 0, 0], [255; 4]]).to_vec(), vec![7, 0, 1]].concat(),
         3 => vec![4, 0],
         4..=6 => [vec![4], rng.pick(&[[0, 2], [0, 3], [1, 0], [1, 1], [255, 255]]).to_vec(), vec![2, 0, 3]].concat(),
         7 | 8 => [5, 0, 0, 0][..rng.from_to(1, 4)].to_vec(),

@@ -2,23 +2,28 @@
 //!
 //! model trace FILE                        what trace must print for a recording
 //! model calls FILE                        what calls must print for a list of calls
+//! model images FILE                       what replay_images must print for stored items
 //! model gen-trace SEED FILE               writes the recording of a seed
 //! model gen-calls SEED FILE               writes the list of calls of a seed
 //! model compare TRACE CALLS FROM TO       compares two commands with the model on the seeds FROM up to, not including, TO
-//! model examples KIND SEED N              prints a file of N examples (cells, bytes, sound or values) for the crate examples
+//! model examples KIND SEED N              prints a file of N examples (cells, bytes, sound, values or images) for the crate examples
 //! model top WHICH COMMAND [NUMBER]        compares one on a long input whose numbers run up to 2^24 (or a smaller number):
 //!                                         step or reliable for trace, cpp or datagram for calls
 mod bare;
 mod compare;
 mod examples;
 mod gen;
+mod image;
+mod images;
 mod model;
 mod programs;
+mod restore;
 mod rng;
 mod sender;
 mod session;
 mod shrink;
 mod sound;
+mod stored;
 mod stream;
 mod tally;
 mod top;
@@ -53,6 +58,7 @@ fn main() -> ExitCode {
     match words[..] {
         ["trace", file] => print!("{}", programs::trace(&read(file)).0),
         ["calls", file] => print!("{}", programs::calls(&read(file)).0),
+        ["images", file] => print!("{}", stored::images(&read(file))),
         ["gen-trace", seed, file] => write(file, gen::trace(number(seed)).bytes()),
         ["gen-calls", seed, file] => write(file, gen::calls(number(seed)).bytes()),
         ["compare", trace, calls, from, to] => {
@@ -67,7 +73,7 @@ fn main() -> ExitCode {
         ["top", which, command] => return top(which, command, window::NUMBERS),
         ["top", which, command, below] => return top(which, command, number(below) as u32),
         _ => {
-            eprintln!("model trace FILE | calls FILE | gen-trace SEED FILE | gen-calls SEED FILE | compare TRACE CALLS FROM TO | top WHICH COMMAND [NUMBER] | examples KIND SEED N");
+            eprintln!("model trace FILE | calls FILE | images FILE | gen-trace SEED FILE | gen-calls SEED FILE | compare TRACE CALLS FROM TO | top WHICH COMMAND [NUMBER] | examples KIND SEED N");
             return ExitCode::from(2);
         }
     }

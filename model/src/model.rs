@@ -1,5 +1,5 @@
-//! The receiver of document 01 with its cells, and document 02's requests 1, 2 and 4; written from their sentences alone, nothing here
-//! comes from crates/. It keeps no ages: each piece remembers which accepted datagram carried it.
+//! The receiver of document 01 with its cells, and document 02's requests 1, 2, 4 and 5 (its images: image.rs); written from their sentences
+//! alone, nothing here comes from crates/. It keeps no ages: each piece remembers which accepted datagram carried it.
 use crate::window::Window;
 use crate::wire::{self, Frame, Profile};
 
@@ -402,8 +402,10 @@ impl Pass {
         }
     }
 
-    /// "For kinds 3 and 7 the channel's next then rises by one, and a held message of that number follows in the same way."
+    /// "For kinds 3 and 7 the channel's next then rises by one, and a held message of that number follows in the same way": whatever kind an
+    /// image gave it ("a held message of kind 0 is released like any other").
     fn make_ready(&mut self, message: Vec<usize>) {
+        let Cell { kind, channel, .. } = self.receiver.cells[message[0]];
         let mut cells = message;
         while !cells.is_empty() {
             self.mark(&cells, Use::Ready);
@@ -412,7 +414,6 @@ impl Pass {
             }
             self.turn += 1;
             self.ready += 1;
-            let Cell { kind, channel, .. } = self.receiver.cells[cells[0]];
             if !ordered(kind) {
                 return;
             }

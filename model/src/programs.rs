@@ -12,6 +12,10 @@ const TRACE_ROOM: usize = TRACE_CELLS * CELL_BYTES;
 /// `calls` has no more cells than this.
 pub const CALLS_CELLS: usize = 256;
 
+/// "an output of 64 · n bytes, at most 1,048,576"; an image longer than that "ends the list".
+pub const UNIT: usize = 64;
+pub const IMAGE: usize = 1 << 20;
+
 #[derive(Clone, Copy, PartialEq, Debug)]
 pub enum Program {
     Trace,
@@ -36,7 +40,7 @@ impl Input {
     }
 }
 
-fn big16(b: &[u8]) -> usize {
+pub fn big16(b: &[u8]) -> usize {
     (b[0] as usize) << 8 | b[1] as usize
 }
 
@@ -65,7 +69,12 @@ pub fn drop_item(n: u32) -> Vec<u8> {
     [other_item(5, (n >> 16) as usize), (n as u16).to_be_bytes().to_vec()].concat()
 }
 
-/// Another call: its byte and the length of its buffer or output.
+/// An image to restore into n cells.
+pub fn restore_item(n: usize, image: &[u8]) -> Vec<u8> {
+    [other_item(8, n), (image.len() as u32).to_be_bytes().to_vec(), image.to_vec()].concat()
+}
+
+/// Another call: its byte and the length of its buffer or output, of its output in units of 64 bytes, or the number of its cells.
 pub fn other_item(what: u8, n: usize) -> Vec<u8> {
     [vec![what], (n as u16).to_be_bytes().to_vec()].concat()
 }
@@ -125,6 +134,10 @@ fn written(letter: char, answer: Result<Vec<u8>, u8>) -> String {
     }
 }
 
+fn restored(answer: Result<(), u8>) -> String {
+    format!("i {}\n", answer.err().unwrap_or(0))
+}
+
 /// The line of one call, given as an item.
 pub fn call_line(session: &mut Session, item: &[u8]) -> String {
     let n = big16(&item[1..]);
@@ -140,6 +153,9 @@ pub fn call_line(session: &mut Session, item: &[u8]) -> String {
         2 => written('u', session.write_unsent(n)),
         3 => written('m', session.write_missing(n)),
         5 => format!("x 0 {}\n", session.drop_unfinished((n as u32) << 16 | big16(&item[3..]) as u32)),
+        6 => written('s', session.save(IMAGE.min(UNIT * n))),
+        7 => restored(session.resume(n, CALLS_CELLS)),
+        8 => restored(session.restore(n, CALLS_CELLS, &item[7..])),
         _ => {
             session.renew(made_by(item).expect("a call that makes a receiver"));
             "n 0\n".to_string()
@@ -155,9 +171,17 @@ fn call_item(input: &[u8]) -> Option<usize> {
         1..=3 => 3,
         4 if made_by(head).is_some() => 3,
         5 => 5,
+        6 | 7 => 3,
+        8 => 7 + image_length(input)?,
         _ => return None,
     };
     (size <= input.len()).then_some(size)
+}
+
+/// The length after a call's head; None where it is cut or too large ("above 1,048,576 ends the list").
+fn image_length(input: &[u8]) -> Option<usize> {
+    let length = input.get(3..7)?.iter().fold(0, |sum, b| sum << 8 | *b as usize);
+    (length <= IMAGE).then_some(length)
 }
 
 /// Runs `calls`: what it prints, and the session at its end.

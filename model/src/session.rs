@@ -1,6 +1,8 @@
 //! A receiver in use: its calls, counted, and held against the bare receiver and soundness where the checks are on.
 use crate::bare::Bare;
+use crate::image::{image_of, read, Image};
 use crate::model::{Message, Receiver, Report};
+use crate::restore::Flaw;
 use crate::sound::sound;
 use crate::wire::{self, Profile};
 use std::collections::{BTreeMap, BTreeSet};
@@ -9,6 +11,7 @@ use std::collections::{BTreeMap, BTreeSet};
 const PLENTY: usize = 1 << 20;
 
 /// The bare receiver fed with the accepted datagrams and the drops, and what the takes handed out.
+#[derive(Clone)]
 struct Checks {
     bare: Bare,
     handed: Vec<Message>,
@@ -19,6 +22,11 @@ struct Checks {
 impl Checks {
     fn new(profile: Profile) -> Checks {
         Checks { bare: Bare::new(profile), handed: Vec::new(), undropped: None }
+    }
+
+    /// For an image whose list is not known.
+    fn of_image(image: &Image) -> Checks {
+        Checks { bare: Bare::of_image(image), handed: Vec::new(), undropped: None }
     }
 
     /// Was a datagram accepted that without the drops would have been refused with 8?
@@ -62,9 +70,39 @@ impl Drops {
     }
 }
 
+/// "the image written is kept", and with it the list that led to it.
+#[derive(Default)]
+struct Saved {
+    image: Vec<u8>,
+    checks: Option<Checks>,
+}
+
+/// Restored images by how the cells lent compare with those of the receiver before, or used to the last; and refused ones by their flaws.
+#[derive(Default)]
+pub struct Restores {
+    pub done: BTreeMap<&'static str, u64>,
+    pub flaws: BTreeMap<Flaw, u64>,
+}
+
+impl Restores {
+    fn count(&mut self, before: usize, lent: usize, needed: usize) {
+        let fit = match lent.cmp(&before) {
+            std::cmp::Ordering::Less => "fewer cells",
+            std::cmp::Ordering::Equal => "as many cells",
+            std::cmp::Ordering::Greater => "more cells",
+        };
+        *self.done.entry(fit).or_default() += 1;
+        if lent == needed {
+            *self.done.entry("all of them in use").or_default() += 1;
+        }
+    }
+}
+
 pub struct Session {
     pub receiver: Receiver,
     checks: Option<Checks>,
+    saved: Saved,
+    pub restores: Restores,
     /// How often each call gave each number.
     pub answers: BTreeMap<(char, u8), u64>,
     pub drops: Drops,
@@ -79,6 +117,8 @@ impl Session {
         Session {
             receiver: Receiver::new(cells, Profile::Console),
             checks: checked.then(|| Checks::new(Profile::Console)),
+            saved: Saved::default(),
+            restores: Restores::default(),
             answers: BTreeMap::new(),
             drops: Drops::default(),
             longest_missing: 0,
@@ -164,6 +204,71 @@ impl Session {
         let answer = self.receiver.write_missing(room);
         self.count('m', answer.as_ref().err().copied());
         answer
+    }
+
+    /// The image, which is kept.
+    pub fn save(&mut self, room: usize) -> Result<Vec<u8>, u8> {
+        let image = image_of(&self.receiver).bytes();
+        let fits = image.len() <= room;
+        self.count('s', if fits { None } else { Some(12) });
+        if !fits {
+            return Err(12);
+        }
+        self.saved = Saved { image: image.clone(), checks: self.checks.clone() };
+        Ok(image)
+    }
+
+    /// The image kept; empty where none is.
+    pub fn kept(&self) -> &[u8] {
+        &self.saved.image
+    }
+
+    /// "A restored receiver's list of calls is the one up to its save, then the calls after the restore": the image kept, into so many cells.
+    pub fn resume(&mut self, cells: usize, most: usize) -> Result<(), u8> {
+        let image = self.saved.image.clone();
+        let list = self.saved.checks.clone();
+        self.restore_with(cells, most, &image, |_| list.unwrap())
+    }
+
+    /// An image whose list is not known, into so many cells.
+    pub fn restore(&mut self, cells: usize, most: usize, image: &[u8]) -> Result<(), u8> {
+        self.restore_with(cells, most, image, Checks::of_image)
+    }
+
+    fn restore_with<F: FnOnce(&Image) -> Checks>(&mut self, cells: usize, most: usize, bytes: &[u8], list: F) -> Result<(), u8> {
+        let answer = self.restored(cells, most, bytes);
+        self.count('i', answer.as_ref().err().copied());
+        let (image, receiver) = answer?;
+        self.end();
+        self.restores.count(self.receiver.cells.len(), cells, image.cells());
+        self.receiver = Receiver { fates: self.receiver.fates, ..receiver };
+        if let Some(checks) = &mut self.checks {
+            *checks = Checks { undropped: None, ..list(&image) };
+        }
+        Ok(())
+    }
+
+    /// "restoring by 9, on lengths only, then 21 for an image cut or with bytes after its last section, then 22 for one that no sound
+    /// receiver's save writes or that needs more cells than lent": with the checks on, that sentence is held to the flaws.
+    fn restored(&mut self, cells: usize, most: usize, bytes: &[u8]) -> Result<(Image, Receiver), u8> {
+        if cells < 1 || cells > most {
+            return Err(9);
+        }
+        let image = read(bytes).ok_or(21)?;
+        assert!(image.bytes() == bytes, "an image is not written as it was read");
+        let restored = image.restored(cells);
+        let flaw = image.flaw(cells);
+        if self.checks.is_some() {
+            let saved = restored.as_ref().is_some_and(|r| sound(r) && image_of(r).bytes() == bytes);
+            assert_eq!(saved, flaw.is_none(), "{flaw:?}, but is it what a sound receiver's save writes? {saved}");
+        }
+        match flaw {
+            None => Ok((image, restored.expect("a receiver"))),
+            Some(flaw) => {
+                *self.restores.flaws.entry(flaw).or_default() += 1;
+                Err(22)
+            }
+        }
     }
 
     /// "The bodies that a list's takes handed out, then those that takes .. would hand out until 20, are the line's, in its order."

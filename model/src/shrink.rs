@@ -1,6 +1,7 @@
 //! A smaller input on which a program and the model still differ.
 use crate::compare::differs;
-use crate::programs::{drop_item, made_by, Input, Program};
+use crate::image::{read, Image};
+use crate::programs::{drop_item, made_by, restore_item, Input, Program};
 use crate::wire::{frame_bytes, frames, Profile};
 
 /// Where in an item its datagram begins, if it has one.
@@ -99,6 +100,41 @@ fn lower_drops(command: &str, input: &mut Input) {
     }
 }
 
+/// The image without its k-th unsent number, piece, held or ready message, counted on from one section to the next.
+fn without_entry(image: &Image, k: usize) -> Option<Image> {
+    let mut image = image.clone();
+    let [unsent, pieces, held] = [image.unsent.len(), image.pieces.len(), image.held.len()];
+    match k {
+        _ if k < unsent => drop(image.unsent.remove(k)),
+        _ if k < unsent + pieces => drop(image.pieces.remove(k - unsent)),
+        _ if k < unsent + pieces + held => drop(image.held.remove(k - unsent - pieces)),
+        _ if k < unsent + pieces + held + image.ready.len() => drop(image.ready.remove(k - unsent - pieces - held)),
+        _ => return None,
+    }
+    Some(image)
+}
+
+/// Leaves out entries of images that are given to restore.
+fn smaller_images(command: &str, input: &mut Input) {
+    for i in 0..input.items.len() {
+        let mut k = 0;
+        loop {
+            let item = &input.items[i];
+            if input.program != Program::Calls || item[0] != 8 {
+                break;
+            }
+            let Some(shorter) = read(&item[7..]).and_then(|image| without_entry(&image, k)) else { break };
+            let mut tried = input.clone();
+            tried.items[i] = restore_item((item[1] as usize) << 8 | item[2] as usize, &shorter.bytes());
+            if differs(command, &tried) {
+                *input = tried;
+            } else {
+                k += 1;
+            }
+        }
+    }
+}
+
 fn fewer_cells(command: &str, input: &mut Input) {
     for cells in 1..16u16 {
         let mut tried = input.clone();
@@ -123,6 +159,7 @@ pub fn smallest(command: &str, from: &Input) -> Input {
         fewer_frames(command, &mut input);
         fewer_cells(command, &mut input);
         lower_drops(command, &mut input);
+        smaller_images(command, &mut input);
         if input.bytes() == before {
             return input;
         }

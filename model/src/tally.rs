@@ -2,6 +2,7 @@
 use crate::gen::mode_of;
 use crate::model::{Fates, FATES};
 use crate::programs::{expected, Input, Program};
+use crate::restore::Flaw;
 use crate::session::Drops;
 use crate::wire::PROFILES;
 use std::collections::BTreeMap;
@@ -27,6 +28,8 @@ pub struct Tally {
     calls: BTreeMap<(char, u8), u64>,
     fates: Fates,
     drops: Drops,
+    restored: BTreeMap<&'static str, u64>,
+    flaws: BTreeMap<Flaw, u64>,
     longest: [usize; 3],
 }
 
@@ -49,6 +52,12 @@ impl Tally {
             }
         }
         self.drops.add(&run.drops);
+        for (fit, n) in &run.restores.done {
+            *self.restored.entry(fit).or_default() += n;
+        }
+        for (flaw, n) in &run.restores.flaws {
+            *self.flaws.entry(*flaw).or_default() += n;
+        }
         for (longest, now) in self.longest.iter_mut().zip([run.longest_missing, run.longest_unsent, run.longest_message]) {
             *longest = now.max(*longest);
         }
@@ -84,6 +93,14 @@ impl Tally {
         println!("  {left_unreliable:7} freed cells and left other ids of a kind without a reliable number");
         println!("  {left_old_reliable:7} left an id older than n of a kind with one");
         println!("  {made_room:7} datagrams accepted after one that would have been refused with 8 without it");
+        println!("images restored, into how many cells beside those before:");
+        for (fit, n) in &self.restored {
+            println!("  {n:7} {fit}");
+        }
+        println!("images refused with 22, by the first flaw:");
+        for (flaw, n) in &self.flaws {
+            println!("  {n:7} {flaw:?}");
+        }
         let [missing, unsent, message] = self.longest;
         println!("longest: missing list {missing}, unsent list {unsent}, message {message} bytes");
     }

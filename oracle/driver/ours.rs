@@ -4,7 +4,7 @@
 mod poghduka;
 
 pub use poghduka::{FramesRead, Piece, Received as Report, ReliableWindow};
-use poghduka::{CellRecord, Profile, RecvQueue, Refused, CELL_BYTES, HEAD_BYTES, LIST_BYTES, MAX_MISSING};
+use poghduka::{CellRecord, Profile, RecvQueue, Refused, CELL_BYTES, HEAD_BYTES, IMAGE_BYTES, IMAGE_CELL_BYTES, LIST_BYTES, MAX_MISSING};
 
 fn number(Refused(number): Refused) -> u32 {
     number
@@ -55,6 +55,12 @@ pub fn split_piece(buffer: &[u8], mtu: u16, k: u32) -> Result<Piece<'_>, u32> {
     poghduka::split_piece(buffer, mtu, k).map_err(number)
 }
 
+/// How long an image of so many cells may be. (For speed/.)
+#[allow(dead_code)]
+pub fn image_room(cells: usize) -> usize {
+    IMAGE_BYTES + cells * IMAGE_CELL_BYTES
+}
+
 /// A receiver with what it is lent: records, store, a joining buffer and an output.
 pub struct Receiver {
     queue: Box<RecvQueue>,
@@ -91,5 +97,16 @@ impl Receiver {
     /// The missing numbers as NACK.
     pub fn write_missing(&mut self) -> Result<&[u8], u32> {
         poghduka::write_missing(&self.queue, &mut self.out).map_err(number)
+    }
+    /// Its image. (For speed/.)
+    #[allow(dead_code)]
+    pub fn save<'a>(&self, out: &'a mut [u8]) -> Result<&'a [u8], u32> {
+        poghduka::save(&self.queue, &self.records, &self.store, out).map_err(number)
+    }
+
+    /// Restored from an image, over the same cells. (For speed/.)
+    #[allow(dead_code)]
+    pub fn restore(&mut self, image: &[u8]) -> Result<(), u32> {
+        poghduka::restore(&mut self.queue, &mut self.records, &mut self.store, image).map_err(number)
     }
 }

@@ -3,6 +3,7 @@
 //!
 //! usage: bench ROUNDS DATAGRAMS PICTURE, or bench count WINDOW FORM CALLS (speed/instructions)
 mod clock;
+mod images;
 mod missing;
 #[path = "../../oracle/driver/datagrams.rs"]
 #[allow(dead_code)]
@@ -93,6 +94,7 @@ fn main() {
     growth(&rows);
     single::all(rounds);
     missing::all(rounds);
+    images::all(rounds);
     let date = std::env::var("SPEED_DATE").unwrap_or_default();
     let run = format!("{date}, {}, {rounds} rounds of {datagrams} datagrams", machine());
     std::fs::write(path, picture::svg(&run, &rows)).expect("the picture is written");

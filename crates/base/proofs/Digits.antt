@@ -18,6 +18,10 @@ digits16 x h = omega arith
 pub digits24 : (x : ℕ) → x < numbers24 → x % 256 + x / 256 % 256 * 256 + x / 65536 % 256 * 65536 ≡ x
 digits24 x h = omega arith
 
+pub digits32 : (x : ℕ) → x < 4294967296
+    → (x / 65536 / 256 % 256 * 256 + x / 65536 % 256) * 65536 + (x / 256 % 256 * 256 + x % 256) ≡ x
+digits32 x h = omega arith
+
 -- ---- from bytes to a number and back
 module _ (a b : ℕ) (ha : a < 256) (hb : b < 256) where
   pub d16-0 : (a * 256 + b) / 256 % 256 ≡ a
@@ -35,6 +39,19 @@ module _ (a b c : ℕ) (ha : a < 256) (hb : b < 256) (hc : c < 256) where
 
   pub d24-2 : (a + b * 256 + c * 65536) / 65536 % 256 ≡ c
   d24-2 = omega arith
+
+module _ (a b c d : ℕ) (ha : a < 256) (hb : b < 256) (hc : c < 256) (hd : d < 256) where
+  pub d32-0 : ((a * 256 + b) * 65536 + (c * 256 + d)) / 65536 / 256 % 256 ≡ a
+  d32-0 = omega arith
+
+  pub d32-1 : ((a * 256 + b) * 65536 + (c * 256 + d)) / 65536 % 256 ≡ b
+  d32-1 = omega arith
+
+  pub d32-2 : ((a * 256 + b) * 65536 + (c * 256 + d)) / 256 % 256 ≡ c
+  d32-2 = omega arith
+
+  pub d32-3 : ((a * 256 + b) * 65536 + (c * 256 + d)) % 256 ≡ d
+  d32-3 = omega arith
 
 -- ---- in the middle of a list
 module _ (u r : List ℕ) where

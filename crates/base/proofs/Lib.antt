@@ -9,3 +9,4 @@ pub mod Alike
 pub mod EachAt
 pub mod IfCases
 pub mod Runs
+pub mod Sorts

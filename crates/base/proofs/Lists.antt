@@ -8,7 +8,7 @@ use mathlib.Core.Option.{Option, none, some}
 use mathlib.Core.List.Memᴰ
 use mathlib.Core.List.{List, [], ◌∷◌, ◌++◌, map, append-nil, Memᴰ}
 use native.Mathlib.Omega.{arith}
-use lib.ListN.{length, replicate}
+use lib.ListN.{length, get_or, replicate}
 use lib.Dec.{eqb}
 use borrow.Author.Tests.{eqb-true, eqb-false}
 use Rattle.base.specs.Lists.{option, find, any, every, without, only, pairs, below}
@@ -220,6 +220,21 @@ module _ {A : Type 0} where
   pub length-positive : {x : A} (l : List A) → Memᴰ x l → 0 < length l
   length-positive [] m = absurd (Memᴰ.not-nil m)
   length-positive (y ∷ ys) m = omega arith
+
+  -- An element's place, and the element at a place.
+  pub place-of : (d : A) (l : List A) (x : A) → Memᴰ x l → (j : ℕ) × (j < length l) × (get_or l j d ≡ x)
+  place-of d [] x m = absurd (Memᴰ.not-nil m)
+  place-of d (y ∷ l) x m = go (Memᴰ.cases_cons m) (λ i. place-of d l x i)
+    where
+      go : (x ≡ y) ⊎ Memᴰ x l → (Memᴰ x l → (j : ℕ) × (j < length l) × (get_or l j d ≡ x)) → (j : ℕ) × (j < suc (length l))
+          × (get_or (y ∷ l) j d ≡ x)
+      go (inl q) rest = (0, omega arith, sym q)
+      go (inr i) rest = let r = rest i in let lt = r.1 in (suc r.0, omega arith, r.2)
+
+  pub at-place : (d : A) (l : List A) (k : ℕ) → k < length l → Memᴰ (get_or l k d) l
+  at-place d [] k lt = absurd (omega arith)
+  at-place d (x ∷ l) zero lt = Memᴰ.head refl
+  at-place d (x ∷ l) (suc k) lt = Memᴰ.tail (at-place d l k (omega arith))
 
   -- Two changes after each other, where they come to the same for every element.
   pub map-map : (f g h k : A → A) (l : List A) → ((x : A) → Memᴰ x l → f (g x) ≡ k (h x)) → map f (map g l) ≡ map k (map h l)

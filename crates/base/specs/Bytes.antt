@@ -11,6 +11,10 @@ be16 s p = get_or s p 0 * 256 + get_or s (p + 1) 0
 unfoldable pub be32 : List ℕ → ℕ → ℕ
 be32 s p = be16 s p * 65536 + be16 s (p + 2)
 
+-- an image's fields "have 64 bits, big-endian" (request 5)
+unfoldable pub be64 : List ℕ → ℕ → ℕ
+be64 s p = be32 s p * 4294967296 + be32 s (p + 4)
+
 unfoldable pub le24 : List ℕ → ℕ → ℕ
 le24 s p = get_or s p 0 + get_or s (p + 1) 0 * 256 + get_or s (p + 2) 0 * 65536
 
@@ -20,6 +24,9 @@ be16_bytes x = x / 256 % 256 ∷ x % 256 ∷ []
 
 unfoldable pub be32_bytes : ℕ → List ℕ
 be32_bytes x = and_then (be16_bytes (x / 65536)) (be16_bytes x)
+
+unfoldable pub be64_bytes : ℕ → List ℕ
+be64_bytes x = and_then (be32_bytes (x / 4294967296)) (be32_bytes x)
 
 unfoldable pub le24_bytes : ℕ → List ℕ
 le24_bytes x = x % 256 ∷ x / 256 % 256 ∷ x / 65536 % 256 ∷ []

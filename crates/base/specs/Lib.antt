@@ -6,3 +6,4 @@ pub mod Numbers
 pub mod Put
 pub mod Bytes
 pub mod Lists
+pub mod Sort

@@ -1,4 +1,4 @@
--- Document 01's numbers ("Calls and their numbers"), and the answer that a call's `Result` is.
+-- Document 01's numbers ("Calls and their numbers"; 21 and 22 are request 5's), and the answer that a call's `Result` is.
 use Rattle.std.specs.Prelude.{ℕ, Result, Ok, Err}
 use Rattle.base.specs.Answer.{Answer, refused, gives}
 use Rattle.base.specs.declared.refusal.Refusal.{Refusal}
@@ -25,6 +25,8 @@ number_of refusal.FitsOneChunk = 17
 number_of refusal.TooManyPieces = 18
 number_of refusal.BeyondLast = 19
 number_of refusal.NoneReady = 20
+number_of refusal.BadForm = 21
+number_of refusal.NotRestorable = 22
 
 -- a refusal's number, or what the paper's value is of the code's
 abbrev pub answer_by : {A B : Type 0} → (A → B) → Result A Refusal → Answer B

@@ -3,7 +3,7 @@
 #![tactic(auto)]
 
 ghost use Rattle.std.specs.Prelude.{◌≡◌, ◌∷◌, [], get_or};
-ghost use Rattle.base.specs.Bytes.{be16, be32, le24, be16_bytes, be32_bytes, le24_bytes};
+ghost use Rattle.base.specs.Bytes.{be16, be32, be64, le24, be16_bytes, be32_bytes, be64_bytes, le24_bytes};
 ghost use Rattle.base.specs.Put.{Run};
 
 pub use refusal::Refusal;
@@ -74,6 +74,16 @@ pub fn be32_at(s: &[u8], p: usize) -> u32
     0
 }
 
+#[tactic(auto, unfolding(crate::specs::Bytes::be64, crate::specs::Bytes::be32, crate::specs::Bytes::be16))]
+pub fn be64_at(s: &[u8], p: usize) -> u64
+    ensures { result ≡ be64 s.now p }
+{
+    if p < s.len() {
+        return u64::from(be32_at(s, p)) * 4294967296 + u64::from(be32_at(s, p.saturating_add(4)));
+    }
+    0
+}
+
 #[tactic(auto, unfolding(crate::specs::Bytes::le24))]
 pub fn le24_at(s: &[u8], p: usize) -> u32
     ensures { result ≡ le24 s.now p }
@@ -138,4 +148,11 @@ pub fn put32(out: &mut [u8], p: usize, x: u32) -> usize
     ensures { Run p (be32_bytes x) out.old result out.new }
 {
     put_all(out, p, &x.to_be_bytes())
+}
+
+pub fn put64(out: &mut [u8], p: usize, x: u64) -> usize
+    ensures { Run p (be64_bytes x) out.old result out.new }
+{
+    let bytes = x.to_be_bytes();
+    put_all(out, p, &bytes)
 }

@@ -24,6 +24,8 @@ pub enum Refusal {
     TooManyPieces,
     BeyondLast,
     NoneReady,
+    BadForm,
+    NotRestorable,
 }
 
 impl From<Refusal> for u32 {

@@ -13,7 +13,7 @@ use Rattle.split.specs.Split.{split_piece_of}
 use Rattle.bare.specs.Frame as line
 use Rattle.bare.specs.Bare.{new, step}
 use Rattle.receiver.specs.Receive.{Report, receive_of}
-use Rattle.receiver.specs.Calls.{Receiver}
+use Rattle.receiver.specs.Receiver.{Receiver}
 use Rattle.receiver.specs.Claim.{Start, begun}
 
 -- reading at the first byte, under document 01's own profile, gives this frame with this body, to the last byte

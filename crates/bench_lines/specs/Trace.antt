@@ -7,7 +7,8 @@ use Rattle.reliability.specs.declared.Profile.TheVariants.{Console}
 use Rattle.bare.specs.Frame.{Message}
 use Rattle.receiver.specs.Receive.{datagram_number}
 use Rattle.receiver.specs.Take.{Handed, take_of}
-use Rattle.receiver.specs.Calls.{Call, receive, take_with, write_unsent, Receiver, made, outcome, after_all, handed_out}
+use Rattle.receiver.specs.Calls.{Call, receive, take_with, write_unsent, made, outcome, after_all, handed_out}
+use Rattle.receiver.specs.Receiver.{Receiver}
 use Rattle.bench_lines.specs.BenchLines.{reported}
 
 -- "`84000000` with the kind 3 frame above", of order number 1 and body 42

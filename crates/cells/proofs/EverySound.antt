@@ -124,7 +124,7 @@ held-is l c o = held-find l c o l ∙ case_option (find (sits (held_as c o) 0) l
     (λ e. rw e)
     (λ s e. let p = of-held c o s (sits-is (held_as c o) 0 s (find-some _ _ e).1).0 in rw e (cc (p.0, p.1)))
 
-present-has : (l : List Slot) → Core l → (k : Key) → (use_of k ≡ 1 → ⊥) → any (of k) l ≡ has (message_at k l)
+pub present-has : (l : List Slot) → Core l → (k : Key) → (use_of k ≡ 1 → ⊥) → any (of k) l ≡ has (message_at k l)
 present-has l v k ne = cases (any (of k) l)
     (λ y. let a = any-true (of k) l y in
     let m = message-some k l (there-first k l a.0.cell.count (v.bounds a.0 a.1 (key-used k a.0 a.2)).some-count

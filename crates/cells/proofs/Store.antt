@@ -89,7 +89,7 @@ pub record Shaped (n : ℕ) (l : List Slot) : Type 0 where
   pub sized : AllSized l
   pub many : length l ≡ n
 
-empty-sized : Sized empty_slot
+pub empty-sized : Sized empty_slot
 unfolding empty_slot empty_cell is_free
 empty-sized = record { none = λ e. refl; exact = λ e. absurd (true≢false e); fits = λ e. absurd (true≢false e) }
 

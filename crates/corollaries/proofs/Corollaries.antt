@@ -12,20 +12,22 @@ use Rattle.window.specs.Window.{insert_of}
 use Rattle.window.proofs.Laws.{refusal-keeps-window}
 use Rattle.receiver.specs.Queue.{unsent_of}
 use Rattle.receiver.specs.Receive.{datagram_number}
-use Rattle.receiver.specs.Calls.{Call, receive, Receiver, outcome, after_all}
+use Rattle.receiver.specs.Calls.{Call, receive, outcome, after_all}
+use Rattle.receiver.specs.Receiver.{Receiver, sound_receiver, Arrays}
 use Rattle.receiver.specs.Claim.{Start, begun, Typed, told_by}
 use Rattle.receiver.proofs.Runs.{runs}
 use Rattle.receiver.proofs.Demand.{start-sane, demand-3}
+use Rattle.receiver.proofs.Sanes.{sane, sane-sound}
 use Rattle.bare.specs.Sequenced.{numbered_line, sequences_of, kind4, sequenced_on, RisesFrom}
 use Rattle.bare.proofs.Sequenced.{line-numbered, kind-1-rises, kind-4-rises, kinds-1-and-4-rise}
 use Rattle.corollaries.specs.Sequenced.{SequencedRise}
-use Rattle.corollaries.specs.Refusals.{RefusedWith, lent, lent_after, IsAccepted, sound_receiver, Arrays}
+use Rattle.corollaries.specs.Refusals.{RefusedWith, lent, lent_after, FitLengths, IsAccepted}
 use Rattle.corollaries.proofs.Refusals.{refusal-keeps, sound-no-9}
 use Rattle.corollaries.proofs.UnsentAfter.{accepted-unsent}
-use Rattle.corollaries.proofs.SoundStays.{run_sound}
 
--- "A refusal returns its number and the state unchanged, and writes nothing to any lent slice.": of receive, take, both writings
--- and dropping: receiver, records, store and the slice that is the call's own.
+-- "A refusal returns its number and the state unchanged, and writes nothing to any lent slice.": of receive, take, both writings,
+-- dropping and saving: receiver, records, store and the slice that is the call's own; and of a resumption receiver, records and store of
+-- the one that was saved.
 pub refused-changes-nothing : (x : Receiver) (c : Call) (n : ℕ) → RefusedWith x c n → ((outcome x c).left ≡ x) × (lent_after x c ≡ lent c)
 refused-changes-nothing = refusal-keeps
 
@@ -47,25 +49,28 @@ refused-adds-none x d n e = ap (λ (y : Receiver). unsent_of y.queue) (refusal-k
 -- list of calls, refused ones too.
 pub sound-stays : (cs : List Call) (x : Receiver) → Typed cs → Arrays x.queue → sound_receiver x ≡ true
     → Arrays (after_all outcome x cs).queue × (sound_receiver (after_all outcome x cs) ≡ true)
-sound-stays = run_sound
+sound-stays cs x t z s =
+    let v = sane-sound (after_all outcome x cs) (runs cs x t (sane x (record { arrays = z; call = s }))).sane in
+    (v.arrays, v.call)
 
 -- and after each call
 pub sound-stays-one : (c : Call) (x : Receiver) → Typed (c ∷ []) → Arrays x.queue → sound_receiver x ≡ true
     → Arrays (outcome x c).left.queue × (sound_receiver (outcome x c).left ≡ true)
 unfolding after_all
-sound-stays-one c x b z s = run_sound (c ∷ []) x b z s
+sound-stays-one c x b z s = sound-stays (c ∷ []) x b z s
 
 -- a receiver just made is sound, and what calls make of it
 pub reached-is-sound : (s : Start) (cs : List Call) → Typed cs → sound_receiver (after_all outcome (begun s) cs) ≡ true
 reached-is-sound s cs b = (runs cs (begun s) b (start-sane s)).sane.sound
 
--- "9 slice lengths .. or records unsound": a sound state never gets it, whatever the call
-pub sound-never-9 : (x : Receiver) (c : Call) → sound_receiver x ≡ true → RefusedWith x c 9 → ⊥
+-- "9 slice lengths .. or records unsound": a sound state never gets it, whatever the call (what a resumption restores into has the right
+-- lengths, too)
+pub sound-never-9 : (x : Receiver) (c : Call) → FitLengths c → sound_receiver x ≡ true → RefusedWith x c 9 → ⊥
 sound-never-9 = sound-no-9
 
 -- nor does any call of a list from a receiver just made
-pub never-9 : (s : Start) (cs : List Call) (c : Call) → Typed cs → RefusedWith (after_all outcome (begun s) cs) c 9 → ⊥
-never-9 s cs c b = sound-no-9 (after_all outcome (begun s) cs) c (reached-is-sound s cs b)
+pub never-9 : (s : Start) (cs : List Call) (c : Call) → FitLengths c → Typed cs → RefusedWith (after_all outcome (begun s) cs) c 9 → ⊥
+never-9 s cs c f b = sound-no-9 (after_all outcome (begun s) cs) c f (reached-is-sound s cs b)
 
 -- Request 1: on one channel the sequence numbers of the kind 1 messages that a list's takes hand out rise strictly, and in the console
 -- profile so do kind 4's among all of them; in the C++ profile (request 2) those of both kinds together, on one channel.

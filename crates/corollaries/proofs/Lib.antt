@@ -1,5 +1,5 @@
 pub mod Refusals
 pub mod UnsentAfter
-pub mod SoundStays
 pub mod Corollaries
 pub mod Teeth
+pub mod ImageTeeth

@@ -2,39 +2,47 @@
 -- Assumes nothing.
 use Prim.Native.Nat.{ℕ}
 use mathlib.Core.Path.{◌≡◌, refl, sym, ◌∙◌, ap}
-use mathlib.Core.Bool.{Bool, true, false, ◌&&◌}
+use mathlib.Core.Bool.{Bool, true, false}
 use mathlib.Core.Option.{some}
 use mathlib.Core.List.{List, [], ◌∷◌}
 use native.Mathlib.Omega.{arith}
-use lib.ListN.{length, get_or}
+use lib.ListN.{length, get_or, take}
 use lib.Dec.{eqb}
 use Rattle.base.specs.Answer.{Answer, refused, gives}
 use Rattle.base.specs.Limits.{min_datagram, max_datagram, max_unsent, window_places}
 use Rattle.base.specs.Lists.{find}
 use Rattle.base.specs.Numbers.{distance}
-use Rattle.base.proofs.Choices.{by_bool, by_option, and_left, and_right, neither}
+use Rattle.base.specs.Put.{put}
+use Rattle.base.proofs.Choices.{by_bool, by_option, neither}
 use Rattle.ack.proofs.WriteLaws.{write-cases, refused-writes-nothing}
 use Rattle.window.specs.Missing.{missing}
 use Rattle.window.specs.Window.{accepted}
 use Rattle.bare.specs.Frame.{Message}
 use Rattle.cells.specs.Cell.{Cell, ready_as, at, message_at}
 use Rattle.cells.specs.Datagram.{datagram}
-use Rattle.cells.specs.Sound.{lengths, sound_cells}
+use Rattle.cells.specs.Sound.{lengths}
 use Rattle.cells.specs.Store.{slots_of}
 use Rattle.cells.specs.Take.{earliest}
 use Rattle.receiver.specs.declared.RecvQueue.{RecvQueue}
-use Rattle.receiver.specs.Queue.{next_of, profile_in, unsent_of, sound_queue}
+use Rattle.receiver.specs.Queue.{profile_in, unsent_of, sound_queue}
 use Rattle.receiver.specs.Receive.{Received, datagram_number, is_datagram, frames_in, accept_all, state_of, accepted_result, refused_result}
 use Rattle.receiver.specs.Receive.{sound_call, receive_of}
 use Rattle.receiver.specs.Take.{TakeResult, handed, take_of}
 use Rattle.receiver.specs.Write.{Wrote, sorted, emptied, write_of, write_unsent_of, write_missing_of}
 use Rattle.receiver.specs.Drop.{DropResult, drop_unfinished_of}
-use Rattle.receiver.specs.Calls.{Call, receive, take_with, write_unsent, write_missing, drop_unfinished, Receiver, refusal_of, took_of}
-use Rattle.receiver.specs.Calls.{receive_outcome, take_outcome, write_outcome, drop_outcome, outcome}
+use Rattle.receiver.specs.Calls.{Call, receive, take_with, write_unsent, write_missing, drop_unfinished, save, resume, refusal_of, took_of}
+use Rattle.receiver.specs.Receiver.{Receiver, sound_receiver}
+use Rattle.receiver.specs.Calls.{receive_outcome, take_outcome, write_outcome, drop_outcome, save_outcome, restored_or, restore_outcome}
+use Rattle.receiver.specs.Calls.{resume_outcome, outcome}
+use Rattle.receiver.specs.Save.{Saved, save_of}
+use Rattle.receiver.specs.Restore.{Restored, restore_of}
 use Rattle.receiver.proofs.AnswerCases.{by-true, by-lt, by_le, Accepted, receive-ways, Found, take-ways}
 use Rattle.receiver.proofs.Hands.{Gave, handed-ways}
 use Rattle.receiver.proofs.Drops.{drop-ways, refuses-9-alone}
-use Rattle.corollaries.specs.Refusals.{RefusedWith, lent, lent_after, sound_receiver}
+use Rattle.receiver.proofs.RestoreAnswers.{restore-ways, answer-9}
+use Rattle.receiver.proofs.Receives.{queue-sound}
+use Rattle.receiver.proofs.SaveAnswers.{bytes_of, save-ways, refused-save-changes-nothing, save-9}
+use Rattle.corollaries.specs.Refusals.{RefusedWith, lent, lent_after, FitLengths}
 
 pub never-refused : {A X : Type 0} (x : A) (n : ℕ) → gives x ≡ refused n → X
 never-refused x n e = absurd (let z : ◌≡◌ {A = ℕ} 0 1 = cc in omega arith)
@@ -97,9 +105,27 @@ unfolding refusal_of
 answer-refused (refused m) n e = cc
 answer-refused (gives x) n e = absurd (let z : ◌≡◌ {A = ℕ} 0 1 = cc in omega arith)
 
+-- ---- resume
+restore-refused : (x y : Receiver) (bytes : List ℕ) (n : ℕ)
+    → (restore_outcome x (restore_of y.queue y.records y.store bytes)).refusal ≡ some n
+    → (restore_outcome x (restore_of y.queue y.records y.store bytes)).left ≡ x
+unfolding restore_outcome restored_or refusal_of
+restore-refused x y bytes n =
+    restore-ways y bytes (λ (r : Restored). (restore_outcome x r).refusal ≡ some n → (restore_outcome x r).left ≡ x)
+    (λ s e. refl) (λ s c e. refl) (λ s i r b e. refl) (λ s i r b e. absurd (let z : ◌≡◌ {A = ℕ} 0 1 = cc in omega arith))
+
+resume-refused : (x : Receiver) (out : List ℕ) (y : Receiver) (n : ℕ)
+    → (resume_outcome x y (save_of x.queue x.records x.store out)).refusal ≡ some n
+    → (resume_outcome x y (save_of x.queue x.records x.store out)).left ≡ x
+unfolding resume_outcome save_outcome
+resume-refused x out y n =
+    save-ways x out (λ (r : Saved). (resume_outcome x y r).refusal ≡ some n → (resume_outcome x y r).left ≡ x)
+    (λ s e. refl) (λ s lt e. refl)
+    (λ s le e. restore-refused x y (take (length (bytes_of x out)) (put out 0 (bytes_of x out))) n e)
+
 -- "A refusal returns its number and the state unchanged, and writes nothing to any lent slice."
 pub refusal-keeps : (x : Receiver) (c : Call) (n : ℕ) → RefusedWith x c n → ((outcome x c).left ≡ x) × (lent_after x c ≡ lent c)
-unfolding outcome receive_outcome take_outcome write_outcome drop_outcome
+unfolding outcome receive_outcome take_outcome write_outcome drop_outcome save_outcome
 refusal-keeps x (receive d) n e =
     let r = receive-refused x.queue x.records x.store d n (answer-refused _ n e) in
     (unfold refused_result in rw r, refl)
@@ -113,6 +139,8 @@ refusal-keeps x (write_missing out) n e = unfold write_missing_of in
     (let r = write-refused x.queue x.queue true (missing x.queue.datagrams) out n (answer-refused _ n e) in
     (rw r.0, r.1))
 refusal-keeps x (drop_unfinished k) n e = (rw (drop-refused x.queue x.records x.store k n (answer-refused _ n e)), refl)
+refusal-keeps x (save out) n e = (refl, refused-save-changes-nothing x out n (answer-refused _ n e))
+refusal-keeps x (resume out y) n e = (resume-refused x out y n e, refl)
 
 -- ---- 9
 abbrev NotNine : {A : Type 0} → Answer A → Type 0
@@ -163,19 +191,33 @@ write-no-9 q next nack l out s =
     (other-number 12 9 (omega arith)) (λ n w. never-refused n 9))
     (λ t e. neither (sound_queue q) s t)
 
-pub queue-sound : (x : Receiver) → sound_receiver x ≡ true → sound_queue x.queue ≡ true
-unfolding sound_call
-queue-sound x s =
-    and_left (sound_queue x.queue) (sound_cells x.records (next_of x.queue))
-    (and_right (lengths (length x.records) (length x.store)) (sound_queue x.queue && sound_cells x.records (next_of x.queue)) s)
+save-no-9 : (x : Receiver) (out : List ℕ) → sound_receiver x ≡ true → NotNine (save_of x.queue x.records x.store out).answer
+save-no-9 x out s e = neither (sound_receiver x) s ((save-9 x out).0 e)
 
-pub sound-no-9 : (x : Receiver) (c : Call) → sound_receiver x ≡ true → RefusedWith x c 9 → ⊥
-unfolding outcome receive_outcome take_outcome write_outcome drop_outcome
-sound-no-9 x (receive d) s e = receive-no-9 x.queue x.records x.store d s (answer-refused _ 9 e)
-sound-no-9 x (take_with buffer) s e = take-no-9 x.queue x.records x.store buffer s (answer-refused _ 9 e)
-sound-no-9 x (write_unsent out) s e = unfold write_unsent_of in
-    write-no-9 x.queue (emptied x.queue) false (sorted (unsent_of x.queue)) out (queue-sound x s) (answer-refused _ 9 e)
-sound-no-9 x (write_missing out) s e = unfold write_missing_of in
-    write-no-9 x.queue x.queue true (missing x.queue.datagrams) out (queue-sound x s) (answer-refused _ 9 e)
-sound-no-9 x (drop_unfinished n) s e = neither (sound_receiver x) s
+restore-no-9 : (x y : Receiver) (bytes : List ℕ) → lengths (length y.records) (length y.store) ≡ true
+    → (restore_outcome x (restore_of y.queue y.records y.store bytes)).refusal ≡ some 9 → ⊥
+unfolding restore_outcome
+restore-no-9 x y bytes len e =
+    neither (lengths (length y.records) (length y.store)) len ((answer-9 y bytes).0 (answer-refused _ 9 e))
+
+resume-no-9 : (x : Receiver) (out : List ℕ) (y : Receiver) → sound_receiver x ≡ true → lengths (length y.records) (length y.store) ≡ true
+    → (resume_outcome x y (save_of x.queue x.records x.store out)).refusal ≡ some 9 → ⊥
+unfolding resume_outcome save_outcome
+resume-no-9 x out y s len =
+    save-ways x out (λ (r : Saved). (resume_outcome x y r).refusal ≡ some 9 → ⊥)
+    (λ t e. neither (sound_receiver x) s t) (λ t lt e. other-number {A = ℕ} 12 9 (omega arith) (answer-refused _ 9 e))
+    (λ t le e. restore-no-9 x y (take (length (bytes_of x out)) (put out 0 (bytes_of x out))) len e)
+
+pub sound-no-9 : (x : Receiver) (c : Call) → FitLengths c → sound_receiver x ≡ true → RefusedWith x c 9 → ⊥
+unfolding outcome receive_outcome take_outcome write_outcome drop_outcome save_outcome
+sound-no-9 x (receive d) f s e = receive-no-9 x.queue x.records x.store d s (answer-refused _ 9 e)
+sound-no-9 x (take_with buffer) f s e = take-no-9 x.queue x.records x.store buffer s (answer-refused _ 9 e)
+sound-no-9 x (write_unsent out) f s e = unfold write_unsent_of in
+    write-no-9 x.queue (emptied x.queue) false (sorted (unsent_of x.queue)) out (queue-sound x.queue x.records x.store s)
+    (answer-refused _ 9 e)
+sound-no-9 x (write_missing out) f s e = unfold write_missing_of in
+    write-no-9 x.queue x.queue true (missing x.queue.datagrams) out (queue-sound x.queue x.records x.store s) (answer-refused _ 9 e)
+sound-no-9 x (drop_unfinished n) f s e = neither (sound_receiver x) s
     (refuses-9-alone x.queue x.records x.store n 9 (answer-refused _ 9 e)).1
+sound-no-9 x (save out) f s e = save-no-9 x out s (answer-refused _ 9 e)
+sound-no-9 x (resume out y) f s e = resume-no-9 x out y s f e

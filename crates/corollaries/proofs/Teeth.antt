@@ -39,7 +39,8 @@ use Rattle.receiver.specs.Receive.{frame_in, frames_in, bytes_left, accept_all, 
 use Rattle.receiver.specs.Receive.{refused_result, sound_call, receive_of}
 use Rattle.receiver.specs.Take.{handed, take_of}
 use Rattle.receiver.specs.Write.{sorted, write_of, emptied, write_unsent_of}
-use Rattle.receiver.specs.Calls.{Call, take_with, Receiver, Outcome, Done, accepted, freed, made, zeros, takes, bytes_at, message_handed}
+use Rattle.receiver.specs.Calls.{Call, take_with, Outcome, Done, accepted, freed, made, zeros, takes, bytes_at, message_handed}
+use Rattle.receiver.specs.Receiver.{Receiver}
 use Rattle.receiver.specs.Calls.{took_of, accepted_by, dropped_by, refusal_of, receive_outcome, take_outcome, write_outcome, drop_outcome}
 use Rattle.receiver.specs.Calls.{outcome, after_all, handed_out, done_by, still_out, drained, event_of, events_of, bare_answers}
 use Rattle.receiver.specs.Drop.{drop_unfinished_of}
@@ -48,9 +49,9 @@ use Rattle.corollaries.specs.Wrong.{outcome_with, idle, untouched, acknowledged,
 use Rattle.corollaries.specs.Wrong.{hasty, aged_if_refused, counting_refused, without_last, another_id, trace1, trace2, trace_calls}
 use Rattle.corollaries.specs.Wrong.{half, drop_calls, two_ids, trace_start}
 
--- What takes handed out over these calls, then what they would still hand out. `unfolding out_by` opens every definition that such a run
--- computes with, beside those that `run` does.
-unfoldable pub out_by : (Receiver → Call → Outcome) → List Message
+-- What takes handed out over a list of calls, then what they would still hand out. `unfolding out_by` opens every definition that such a
+-- run computes with, beside those that `run` does.
+unfoldable pub out_by : (Receiver → Call → Outcome) → List Call → List Message
 unfolding trace1 trace2 trace_calls trace_start made zeros takes bytes_at message_handed took_of accepted_by refusal_of receive_outcome
     take_outcome write_outcome drop_outcome dropped_by outcome event_of events_of
     bare_answers after_all handed_out done_by still_out drained line_for
@@ -67,7 +68,7 @@ unfolding trace1 trace2 trace_calls trace_start made zeros takes bytes_at messag
     new_dated dated.happens dated.after_events receive_dated dated.keeps_piece dated.dated_at dated.last_after since is_stale drop_stale
     stale_pieces frames_of outcome_with idle untouched acknowledged first_only mute keeping droppable is_stale_early hasty
     aged_if_refused counting_refused without_last another_id half drop_calls two_ids
-out_by by = handed_out by (begun trace_start) trace_calls ++ still_out by (after_all by (begun trace_start) trace_calls)
+out_by by cs = handed_out by (begun trace_start) cs ++ still_out by (after_all by (begun trace_start) cs)
 
 -- how many open pieces pass a test, the bare receiver's and those in the cells, after a list of calls
 unfoldable pub bare_open : (Receiver → Call → Outcome) → List Call → (Piece → Bool) → ℕ
@@ -80,20 +81,20 @@ open_in by cs p = let x = after_all by (begun trace_start) cs in count_of (λ s.
 unfoldable pub trace_line : List Message
 trace_line = msg 3 0 0 (0x41 ∷ []) ∷ msg 3 0 1 (0x42 ∷ []) ∷ []
 
--- what they do: two datagrams accepted, with its answers' counts
-unfoldable pub does_by : (Receiver → Call → Outcome) → List Done
-does_by by = done_by by (begun trace_start) trace_calls
+-- what a list does; here, two datagrams are accepted, with the answers' counts
+unfoldable pub does_by : (Receiver → Call → Outcome) → List Call → List Done
+does_by by cs = done_by by (begun trace_start) cs
 
 unfoldable pub trace_done : List Done
 trace_done =
     accepted (record { frames = whole-frame 3 0 0 1 0x42 ∷ []; ready = 0; dropped = 0 })
     ∷ accepted (record { frames = whole-frame 3 1 0 0 0x41 ∷ []; ready = 2; dropped = 0 }) ∷ []
 
-ours-does : does_by outcome ≡ trace_done
+ours-does : does_by outcome trace_calls ≡ trace_done
 unfolding run out_by does_by trace_done
 ours-does = refl
 
-ours-hands-out : out_by outcome ≡ trace_line
+ours-hands-out : out_by outcome trace_calls ≡ trace_line
 unfolding run out_by trace_line
 ours-hands-out = refl
 
@@ -130,18 +131,19 @@ ours-passes =
 
 -- Calls that accept frames with two messages in the line and hand out none fail.
 none-handed-out : (by : Receiver → Call → Outcome) → length (line_for Console (told_by by trace_start trace_calls)) ≡ 2
-    → length (out_by by) ≡ 0
+    → length (out_by by trace_calls) ≡ 0
     → OneList by trace_start trace_calls → ⊥
 none-handed-out by two none o =
-    let c : line_for Console (told_by by trace_start trace_calls) ≡ out_by by = unfold out_by in o.line in
-    let n : length (line_for Console (told_by by trace_start trace_calls)) ≡ length (out_by by) = ap {B = ℕ} (λ l. length l) c in
+    let c : line_for Console (told_by by trace_start trace_calls) ≡ out_by by trace_calls = unfold out_by in o.line in
+    let n : length (line_for Console (told_by by trace_start trace_calls)) ≡ length (out_by by trace_calls) =
+    ap {B = ℕ} (λ l. length l) c in
     omega arith
 
 idle-line : length (line_for Console (told_by idle trace_start trace_calls)) ≡ 2
 unfolding run out_by
 idle-line = refl
 
-idle-out : length (out_by idle) ≡ 0
+idle-out : length (out_by idle trace_calls) ≡ 0
 unfolding run out_by
 idle-out = refl
 
@@ -153,7 +155,7 @@ first-only-line : length (line_for Console (told_by first_only trace_start trace
 unfolding run out_by
 first-only-line = refl
 
-first-only-out : length (out_by first_only) ≡ 0
+first-only-out : length (out_by first_only trace_calls) ≡ 0
 unfolding run out_by
 first-only-out = refl
 
@@ -165,7 +167,7 @@ mute-line : length (line_for Console (told_by mute trace_start trace_calls)) ≡
 unfolding run out_by
 mute-line = refl
 
-mute-out : length (out_by mute) ≡ 0
+mute-out : length (out_by mute trace_calls) ≡ 0
 unfolding run out_by
 mute-out = refl
 

@@ -12,10 +12,11 @@ use Rattle.base.proofs.Choices.{by_bool}
 use Rattle.cells.specs.Datagram.{datagram}
 use Rattle.receiver.specs.Queue.{profile_in, unsent_of, insert_unsent}
 use Rattle.receiver.specs.Receive.{Received, datagram_number, frames_in, state_of, queue_after, accepted_result, refused_result}
-use Rattle.receiver.specs.Calls.{receive, Receiver, refusal_of, receive_outcome, outcome}
+use Rattle.receiver.specs.Calls.{receive, refusal_of, receive_outcome, outcome}
+use Rattle.receiver.specs.Receiver.{Receiver, Arrays}
 use Rattle.receiver.proofs.Unsent.{taken-after}
 use Rattle.receiver.proofs.AnswerCases.{Accepted, receive-ways}
-use Rattle.corollaries.specs.Refusals.{IsAccepted, Arrays}
+use Rattle.corollaries.specs.Refusals.{IsAccepted}
 
 mem-insert : (n : ℕ) (l : List ℕ) (m : ℕ) → Memᴰ m (insert_unsent n l) → (m ≡ n) ⊎ Memᴰ m l
 unfolding insert_unsent

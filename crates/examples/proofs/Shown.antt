@@ -2,14 +2,16 @@
 -- Assumes nothing.
 use Prim.Native.Nat.{ℕ, ◌+◌, ◌*◌, ◌-◌}
 use mathlib.Core.Bool.{Bool, true, false}
+use mathlib.Core.Option.{Option, none, some}
 use mathlib.Core.List.{List, [], ◌∷◌, ◌++◌}
 use lib.ListN.{length, take, replicate}
 use Rattle.base.specs.Answer.{Answer, refused, gives}
-use Rattle.base.specs.Bytes.{be16, be32, le24, be16_bytes, le24_bytes}
+use Rattle.base.specs.Bytes.{be16, be32, be64, le24, be16_bytes, be32_bytes, be64_bytes, le24_bytes}
 use Rattle.base.specs.If.{if_true, if_lt, if_le, if_eq}
 use Rattle.base.specs.Limits.{cell_bytes, max_ord_chans, max_unsent}
 use Rattle.base.specs.Lists as lists
 use Rattle.base.specs.Put.{put, and_then}
+use Rattle.base.specs.Sort as sort
 use Rattle.reliability.specs.declared.Profile.{Profile}
 use Rattle.reliability.specs.Kinds.{fields_of}
 use Rattle.reliability.specs.Profiles.{profile_of}
@@ -26,15 +28,24 @@ use Rattle.cells.specs.Cell as cell
 use Rattle.cells.specs.Ages as ages
 use Rattle.cells.specs.Datagram as datagram
 use Rattle.cells.specs.Records as cells
+use Rattle.cells.specs.Room as room
 use Rattle.cells.specs.Sound as sound
 use Rattle.cells.specs.Store as store
 use Rattle.cells.specs.Take as ready
+use Rattle.image.specs.Format as format
+use Rattle.image.specs.Image as image
+use Rattle.image.specs.Windows as windows
+use Rattle.image.specs.Entries as entries
+use Rattle.image.specs.Slots as slots
 use Rattle.receiver.specs.declared.RecvQueue.{RecvQueue}
 use Rattle.receiver.specs.Queue as queue
 use Rattle.receiver.specs.Receive as receive
 use Rattle.receiver.specs.Take as take
 use Rattle.receiver.specs.Write as write
 use Rattle.receiver.specs.Drop as drop
+use Rattle.receiver.specs.Receiver.{Receiver}
+use Rattle.receiver.specs.Save as save
+use Rattle.receiver.specs.Restore as restore
 use Rattle.receiver.specs.Calls as calls
 
 -- A whole frame: kind, reliable, sequence and order number, channel, body.
@@ -132,22 +143,34 @@ unfoldable pub freeing : Answer ℕ → Told
 freeing (refused number) = no number
 freeing (gives n) = freed n
 
-unfoldable pub telling : calls.Receiver → calls.Call → Told
+-- a restore writes nothing
+unfoldable pub restored : Answer (Unit {0}) → Told
+restored (refused number) = no number
+restored (gives x) = wrote []
+
+-- a resumption writes nothing but what the save wrote
+unfoldable pub resuming : Option ℕ → Told
+resuming none = wrote []
+resuming (some number) = no number
+
+unfoldable pub telling : Receiver → calls.Call → Told
 telling x (calls.receive d) = received (receive.receive_of x.queue x.records x.store d).answer
 telling x (calls.take_with buffer) = let r = take.take_of x.queue x.records x.store buffer in
     taken x.store r.joined r.answer
 telling x (calls.write_unsent out) = let r = write.write_unsent_of x.queue out in written r.out r.answer
 telling x (calls.write_missing out) = let r = write.write_missing_of x.queue out in written r.out r.answer
 telling x (calls.drop_unfinished n) = freeing (drop.drop_unfinished_of x.queue x.records x.store n).answer
+telling x (calls.save out) = let r = save.save_of x.queue x.records x.store out in written r.out r.answer
+telling x (calls.resume out y) = resuming (calls.outcome x (calls.resume out y)).refusal
 
-unfoldable pub seen : Told → calls.Receiver → Seen
+unfoldable pub seen : Told → Receiver → Seen
 seen told x =
     saw told (x.queue.datagrams.low ∷ x.queue.reliables.low ∷ []) (queue.unsent_of x.queue)
     (queue.next_of x.queue 0 ∷ queue.next_of x.queue 1 ∷ [])
     (queue.newest_of x.queue 0 ∷ queue.newest_of x.queue 1 ∷ queue.newest_of x.queue max_ord_chans ∷ [])
     (store.slots_of x.records x.store)
 
-unfoldable pub seeing : calls.Receiver → List calls.Call → List Seen
+unfoldable pub seeing : Receiver → List calls.Call → List Seen
 seeing x [] = []
 seeing x (c ∷ cs) = let y = (calls.outcome x c).left in seen (telling x c) y ∷ seeing y cs
 
@@ -183,9 +206,27 @@ unfolding if_true if_lt if_le if_eq be16 be32 le24 be16_bytes le24_bytes put and
     receive.frame_in receive.frames_in receive.bytes_left receive.accept_all receive.state_of receive.channels_after receive.queue_after
     receive.accepted_result receive.refused_result receive.sound_call receive.receive_of
     take.handed take.take_of write.sorted write.write_of write.emptied write.write_unsent_of write.write_missing_of drop.drop_unfinished_of
+    be64 be32_bytes be64_bytes lists.only lists.same sort.insert_by sort.sort_by room.is_held_first
+    format.exactly format.number32 format.number64 format.both format.formed format.write_all format.read_all format.many format.counted
+    format.section format.body
+    image.window_format image.channel_format image.four_numbers image.piece_format image.message_format image.image_format
+    image.image_bytes image.read_image windows.eight windows.packed windows.window_entry windows.window_from
+    entries.piece_entry entries.bodies_of entries.message_entry entries.pieces_in entries.held_in entries.ready_in
+    slots.piece_slot slots.part_slot slots.parts slots.held_slots slots.ready_slots slots.used_slots slots.slots_from
+    save.channels_in save.image_of save.save_of
+    restore.queue_from restore.restored restore.valid restore.restore_of
     calls.made calls.bytes_at calls.message_handed calls.receive_outcome calls.take_outcome calls.write_outcome calls.drop_outcome
-    calls.outcome received message taken written freeing telling seen seeing
+    calls.save_outcome calls.restored_or calls.restore_outcome calls.resume_outcome
+    calls.outcome received message taken written freeing restored resuming telling seen seeing
 run p n cs = seeing (calls.made p n (replicate (cell_bytes * n) 0)) cs
+
+-- An image restored over a receiver just made.
+unfoldable pub restoring : Profile → ℕ → List ℕ → Seen
+unfolding run
+restoring p n bytes =
+    let x = calls.made p n (replicate (cell_bytes * n) 0) in
+    let r = restore.restore_of x.queue x.records x.store bytes in
+    seen (restored r.answer) r.left
 
 -- A new receiver but for these values: both windows' low; the next and the memory of channel c; the receiver's own memory; its profile's
 -- number; the unsent numbers.

@@ -10,13 +10,16 @@ use Rattle.receiver.specs.Receive.{Received}
 use Rattle.receiver.specs.Take.{TakeResult}
 use Rattle.receiver.specs.Drop.{DropResult}
 use Rattle.receiver.specs.Write.{Wrote}
+use Rattle.receiver.specs.Save.{Saved}
+use Rattle.receiver.specs.Restore.{Restored}
 use Rattle.recv_new.specs.New.{MadeNew, make_new_of}
 use Rattle.exports.specs.declared.AckWritten.{AckWritten}
 use Rattle.exports.specs.Numbers.{number_of, ack_told}
 use Rattle.recv_answers.specs.declared.QueueReceived.{QueueReceived}
 use Rattle.recv_answers.specs.declared.QueueTaken.{QueueTaken}
 use Rattle.recv_answers.specs.declared.QueueDropped.{QueueDropped}
-use Rattle.recv_answers.specs.Told.{receive_told, take_told, drop_told}
+use Rattle.recv_answers.specs.declared.QueueSaved.{QueueSaved}
+use Rattle.recv_answers.specs.Told.{receive_told, take_told, drop_told, save_told}
 
 -- make new for the profile of a number: 9 where the number is none's, before all else, and nothing is changed
 unfoldable pub make_numbered_of : ℕ → RecvQueue → List Cell → List ℕ → MadeNew
@@ -77,3 +80,25 @@ write_numbers r q out = record { told = r; queue = q; out = out }
 
 unfoldable pub write_numbers_of : Wrote → WriteNumbers
 write_numbers_of x = write_numbers (ack_told x.answer) x.queue x.out
+
+pub record SaveNumbers : Type 0 where
+  pub told : QueueSaved
+  pub out : List ℕ
+
+unfoldable pub save_numbers : QueueSaved → List ℕ → SaveNumbers
+save_numbers r out = record { told = r; out = out }
+
+unfoldable pub save_numbers_of : Saved → SaveNumbers
+save_numbers_of x = save_numbers (save_told x.answer) x.out
+
+pub record RestoreNumbers : Type 0 where
+  pub told : ℕ
+  pub queue : RecvQueue
+  pub records : List Cell
+  pub store : List ℕ
+
+unfoldable pub restore_numbers : ℕ → RecvQueue → List Cell → List ℕ → RestoreNumbers
+restore_numbers r q rs st = record { told = r; queue = q; records = rs; store = st }
+
+unfoldable pub restore_numbers_of : Restored → RestoreNumbers
+restore_numbers_of x = restore_numbers (number_of x.answer) x.left.queue x.left.records x.left.store

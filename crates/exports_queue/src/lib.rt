@@ -9,14 +9,17 @@ ghost use Rattle.receiver.specs.Receive.{receive_of};
 ghost use Rattle.receiver.specs.Take.{take_of};
 ghost use Rattle.receiver.specs.Drop.{drop_unfinished_of};
 ghost use Rattle.receiver.specs.Write.{write_unsent_of, write_missing_of};
+ghost use Rattle.receiver.specs.Save.{save_of};
+ghost use Rattle.receiver.specs.Restore.{restore_of};
 ghost use Rattle.recv_new.specs.New.{made_new};
 ghost use Rattle.exports_queue.specs.Receiver.{make_numbered_of, new_numbers, new_numbers_of, receive_numbers, receive_numbers_of};
 ghost use Rattle.exports_queue.specs.Receiver.{take_numbers, take_numbers_of, drop_numbers, drop_numbers_of};
 ghost use Rattle.exports_queue.specs.Receiver.{write_numbers, write_numbers_of};
+ghost use Rattle.exports_queue.specs.Receiver.{save_numbers, save_numbers_of, restore_numbers, restore_numbers_of};
 
 use base::Refusal;
 use exports::AckWritten;
-use recv_answers::{QueueDropped, QueueReceived, QueueTaken};
+use recv_answers::{QueueDropped, QueueReceived, QueueSaved, QueueTaken};
 use recv_queue::{CellRecord, Profile, RecvQueue};
 
 // Make new, for the profile of a number.
@@ -106,4 +109,32 @@ pub extern "C" fn poghduka_write_missing(queue: &RecvQueue, out: &mut [u8]) -> A
         ≡ write_numbers_of (write_missing_of queue.now out.old) }
 {
     recv_queue::write_missing(queue, out).into()
+}
+
+#[tactic(auto, unfolding(recv_save::specs::Outcome::save_result, crate::specs::Receiver::save_numbers_of))]
+#[unsafe(no_mangle)]
+pub extern "C" fn poghduka_save(
+    queue: &RecvQueue,
+    records: &[CellRecord],
+    store: &[u8],
+    out: &mut [u8],
+) -> QueueSaved
+    ensures { save_numbers result out.new
+        ≡ save_numbers_of (save_of queue.now records.now store.now out.old) }
+{
+    recv_queue::save(queue, records, store, out).into()
+}
+
+#[tactic(auto, unfolding(recv_queue::specs::Answers::restore_result, crate::specs::Receiver::restore_numbers_of))]
+#[unsafe(no_mangle)]
+pub extern "C" fn poghduka_restore(
+    queue: &mut RecvQueue,
+    records: &mut [CellRecord],
+    store: &mut [u8],
+    image: &[u8],
+) -> u32
+    ensures { restore_numbers result queue.new records.new store.new
+        ≡ restore_numbers_of (restore_of queue.old records.old store.old image.now) }
+{
+    exports::number_of(recv_queue::restore(queue, records, store, image))
 }

@@ -32,7 +32,8 @@ use Rattle.cells.proofs.Store.{cells-slots}
 use Rattle.receiver.specs.declared.Channel.{Channel}
 use Rattle.receiver.specs.Queue.{new_channel, next_in, next_of, memories_in, newest_of, profile_in, new_queue, sound_queue}
 use Rattle.receiver.specs.Receive.{state_of, sound_call}
-use Rattle.receiver.specs.Calls.{Call, Receiver, made, outcome, after_all, handed_out, done_by, still_out, drained}
+use Rattle.receiver.specs.Calls.{Call, made, outcome, after_all, handed_out, done_by, still_out, drained}
+use Rattle.receiver.specs.Receiver.{Receiver}
 use Rattle.receiver.specs.Calls.{events_of}
 use Rattle.receiver.specs.Claim.{Start, begun, Typed, told_by, OneList, Claim}
 use Rattle.receiver.proofs.Queues.{new-good, good-sound}
@@ -173,8 +174,8 @@ module _ (s : Start) (cs : List Call) (typed : Typed cs) where
     unfinished = same-open;
   }
 
--- For every two lists of receive, take, writing the unsent, writing the missing and dropping the unfinished, each from a receiver just
--- made: document 01's demand 3.
+-- For every two lists of receive, take, writing the unsent, writing the missing, dropping the unfinished, saving and resuming, each from a
+-- receiver just made: document 01's demand 3.
 pub demand-3 : (s t : Start) (cs ds : List Call) → Typed cs → Typed ds → Claim s t cs ds
 demand-3 s t cs ds a b =
     record {

@@ -26,7 +26,8 @@ use Rattle.cells.proofs.Takes.{earliest-none, taken-freed}
 use Rattle.cells.proofs.Store.{Sized, AllSized, cells-slots}
 use Rattle.receiver.specs.Receive.{state_of}
 use Rattle.receiver.specs.Take.{TakeResult, take_refuses, handed, take_of}
-use Rattle.receiver.specs.Calls.{Call, receive, take_with, drop_unfinished, Receiver, refusal_of, take_outcome, outcome, zeros}
+use Rattle.receiver.specs.Calls.{Call, receive, take_with, drop_unfinished, refusal_of, take_outcome, outcome, zeros}
+use Rattle.receiver.specs.Receiver.{Receiver}
 use Rattle.receiver.specs.Calls.{long_buffer, takes, after_all, done_by, still_out, drained}
 use Rattle.receiver.specs.Claim.{Typed}
 use Rattle.receiver.proofs.AnswerCases.{Found}

@@ -23,7 +23,8 @@ use Rattle.receiver.specs.declared.RecvQueue.{RecvQueue}
 use Rattle.receiver.specs.Queue.{next_of}
 use Rattle.receiver.specs.Receive.{sound_call}
 use Rattle.receiver.specs.Drop.{DropResult, drop_refuses, drop_gives, drop_unfinished_of}
-use Rattle.receiver.specs.Calls.{Receiver, drop_unfinished, drop_outcome, outcome}
+use Rattle.receiver.specs.Calls.{drop_unfinished, drop_outcome, outcome}
+use Rattle.receiver.specs.Receiver.{Receiver}
 use Rattle.receiver.proofs.AnswerCases.{by-true}
 use Rattle.receiver.proofs.Receives.{cells-sound, other-records}
 

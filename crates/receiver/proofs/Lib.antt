@@ -14,3 +14,14 @@ pub mod Steps
 pub mod Runs
 pub mod Drains
 pub mod Demand
+pub mod Sanes
+pub mod ImageQueue
+pub mod Restores
+pub mod ImageFits
+pub mod Equal
+pub mod Exact
+pub mod SaveAnswers
+pub mod RestoreAnswers
+pub mod Resumes
+pub mod Form
+pub mod ByExample

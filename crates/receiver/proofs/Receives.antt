@@ -30,7 +30,7 @@ use Rattle.receiver.specs.declared.Channel.{Channel}
 use Rattle.receiver.specs.Queue.{new_channel, next_in, next_of, newest_of, profile_in}
 use Rattle.receiver.specs.Queue.{sound_window, sound_profile, sound_unsent, sound_queue}
 use Rattle.receiver.specs.Receive.{datagram_number, frames_in, state_of, queue_after, accepted_result, sound_call}
-use Rattle.receiver.specs.Calls.{Receiver}
+use Rattle.receiver.specs.Receiver.{Receiver}
 use Rattle.receiver.proofs.Accepting.{all-accepted, frames-accepted}
 use Rattle.receiver.proofs.FramesIn.{Read, frames-in-read}
 use Rattle.receiver.proofs.Keeps.{frames-past}

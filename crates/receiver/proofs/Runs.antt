@@ -7,7 +7,8 @@ use mathlib.Core.Logic.{◌⊎◌, inl, inr}
 use Rattle.bare.specs.Frame.{Message}
 use Rattle.bare.specs.Bare.{feed}
 use Rattle.bare.specs.Unfinished.{Dated, receive_dated, drop_stale, stale_pieces, happens, after_events}
-use Rattle.receiver.specs.Calls.{Call, Receiver, Done, accepted, freed, outcome, after_all, handed_out, done_by, event_of, events_of}
+use Rattle.receiver.specs.Calls.{Call, Done, accepted, freed, outcome, after_all, handed_out, done_by, event_of, events_of}
+use Rattle.receiver.specs.Receiver.{Receiver}
 use Rattle.receiver.specs.Calls.{bare_answers}
 use Rattle.receiver.specs.Claim.{Typed}
 use Rattle.receiver.proofs.Receives.{Sane}

@@ -1,9 +1,9 @@
 -- What each call does: a sane receiver stays sane, and a bare receiver that matches it and is told what the call did matches it again.
 -- Assumes nothing.
-use Prim.Native.Nat.{ℕ, ◌^◌, ◌<◌}
+use Prim.Native.Nat.{ℕ, ◌^◌, ◌≤◌, ◌<◌}
 use mathlib.Core.Path.{◌≡◌, refl, sym, ◌∙◌, ap, subst}
 use mathlib.Core.Bool.{Bool, true, false}
-use mathlib.Core.Option.{some}
+use mathlib.Core.Option.{Option, some}
 use mathlib.Core.List.{List, [], ◌∷◌, ◌++◌, append-nil, Memᴰ}
 use lib.ListN.{length, length-map}
 use Rattle.base.specs.Answer.{Answer, refused, gives}
@@ -26,16 +26,23 @@ use Rattle.cells.proofs.Dating.{DatedMatches, receive-dated, take-dated, drop-da
 use Rattle.cells.proofs.Records.{count-cells}
 use Rattle.cells.proofs.SoundKept.{take-sound}
 use Rattle.cells.proofs.Store.{take-shaped, cells-slots, drop-read}
+use Rattle.image.specs.Image.{Image, image_bytes, read_image}
+use Rattle.image.specs.Slots.{used_slots}
+use Rattle.image.proofs.ImageBytes.{write-then-read}
 use Rattle.receiver.specs.declared.RecvQueue.{RecvQueue}
 use Rattle.receiver.specs.Queue.{next_of, newest_of, profile_in, unsent_of, sound_queue}
 use Rattle.receiver.specs.Receive.{Received, frames_in, state_of, accepted_result, refused_result, sound_call, receive_of}
 use Rattle.receiver.specs.Take.{TakeResult, take_refuses, take_of}
 use Rattle.receiver.specs.Write.{Wrote, when_given, emptied, write_of, sorted, write_unsent_of, write_missing_of}
 use Rattle.receiver.specs.Drop.{DropResult, drop_unfinished_of}
-use Rattle.receiver.specs.Calls.{Call, receive, take_with, write_unsent, write_missing, drop_unfinished, Receiver, Done, accepted}
+use Rattle.receiver.specs.Save.{image_of, Saved, save_of}
+use Rattle.receiver.specs.Restore.{restored, valid, Restored, restore_refuses, restore_of}
+use Rattle.receiver.specs.Calls.{Call, receive, take_with, write_unsent, write_missing, drop_unfinished, save, resume, Done, accepted}
+use Rattle.receiver.specs.Receiver.{Receiver}
 use Rattle.receiver.specs.Calls as calls
 use Rattle.receiver.specs.Calls.{Outcome, accepted_by, took_of, dropped_by, outcome, receive_outcome, take_outcome, write_outcome}
-use Rattle.receiver.specs.Calls.{drop_outcome, event_of, events_of, bare_answers}
+use Rattle.receiver.specs.Calls.{drop_outcome, save_outcome, restored_or, restore_outcome, resume_outcome, event_of, events_of}
+use Rattle.receiver.specs.Calls.{bare_answers}
 use Rattle.receiver.specs.Claim.{Typed}
 use Rattle.receiver.proofs.Queues.{good-sound, emptied-good}
 use Rattle.receiver.proofs.AnswerCases as ways
@@ -46,6 +53,13 @@ use Rattle.receiver.proofs.Receives.{accepted-sane}
 use Rattle.receiver.proofs.Receives.{nexts-sound, memories-sound, queue-sound}
 use Rattle.receiver.proofs.Hands.{Gave, take-taken, handed-ways}
 use Rattle.receiver.proofs.Drops.{kept_past, drop-ways, kept-sound}
+use Rattle.receiver.proofs.Equal.{fits}
+use Rattle.receiver.proofs.Exact.{valid-room}
+use Rattle.receiver.proofs.Restores.{restored-sane}
+use Rattle.receiver.proofs.Resumes.{resumed-matches}
+use Rattle.receiver.proofs.RestoreAnswers.{restore-ways}
+use Rattle.receiver.proofs.SaveAnswers.{put-first, save-ways}
+use Rattle.receiver.proofs.Sanes.{sane-sound}
 
 -- Calls made on x leave y, handed out these messages and did this.
 pub record Step (x y : Receiver) (handed : List Message) (done : List Done) : Type 0 where
@@ -206,6 +220,48 @@ drops_one x n lt v =
     (λ s. unfold dropped_by in quiet x x v refl)
     (λ s. unfold dropped_by in frees x v n lt)
 
+-- ---- save and resume
+saves-one : (x : Receiver) (out : List ℕ) → Sane x → Leaves x (save_outcome x (save_of x.queue x.records x.store out))
+unfolding save_outcome
+saves-one x out v = quiet x x v refl
+
+module _ (x : Receiver) (v : Sane x) (out : List ℕ) (y : Receiver) where
+  abbrev bytes : List ℕ
+  bytes = image_bytes (image_of x)
+
+  -- over cells that it fits into
+  resumes-on : (i : Image) → lengths (length y.records) (length y.store) ≡ true → read_image bytes ≡ some i
+      → valid (length y.records) y.store i ≡ true → Step x (restored (length y.records) y.store i) [] []
+  unfolding events_of after_events bare_answers
+  resumes-on i len r u = subst (λ (j : Image). Step x (restored (length y.records) y.store j) [] []) (sym is) (record {
+    sane = restored-sane x v (length y.records) y.store len room;
+    matches = λ d h m. rw (append-nil h) (resumed-matches x v (length y.records) y.store len room d h m);
+    counts = λ d h m. refl;
+  })
+    where
+      is : i ≡ image_of x
+      is = let e : ◌≡◌ {A = Option Image} (some (image_of x)) (some i) =
+          sym (write-then-read (image_of x) (fits x (sane-sound x v))) ∙ r in cc
+
+      room : length (used_slots (image_of x)) ≤ length y.records
+      room = valid-room (length y.records) y.store (image_of x) (subst (λ (j : Image). valid (length y.records) y.store j ≡ true) is u)
+
+  restores-one : Leaves x (restore_outcome x (restore_of y.queue y.records y.store bytes))
+  restores-one =
+      restore-ways y bytes (λ (r : Restored). Leaves x (restore_outcome x r))
+      (λ s. refuses 9) (λ s c. refuses 21) (λ s i r b. refuses 22)
+      (λ len i r u. unfold restore_outcome restored_or in resumes-on i len r u)
+    where
+      refuses : (n : ℕ) → Leaves x (restore_outcome x (restore_refuses y n))
+      refuses n = unfold restore_outcome restored_or in quiet x x v refl
+
+  resumes-one : Leaves x (resume_outcome x y (save_of x.queue x.records x.store out))
+  resumes-one =
+      save-ways x out (λ (r : Saved). Leaves x (resume_outcome x y r))
+      (λ s. unfold resume_outcome save_outcome in quiet x x v refl)
+      (λ s lt. unfold resume_outcome save_outcome in quiet x x v refl)
+      (λ s le. unfold resume_outcome in rw (put-first out bytes le) restores-one)
+
 -- Every call, on a datagram of bytes or a number of 32 bits, from a sane receiver.
 pub steps : (c : Call) (x : Receiver) → Typed (c ∷ []) → Sane x → Step x (outcome x c).left (outcome x c).handed (outcome x c).done
 unfolding outcome
@@ -216,3 +272,5 @@ steps (write_unsent out) x t v = unfold write_unsent_of in
 steps (write_missing out) x t v = unfold write_missing_of in
     writes_one x v x.queue true (missing x.queue.datagrams) out (quiet x x v refl)
 steps (drop_unfinished n) x t v = drops_one x n (below-max-age n (t.numbers n (Memᴰ.head refl))) v
+steps (save out) x t v = saves-one x out v
+steps (resume out y) x t v = resumes-one x v out y

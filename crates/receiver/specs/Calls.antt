@@ -1,4 +1,4 @@
--- What each of the five calls of a list does to a receiver, by the very definitions that the calls' promises cite; and lists of calls.
+-- What each of the seven calls of a list does to a receiver, by the very definitions that the calls' promises cite; and lists of calls.
 use Rattle.std.specs.Prelude.{ℕ, zero, suc, ◌*◌, List, [], ◌∷◌, ◌++◌, map, length, take, drop, replicate}
 use Rattle.std.proofs.Math.Option.{Option, none, some}
 use Rattle.base.specs.Answer.{Answer, refused, gives}
@@ -7,28 +7,29 @@ use Rattle.reliability.specs.declared.Profile.{Profile}
 use Rattle.bare.specs.Frame.{Frame, Message}
 use Rattle.bare.specs.Bare.{feed}
 use Rattle.bare.specs.Unfinished.{Dated, receive_dated, drop_stale, stale_pieces, Event, datagram, drop_past}
-use Rattle.cells.specs.Cell.{Cell, empty_cell}
-use Rattle.receiver.specs.declared.RecvQueue.{RecvQueue}
+use Rattle.cells.specs.Cell.{empty_cell}
 use Rattle.receiver.specs.Queue.{new_queue, profile_in}
 use Rattle.receiver.specs.Receive.{Report, Received, frames_in, receive_of}
 use Rattle.receiver.specs.Take.{Where, in_store, in_joined, Handed, TakeResult, take_of}
 use Rattle.receiver.specs.Write.{Wrote, write_unsent_of, write_missing_of}
 use Rattle.receiver.specs.Drop.{DropResult, drop_unfinished_of}
+use Rattle.receiver.specs.Receiver.{Receiver}
+use Rattle.receiver.specs.Save.{Saved, save_of}
+use Rattle.receiver.specs.Restore.{Restored, restore_of}
 
 -- "A list holds the calls receive, take, writing the unsent and writing the missing", and dropping the unfinished ("its lists hold this
--- call too", request 4); "Datagrams, joining buffers and outputs are each call's own and may hold anything."
+-- call too", request 4), and saving ("Demand 3's lists may hold saves, which change nothing", request 5); "Datagrams, joining buffers and
+-- outputs are each call's own and may hold anything." And resuming: the receiver is saved, the image restored over another lent receiver,
+-- records and store, and the list goes on with these ("A restored receiver's list of calls is the one up to its save, then the calls after
+-- the restore").
 pub data Call : Type 0 where
   receive : List ℕ → Call
   take_with : List ℕ → Call
   write_unsent : List ℕ → Call
   write_missing : List ℕ → Call
   drop_unfinished : ℕ → Call
-
--- "Each call has the receiver, records and store that the last one returned or left"
-pub record Receiver : Type 0 where
-  pub queue : RecvQueue
-  pub records : List Cell
-  pub store : List ℕ
+  save : List ℕ → Call
+  resume : List ℕ → Receiver → Call
 
 -- "It begins with a receiver just made, of any number of cells": over any store of n cells, and of either profile
 unfoldable pub made : Profile → ℕ → List ℕ → Receiver
@@ -124,12 +125,34 @@ drop_outcome x n r = record {
   done = dropped_by n r.answer;
 }
 
+-- a save changes nothing
+unfoldable pub save_outcome : Receiver → Saved → Outcome
+save_outcome x r = record { left = x; refusal = refusal_of r.answer; handed = []; done = [] }
+
+-- the list goes on with what was restored; where the restore is refused, with what was saved
+unfoldable pub restored_or : Receiver → Receiver → Answer (Unit {0}) → Receiver
+restored_or x y (refused number) = x
+restored_or x y (gives done) = y
+
+unfoldable pub restore_outcome : Receiver → Restored → Outcome
+restore_outcome x r = record { left = restored_or x r.left r.answer; refusal = refusal_of r.answer; handed = []; done = [] }
+
+-- the image that the save wrote is restored over y, where the save was not refused
+unfoldable pub resume_outcome : Receiver → Receiver → Saved → Outcome
+resume_outcome x y r = saved r.answer
+  where
+    saved : Answer ℕ → Outcome
+    saved (refused number) = save_outcome x r
+    saved (gives len) = restore_outcome x (restore_of y.queue y.records y.store (take len r.out))
+
 unfoldable pub outcome : Receiver → Call → Outcome
 outcome x (receive d) = receive_outcome (profile_in x.queue) d (receive_of x.queue x.records x.store d)
 outcome x (take_with buffer) = take_outcome x (take_of x.queue x.records x.store buffer)
 outcome x (write_unsent out) = write_outcome x (write_unsent_of x.queue out)
 outcome x (write_missing out) = write_outcome x (write_missing_of x.queue out)
 outcome x (drop_unfinished n) = drop_outcome x n (drop_unfinished_of x.queue x.records x.store n)
+outcome x (save out) = save_outcome x (save_of x.queue x.records x.store out)
+outcome x (resume out y) = resume_outcome x y (save_of x.queue x.records x.store out)
 
 -- a joining buffer long enough for every message, and n takes with it
 unfoldable pub zeros : ℕ → List ℕ

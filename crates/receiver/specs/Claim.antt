@@ -12,7 +12,8 @@ use Rattle.bare.specs.Book.{Book}
 use Rattle.bare.specs.Order.{line_for, line_of, Within, HasArrived, InOrder}
 use Rattle.cells.specs.Cell.{is_open, piece_in}
 use Rattle.cells.specs.Store.{slots_of}
-use Rattle.receiver.specs.Calls.{Call, receive, take_with, drop_unfinished, Receiver, made, Outcome, outcome, after_all, handed_out}
+use Rattle.receiver.specs.Receiver.{Receiver}
+use Rattle.receiver.specs.Calls.{Call, receive, take_with, drop_unfinished, made, Outcome, outcome, after_all, handed_out}
 use Rattle.receiver.specs.Calls.{done_by, still_out, drained, events_of, bare_answers}
 
 -- a receiver just made: of either profile (request 2), 1 to 4,096 cells, over any store of one cell for each

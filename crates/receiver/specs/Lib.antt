@@ -4,5 +4,9 @@ pub mod Parts
 pub mod Take
 pub mod Write
 pub mod Drop
+pub mod Receiver
+pub mod Save
+pub mod Restore
+pub mod Holds
 pub mod Calls
 pub mod Claim

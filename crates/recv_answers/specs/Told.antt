@@ -6,6 +6,7 @@ use Rattle.receiver.specs.Take.{Where, in_store, in_joined, Handed}
 use Rattle.recv_answers.specs.declared.QueueReceived.{QueueReceived}
 use Rattle.recv_answers.specs.declared.QueueTaken.{QueueTaken}
 use Rattle.recv_answers.specs.declared.QueueDropped.{QueueDropped}
+use Rattle.recv_answers.specs.declared.QueueSaved.{QueueSaved}
 
 abbrev pub not_received : ℕ → QueueReceived
 not_received number = record { number = number; ready = 0; dropped = 0; left = 0 }
@@ -45,3 +46,7 @@ take_told (gives h) = handed_told h.kind h.channel h.order h.body
 abbrev pub drop_told : Answer ℕ → QueueDropped
 drop_told (refused number) = record { number = number; freed = 0 }
 drop_told (gives freed) = record { number = 0; freed = freed }
+
+abbrev pub save_told : Answer ℕ → QueueSaved
+save_told (refused number) = record { number = number; len = 0 }
+save_told (gives len) = record { number = 0; len = len }

@@ -8,7 +8,7 @@ ghost use Rattle.base.specs.Refusals.{answer, answer_by};
 ghost use Rattle.recv_steps.specs.Outcome.{report_of};
 ghost use Rattle.recv_take.specs.Outcome.{handed_of};
 ghost use Rattle.exports.specs.Numbers.{number_of};
-ghost use Rattle.recv_answers.specs.Told.{receive_told, take_told, drop_told};
+ghost use Rattle.recv_answers.specs.Told.{receive_told, take_told, drop_told, save_told};
 
 use base::Refusal;
 use recv_steps::Received;
@@ -103,6 +103,28 @@ impl From<Result<u32, Refusal>> for QueueDropped {
             Err(e) => QueueDropped {
                 number: e.into(),
                 ..QueueDropped::default()
+            },
+        }
+    }
+}
+
+// How many bytes the image has.
+#[repr(C)]
+#[derive(Clone, Copy, Debug, Default, PartialEq, Eq)]
+pub struct QueueSaved {
+    pub number: u32,
+    pub len: usize,
+}
+
+impl From<Result<usize, Refusal>> for QueueSaved {
+    ghost from_gives = { λ r x. x ≡ save_told (answer r) };
+
+    fn from(r: Result<usize, Refusal>) -> QueueSaved {
+        match r {
+            Ok(len) => QueueSaved { number: 0, len },
+            Err(e) => QueueSaved {
+                number: e.into(),
+                ..QueueSaved::default()
             },
         }
     }

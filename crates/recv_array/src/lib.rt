@@ -9,11 +9,14 @@ ghost use Rattle.receiver.specs.Receive.{receive_of};
 ghost use Rattle.receiver.specs.Take.{take_of};
 ghost use Rattle.receiver.specs.Drop.{drop_unfinished_of};
 ghost use Rattle.receiver.specs.Write.{write_unsent_of, write_missing_of};
+ghost use Rattle.receiver.specs.Save.{save_of};
+ghost use Rattle.receiver.specs.Restore.{restore_of};
 ghost use Rattle.recv_acks.specs.Wrote.{wrote};
 ghost use Rattle.recv_take.specs.Outcome.{take_result};
 ghost use Rattle.recv_drop.specs.Outcome.{drop_result};
+ghost use Rattle.recv_save.specs.Outcome.{save_result};
 ghost use Rattle.recv_new.specs.New.{made_new, make_new_of};
-ghost use Rattle.recv_queue.specs.Answers.{received};
+ghost use Rattle.recv_queue.specs.Answers.{received, restore_result};
 ghost use Rattle.recv_array.specs.Held.{unused_cells, in_use, IsSameBeyond};
 
 use base::Refusal;
@@ -92,6 +95,22 @@ impl Receiver {
     {
         recv_queue::write_missing(&self.queue, out)
     }
+
+    pub fn save(&self, store: &[u8], out: &mut [u8]) -> Result<usize, Refusal>
+        ensures { save_result result out.new ≡ save_of self.now.queue (in_use self.now) store.now out.old }
+    {
+        save_first(&self.queue, &self.records, self.cells, store, out)
+    }
+
+    // Over the same cells: how many they are is the receiver's, and no image's.
+    pub fn restore(&mut self, store: &mut [u8], image: &[u8]) -> Result<(), Refusal>
+        ensures value { restore_result result self.new.queue (in_use self.new) store.new
+            ≡ restore_of self.old.queue (in_use self.old) store.old image.now }
+        ensures beyond { IsSameBeyond self.old self.new }
+    {
+        let n = self.cells;
+        restore_first(&mut self.queue, &mut self.records, n, store, image)
+    }
 }
 
 // ---- over the first n records, or all of them (functions of their own: a proof knows how long the array is only where it is lent; each
@@ -155,4 +174,32 @@ fn drop_first(
 {
     let m = cells.min(records.len());
     recv_queue::drop_unfinished(queue, &mut records[..m], store, n)
+}
+
+fn save_first(
+    queue: &RecvQueue,
+    records: &[CellRecord],
+    n: usize,
+    store: &[u8],
+    out: &mut [u8],
+) -> Result<usize, Refusal>
+    ensures { save_result result out.new ≡ save_of queue.now (take n records.now) store.now out.old }
+{
+    let m = n.min(records.len());
+    recv_queue::save(queue, &records[..m], store, out)
+}
+
+fn restore_first(
+    queue: &mut RecvQueue,
+    records: &mut [CellRecord],
+    n: usize,
+    store: &mut [u8],
+    image: &[u8],
+) -> Result<(), Refusal>
+    ensures value { restore_result result queue.new (take n records.new) store.new
+        ≡ restore_of queue.old (take n records.old) store.old image.now }
+    ensures beyond { drop n records.new ≡ drop n records.old }
+{
+    let m = n.min(records.len());
+    recv_queue::restore(queue, &mut records[..m], store, image)
 }

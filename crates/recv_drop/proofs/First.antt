@@ -25,9 +25,9 @@ use Rattle.rows.specs.Rows.{cells_in}
 use Rattle.rows.proofs.Rows.{cells-length}
 use Rattle.receiver.specs.declared.RecvQueue.{RecvQueue}
 use Rattle.receiver.specs.Receive.{sound_call}
-use Rattle.receiver.specs.Drop.{DropResult, drop_unfinished_of}
+use Rattle.receiver.specs.Drop.{DropResult, drop_refuses, drop_unfinished_of}
 use Rattle.receiver.proofs.AnswerCases.{by-true, by_le}
-use Rattle.recv_prefix.specs.Dropping.{drop_refuses, drop_first}
+use Rattle.recv_prefix.specs.Dropping.{drop_first}
 use Rattle.recv_drop.specs.Outcome.{drop_result, drop_rows_of, records_left}
 
 -- ---- the code's four ways

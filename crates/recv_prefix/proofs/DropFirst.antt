@@ -17,9 +17,9 @@ use Rattle.cells.specs.Ages.{is_stale}
 use Rattle.cells.specs.Sound.{lengths}
 use Rattle.receiver.specs.declared.RecvQueue.{RecvQueue}
 use Rattle.receiver.specs.Receive.{sound_call}
-use Rattle.receiver.specs.Drop.{DropResult, drop_unfinished_of}
+use Rattle.receiver.specs.Drop.{DropResult, drop_refuses, drop_unfinished_of}
 use Rattle.recv_prefix.specs.First.{is_unused}
-use Rattle.recv_prefix.specs.Dropping.{drop_refuses, drop_first, beside_dropped}
+use Rattle.recv_prefix.specs.Dropping.{drop_first, beside_dropped}
 use Rattle.recv_prefix.proofs.Unused.{count-first, changed-first}
 use Rattle.recv_prefix.proofs.Sound.{sound-first}
 
@@ -59,8 +59,8 @@ drop-unfit q rs st n e = sym (true-no _ _ _ _ (rw e) refl)
 pub drop-first : (q : RecvQueue) (first rest : List Cell) (st : List ℕ) (n : ℕ) → every is_unused rest ≡ true → 1 ≤ length first
     → drop_unfinished_of q (first ++ rest) st n ≡ beside_dropped rest (drop_first q (length first + length rest) first st n)
 unfolding drop_first
-drop-first q first rest st n unused some_IsFirst = cases (lengths (length first + length rest) (length st))
-    (λ fit. drops-part first rest unused n q st (take (cell_bytes * length first) st) (sound-first q first rest st unused some_IsFirst fit)
+drop-first q first rest st n unused nonempty = cases (lengths (length first + length rest) (length st))
+    (λ fit. drops-part first rest unused n q st (take (cell_bytes * length first) st) (sound-first q first rest st unused nonempty fit)
     ∙ ap (beside_dropped rest) (true-yes _ _ _ _ fit (le_yes _ _ _ _ _ (omega arith) refl)))
     (λ unfit. drop-unfit q (first ++ rest) st n (rw (length-append first rest) unfit)
     ∙ (refused-first first rest unused n ∙ ap (beside_dropped rest) (true-no _ _ _ _ unfit refl)))

@@ -20,12 +20,12 @@ use Rattle.receiver.specs.declared.RecvQueue.{RecvQueue}
 use Rattle.receiver.specs.Queue.{profile_in}
 use Rattle.receiver.specs.Receive.{refused_result, receive_of}
 use Rattle.receiver.specs.Take.{take_refuses, take_of}
-use Rattle.receiver.specs.Drop.{drop_unfinished_of}
+use Rattle.receiver.specs.Drop.{drop_refuses, drop_unfinished_of}
 use Rattle.recv_prefix.specs.First.{is_unused}
 use Rattle.recv_prefix.specs.Needs.{last_used, receive_needs, take_needs}
 use Rattle.recv_prefix.specs.Receiving.{beside, receive_first}
 use Rattle.recv_prefix.specs.Taking.{beside_taken, take_first}
-use Rattle.recv_prefix.specs.Dropping.{drop_refuses, drop_first, beside_dropped}
+use Rattle.recv_prefix.specs.Dropping.{drop_first, beside_dropped}
 use Rattle.recv_prefix.proofs.ReceiveFirst.{receive-first, receive-unfit}
 use Rattle.recv_prefix.proofs.TakeFirst.{take-first, take-unfit}
 use Rattle.recv_prefix.proofs.DropFirst.{drop-first, drop-unfit}

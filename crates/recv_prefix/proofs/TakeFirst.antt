@@ -103,7 +103,7 @@ module _ (first rest : List Cell) (unused : every is_unused rest ≡ true) where
       (λ e. rw (freed-first (ready_as t) st part, index-first (at (ready_as t) 0) first rest there))
       (λ e. beside-choice _ _ _ _ _ refl (rw (freed-first (ready_as t) st part)))
 
-  module _ (q : RecvQueue) (st buffer : List ℕ) (some_IsFirst : 1 ≤ length first) (fit : lengths (length first + length rest) (length st)
+  module _ (q : RecvQueue) (st buffer : List ℕ) (nonempty : 1 ≤ length first) (fit : lengths (length first + length rest) (length st)
       ≡ true) where
     abbrev part : List ℕ
     part = take (cell_bytes * length first) st
@@ -123,7 +123,7 @@ module _ (first rest : List Cell) (unused : every is_unused rest ≡ true) where
     takes_part = cases (sound_call q first part)
         (λ sound.
         let free = slots-free rest (drop (cell_bytes * length first) st) ∙ unused in
-        rw (sound-first q first rest st unused some_IsFirst fit, sound, slots-first sound)
+        rw (sound-first q first rest st unused nonempty fit, sound, slots-first sound)
         (same-option Beside (earliest (slots_of first part ++ tail)) (earliest (slots_of first part))
         (earliest-first tail free (slots_of first part)) (λ e. refused-first buffer 20)
         (λ t e. same-option Beside (message_at (ready_as t) (slots_of first part ++ tail)) (message_at (ready_as t) (slots_of first part))
@@ -132,7 +132,7 @@ module _ (first rest : List Cell) (unused : every is_unused rest ≡ true) where
         (λ g. refused-first buffer 20)
         (λ c g. let h = find-some (at (ready_as t) 0) first (sym (finds t) ∙ g) in
         handed-first st part buffer t m c (any-mem (at (ready_as t) 0) first c h.0 h.1))))))
-        (λ not. rw (sound-first q first rest st unused some_IsFirst fit, not) (refused-first buffer 9))
+        (λ not. rw (sound-first q first rest st unused nonempty fit, not) (refused-first buffer 9))
       where
         finds : (t : ℕ) → find (at (ready_as t) 0) (first ++ rest) ≡ find (at (ready_as t) 0) first
         finds t = find_first rest unused (at (ready_as t) 0) (at-unused (ready_as t) 0) first
@@ -147,8 +147,8 @@ take-unfit q rs st buffer e = sym (true-no _ _ _ _ (rw e) refl)
 pub take-first : (q : RecvQueue) (first rest : List Cell) (st buffer : List ℕ) → every is_unused rest ≡ true → 1 ≤ length first
     → take_of q (first ++ rest) st buffer ≡ beside_taken rest (take_first q (length first + length rest) first st buffer)
 unfolding take_first
-take-first q first rest st buffer unused some_IsFirst = cases (lengths (length first + length rest) (length st))
-    (λ fit. takes_part first rest unused q st buffer some_IsFirst fit
+take-first q first rest st buffer unused nonempty = cases (lengths (length first + length rest) (length st))
+    (λ fit. takes_part first rest unused q st buffer nonempty fit
     ∙ ap (beside_taken rest) (true-yes _ _ _ _ fit (le_yes _ _ _ _ _ (omega arith) refl)))
     (λ unfit. take-unfit q (first ++ rest) st buffer (rw (length-append first rest) unfit)
     ∙ (refused-first first rest unused buffer 9 ∙ ap (beside_taken rest) (true-no _ _ _ _ unfit refl)))

@@ -1,16 +1,11 @@
 -- A drop over the first of so many records: their part of the store is looked at, and the lengths of all.
 use Rattle.std.specs.Prelude.{ℕ, ◌*◌, List, ◌++◌, length, take}
-use Rattle.base.specs.Answer.{refused}
 use Rattle.base.specs.If.{if_true, if_le}
 use Rattle.base.specs.Limits.{cell_bytes}
 use Rattle.cells.specs.Cell.{Cell}
 use Rattle.cells.specs.Sound.{lengths}
 use Rattle.receiver.specs.declared.RecvQueue.{RecvQueue}
-use Rattle.receiver.specs.Drop.{DropResult, drop_unfinished_of}
-
--- "It refuses by 9 alone."
-abbrev pub drop_refuses : List Cell → DropResult
-drop_refuses rs = record { answer = refused 9; records = rs }
+use Rattle.receiver.specs.Drop.{DropResult, drop_refuses, drop_unfinished_of}
 
 unfoldable pub drop_first : RecvQueue → ℕ → List Cell → List ℕ → ℕ → DropResult
 drop_first q cells first st n =

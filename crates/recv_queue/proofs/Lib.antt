@@ -5,3 +5,5 @@ pub mod Enough
 pub mod Receives
 pub mod Takes
 pub mod Drops
+pub mod Saves
+pub mod Restores

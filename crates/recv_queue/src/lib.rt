@@ -1,5 +1,5 @@
-// "One record stands beside each cell, in a lent slice of structs": receive, take and drop over such a slice, and the few functions that
-// touch it; the other calls are offered here too. The cores of the three work on rows.
+// "One record stands beside each cell, in a lent slice of structs": receive, take, drop, save and restore over such a slice, and the few
+// functions that touch it; the other calls are offered here too. The cores of the five work on rows.
 // (The calls are functions and no methods: a method stands in the crate of its struct, and a must-fail edit costs a check of its whole
 // crate, so the calls have crates of their own. The queue, the records and the store are lent one by one, as other languages hold them
 // apart.)
@@ -19,6 +19,8 @@ use rows::Row;
 
 pub mod dropping;
 pub mod receiving;
+pub mod restoring;
+pub mod saving;
 pub mod taking;
 
 pub use base::Refusal;
@@ -32,6 +34,8 @@ pub use recv_new::{make_new, new_queue, unused};
 pub use recv_steps::Received;
 pub use recv_take::{Body, Taken};
 pub use reliability::Profile;
+pub use restoring::restore;
+pub use saving::save;
 pub use taking::take;
 
 // A call works on the records that it may need, and has rows for them from an array: of six sizes, the last for as many records as a

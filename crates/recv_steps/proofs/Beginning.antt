@@ -36,6 +36,7 @@ use Rattle.row_slots.specs.Slots.{slots_in, AllFit}
 use Rattle.row_slots.proofs.Meaning.{slots-stored}
 use Rattle.row_slots.proofs.Changes.{slots-renumbered, slots-grown}
 use Rattle.row_slots.proofs.Fitting.{fit-stored, fit-renumbered, fit-grown, changed-length}
+use Rattle.row_bodies.specs.Flush.{stored}
 use Rattle.receiver.specs.declared.RecvQueue.{RecvQueue}
 use Rattle.receiver.specs.declared.Nexts.{Nexts}
 use Rattle.receiver.specs.Parts.{nexts_of, next_at}
@@ -44,7 +45,6 @@ use Rattle.receiver.specs.Receive.{state_of, sound_call}
 use Rattle.receiver.proofs.NextsSet.{next-of-nexts, newest-of-nexts}
 use Rattle.receiver.proofs.Receives.{lengths-sound, cells-sound, bodies-short}
 use Rattle.recv_steps.specs.Work.{work_of}
-use Rattle.recv_steps.specs.Flush.{stored}
 use Rattle.recv_steps.specs.Frames.{Begun, begun_tally}
 use Rattle.recv_steps.specs.Receives.{Numbered, ranked_rows, begun_row, begun_rows}
 use Rattle.recv_steps.proofs.Changing.{count_few}

@@ -8,7 +8,6 @@ pub mod Joining
 pub mod Stepping
 pub mod Numbering
 pub mod Passing
-pub mod Flushing
 pub mod Beginning
 pub mod Receiving
 pub mod ReceivingAccepted

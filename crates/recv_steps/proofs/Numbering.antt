@@ -55,6 +55,8 @@ five-beyond refusal.FitsOneChunk e = absurd (omega arith)
 five-beyond refusal.TooManyPieces e = absurd (omega arith)
 five-beyond refusal.BeyondLast e = absurd (omega arith)
 five-beyond refusal.NoneReady e = absurd (omega arith)
+five-beyond refusal.BadForm e = absurd (omega arith)
+five-beyond refusal.NotRestorable e = absurd (omega arith)
 
 -- ---- two ways of an insert that differ
 given-refused : {X : Type 0} (v w : ReliableWindow) (n : ℕ) → give v ≡ refuse n w → X

@@ -26,8 +26,9 @@ use Rattle.rows.specs.declared.Row.{Row}
 use Rattle.rows.specs.Rows.{cell_of, cells_in, stored_row, blank_row, change_rows}
 use Rattle.rows.proofs.Rows.{cells-length}
 use Rattle.row_tests.specs.Uses.{uses}
-use Rattle.row_slots.specs.Slots.{flushed, AllFit}
 use Rattle.row_slots.proofs.Stored.{accepted-store, accepted-records}
+use Rattle.row_bodies.specs.Flush.{flushed_rows, stored, settled, settled_rows}
+use Rattle.row_bodies.proofs.Flushing.{all-flushed}
 use Rattle.receiver.specs.declared.RecvQueue.{RecvQueue}
 use Rattle.receiver.specs.declared.Nexts.{Nexts}
 use Rattle.receiver.specs.Parts.{nexts_of, next_at, newest_at}
@@ -40,7 +41,6 @@ use Rattle.recv_lent.proofs.Settles.{core-settled}
 use Rattle.recv_steps.specs.declared.Framed.{Framed}
 use Rattle.recv_steps.specs.declared.Received.{Received}
 use Rattle.recv_steps.specs.Work.{work_of}
-use Rattle.recv_steps.specs.Flush.{stored, settled, settled_rows}
 use Rattle.recv_steps.specs.Frames.{begun_tally, Passes, Ran}
 use Rattle.recv_steps.specs.Outcome.{report_of, received_rows, found_in_frames, rows_left, rows_outcome}
 use Rattle.recv_steps.specs.Receives.{Receives, begun_rows}
@@ -122,22 +122,20 @@ module _ (q : RecvQueue) (rows : List Row) (st d : List ℕ) {ascends : Bool} {n
     ran_out t many z = refuses-worked q rows st d CellsFull (unfold found_in_frames in refl)
         (n.goes ∙ refused-8 q (cells_in rows) st d v reaches (sym full_is ∙ t)) rs₁ many z
 
-    pub all-fit : AllFit d rs₁
-    all-fit = ran.fits
-
     module _ (many : length rs₁ ≡ length rows) where
-      pub store-left : length rs₁ * cell_size ≤ length st
+      store-left : length rs₁ * cell_size ≤ length st
       store-left = rw many store_long
 
       -- what the code writes back
       module _ (small : datagram_number d < numbers24) (channels : length q.channels ≡ max_ord_chans) (unsent : length q.unsent ≡ 1024)
-          {rs₂ : List Row} (er₂ : rs₂ ≡ settled_rows rs₁) {st₂ : List ℕ} (es₂ : st₂ ≡ flushed rs₁ st d) {q' : RecvQueue}
+          {rs₂ : List Row} (er₂ : rs₂ ≡ settled_rows rs₁) {st₂ : List ℕ} (es₂ : st₂ ≡ flushed_rows 0 rs₁ st d) {q' : RecvQueue}
           (eq : q' ≡ with_number (advanced_all q ns₁) v number ascends) where
         rows_are : rs₂ ≡ map stored_row (cells_of (end after).slots)
         rows_are = er₂ ∙ (settled-rows rs₁ ∙ ap (map stored_row) (sym (accepted-records rs₁ st d after (unfold work_of in refl))))
 
         store-is-flushed : st₂ ≡ store_of st after.state.slots
-        store-is-flushed = es₂ ∙ sym (accepted-store rs₁ st d after (unfold work_of in refl) ran.fits store-left)
+        store-is-flushed = es₂ ∙ (all-flushed d rs₁ st ran.fits store-left
+            ∙ sym (accepted-store rs₁ st d after (unfold work_of in refl) ran.fits store-left))
 
         queue-is : q' ≡ queue_after q (datagram_number d) v (next_at ns₁) (newest_at ns₁)
         queue-is = eq ∙ (ap (λ (m : ℕ). with_number (advanced_all q ns₁) v m ascends) n.is

@@ -3,6 +3,5 @@ pub mod CountChanges
 pub mod Placing
 pub mod Moves
 pub mod Frames
-pub mod Flush
 pub mod Outcome
 pub mod Receives

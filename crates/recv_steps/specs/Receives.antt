@@ -21,9 +21,9 @@ use Rattle.receiver.specs.Receive.{datagram_number, is_datagram, frames_in, acce
 use Rattle.receiver.specs.Receive.{accepted_result, refused_result, sound_call, receive_of}
 use Rattle.receiver.specs.Receive as Definition
 use Rattle.row_tests.specs.Uses.{uses}
+use Rattle.row_bodies.specs.Flush.{stored}
 use Rattle.sound_queue.specs.Sound.{queue_sound_of}
 use Rattle.recv_steps.specs.declared.Received.{Received}
-use Rattle.recv_steps.specs.Flush.{stored}
 use Rattle.recv_steps.specs.Outcome.{received_rows, rows_outcome}
 
 -- r, and the receiver, the rows and the store afterwards, are what the definition says of all rows

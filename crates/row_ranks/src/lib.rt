@@ -100,8 +100,8 @@ fn excess(t: Turns) -> Option<u32>
     (t.top - t.least == t.firsts - 1).then_some(t.least)
 }
 
-// Each ready cell's turn becomes what turn_of makes of it. (row_sweeps' `sweep` is this with any test, but private: it asks that its
-// closures can be called, and a function of the receiver that is open asks nothing.)
+// Each ready cell's turn becomes what turn_of makes of it. (row_sweeps' `sweep` is this with any test, and counts; but it is private: it
+// asks that its closures can be called, and a function of the receiver that is open asks nothing.)
 fn turn_ready<F: Fn(u32) -> u32>(rows: &mut [Row], turn_of: F)
     requires { F.IsAlwaysCallable turn_of }
     ensures { (g : Row → Row) → ((r : Row) (turn : ℕ) → F.post turn_of r.cell.turn turn → mark_row ready_use turn r ≡ g r)

@@ -89,7 +89,7 @@ fn receive_frames(
         Ok(framed) => framed,
         Err(refusal) => return refuse(rows, refusal),
     };
-    super::settle(rows, store, datagram);
+    row_bodies::settle(rows, store, datagram);
     recv_lent::settle(queue, &reliables, &nexts, number, ascends);
     Ok(Received {
         ready: framed.counts.ready,

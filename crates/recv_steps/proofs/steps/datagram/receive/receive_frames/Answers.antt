@@ -1,7 +1,7 @@
 use mathlib.Core.Path.{◌∙◌}
 use native.Mathlib.Omega.{arith}
 use Rattle.recv_steps.proofs.Beginning.{few_rows, may_begin}
-use Rattle.recv_steps.proofs.ReceivingAccepted.{number-small, beyond-reach, ran_out, all-fit, store-left, is-accepted}
+use Rattle.recv_steps.proofs.ReceivingAccepted.{number-small, beyond-reach, ran_out, is-accepted}
 use Rattle.recv_steps.proofs.steps.datagram.receive.receive_frames.Goals as goal
 
 pub begin-turn-requires : goal.begin-turn-requires
@@ -29,24 +29,6 @@ returns-in-Err c =
     let left = c.refuse-in-Err.ensures in
     rw left.is (beyond-reach _ _ _ _ n c.nexts_of-nexts.ensures _ _ _ _ _ _ c.frames.ensures
     c.in-Err.is (c.frames.auto.rows ∙ c.begin-turn.auto.rows) left.rows)
-
-pub settle-requires-clause-all_fit : goal.settle-requires-clause-all_fit
-settle-requires-clause-all_fit c =
-    let n = c.requires in
-    let begun = c.begin-turn.ensures in
-    all-fit _ _ _ _ n c.nexts_of-nexts.ensures _ _ begun.turn begun.rows _ _ _ _ c.frames.ensures _ c.in-Ok.is
-
-pub settle-requires-clause-rows_bound : goal.settle-requires-clause-rows_bound
-settle-requires-clause-rows_bound c =
-    let n = c.requires in
-    omega (arith, few_rows _ _ _ _ n, c.frames.auto.rows, c.begin-turn.auto.rows)
-
-pub settle-requires-clause-cell_size_in_bounds : goal.settle-requires-clause-cell_size_in_bounds
-settle-requires-clause-cell_size_in_bounds c =
-    let n = c.requires in
-    let begun = c.begin-turn.ensures in
-    store-left _ _ _ _ n c.nexts_of-nexts.ensures _ _ begun.turn begun.rows _ _ _ _
-    c.frames.ensures _ c.in-Ok.is (c.frames.auto.rows ∙ c.begin-turn.auto.rows)
 
 pub returns : goal.returns
 returns c =

@@ -1,0 +1,16 @@
+pub mod Formats
+pub mod Cuts
+pub mod ImageBytes
+pub mod ImageCuts
+pub mod Windows
+pub mod Members
+pub mod Again
+pub mod Entries
+pub mod Sections
+pub mod Sizes
+pub mod Equal
+pub mod Joins
+pub mod Matching
+pub mod Fits
+pub mod Needed
+pub mod ByExample

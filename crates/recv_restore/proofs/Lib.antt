@@ -1,0 +1,11 @@
+pub mod Numbers
+pub mod Loops
+pub mod Rows
+pub mod Pieces
+pub mod Messages
+pub mod Values
+pub mod Fronts
+pub mod AllCells
+pub mod Rises
+pub mod Valid
+pub mod Restoring

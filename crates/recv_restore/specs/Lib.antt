@@ -1,0 +1,4 @@
+pub mod Fits
+pub mod Filling
+pub mod Front
+pub mod Outcome

@@ -1,0 +1,9 @@
+pub mod Each
+pub mod PutCases
+pub mod Orders
+pub mod Ranks
+pub mod Messages
+pub mod Entries
+pub mod Sections
+pub mod Values
+pub mod Whole

@@ -1,0 +1,4 @@
+pub mod Each
+pub mod Front
+pub mod Slots
+pub mod Outcome
