@@ -7,7 +7,7 @@
 
 enum { CELLS = 3, STORE = CELLS * POGHDUKA_CELL_BYTES };
 
-static uint8_t out[POGHDUKA_LIST_BYTES];
+static uint8_t out[POGHDUKA_LIST_BYTES], data[1441];
 
 static void show_bytes(const uint8_t *s, size_t len) {
     for (size_t i = 0; i < len; i++)
@@ -23,7 +23,7 @@ static bool done(const char *what, uint32_t number) {
     return number == POGHDUKA_DONE;
 }
 
-/* ---- frames and a datagram's head */
+/* ---- frames, a datagram's head and a split's pieces */
 
 static void head(size_t room, uint32_t number) {
     if (done("head", poghduka_write_head(out, room, number)))
@@ -87,7 +87,52 @@ static void both_profiles(void) {
     }
 }
 
-/* ---- windows, ACKs and splits */
+/* Writes piece k of the first `len` bytes of the data from `at` on, with f's id, channel, order and reliable number. A refusal's `next` is
+ * printed only where it is not 0. */
+static size_t piece(size_t room, size_t at, size_t len, uint16_t mtu, uint32_t k, PoghdukaFrame f) {
+    PoghdukaFrameWritten w = poghduka_write_piece(data, len, mtu, f.meta.id, k, f.channel, f.order, f.reliable, out + at, room - at);
+    if (done("piece", w.number)) {
+        printf("next %zu ", w.next);
+        show_bytes(out + at, w.next < 24 ? w.next : 24);
+    } else if (w.next != 0)
+        printf("next %zu\n", w.next);
+    return w.next;
+}
+
+/* Three pieces in one datagram; the longest piece; refusals, where others that come after them are due too; the largest numbers. */
+static void all_pieces(void) {
+    PoghdukaFrame f = {.reliable = 0x0d0e0f, .order = 0x0a0b0c, .channel = 9, .meta = {.id = 0x0708}};
+    size_t at = POGHDUKA_HEAD_BYTES;
+    for (size_t i = 0; i < sizeof data; i++)
+        data[i] = 'A' + i % 26;
+    head(67, 0);
+    for (uint32_t k = 0; k < 4; k++, f.reliable++)
+        at += piece(67, at, 3, 61, k, f);
+    show_bytes(out, at);
+    frames(POGHDUKA_CONSOLE, at);
+    frames(POGHDUKA_CPP, at);
+    frame(POGHDUKA_CPP, at, at - POGHDUKA_PIECE_HEADER - 1);
+    piece(sizeof out, 0, 1441, 1500, 0, f);
+    piece(sizeof out, 0, 1441, 1500, 1, f);
+    piece(20, 0, 3, 61, 2, f);
+    f.channel = 32;
+    piece(20, 0, 3, 61, 2, f);
+    piece(20, 0, 3, 61, 3, f);
+    piece(20, 0, 1024, 61, 1024, f);
+    piece(20, 0, 1025, 61, 1025, f);
+    piece(20, 0, 1440, 1500, 1, f);
+    piece(20, 0, 1025, 60, 1025, f);
+    piece(20, 0, 1, 1501, 1, f);
+    f.channel = 31, f.order = 1 << 24;
+    piece(21, 0, 3, 61, 2, f);
+    f.order--, f.reliable = 1 << 24;
+    piece(21, 0, 3, 61, 2, f);
+    show_bytes(out, 24);
+    f.reliable--;
+    piece(21, 0, 3, 61, 2, f);
+}
+
+/* ---- windows and ACKs */
 
 static void inserted(PoghdukaReliableWindow *w, uint32_t n) {
     PoghdukaWindowInsert r = poghduka_window_insert(*w, n);
@@ -160,22 +205,6 @@ static void all_acks(void) {
     list(13, false, numbers, 4);
     longest_list(POGHDUKA_LIST_BYTES - 1);
     longest_list(POGHDUKA_LIST_BYTES);
-}
-
-static void piece(size_t len, uint16_t mtu, uint32_t k) {
-    static const uint8_t data[2000];
-    PoghdukaSplitPiece r = poghduka_split_piece(data, len, mtu, k);
-    if (done("piece", r.number))
-        printf("start %zu len %zu count %u index %u\n", r.start, r.len, r.count, r.index);
-}
-
-static void all_pieces(void) {
-    piece(1441, 1500, 0);
-    piece(1441, 1500, 1);
-    piece(1441, 1500, 2);
-    piece(1440, 1500, 0);
-    piece(1441, 60, 0);
-    piece(2000, 61, 0);
 }
 
 /* ---- the receiver; what lies behind it and behind its records is not its own */
@@ -450,9 +479,9 @@ int main(void) {
     memset(out, 0xee, sizeof out);
     all_frames();
     both_profiles();
+    all_pieces();
     window();
     all_acks();
-    all_pieces();
     all_receiving();
     cpp_receiving();
     unfinished(POGHDUKA_CONSOLE);

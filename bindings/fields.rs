@@ -23,7 +23,7 @@ fn line<T>(what: &str, answer: Result<T, Refused>, said: impl Fn(T) -> String) {
     }
 }
 
-// ---- frames and a datagram's head
+// ---- frames, a datagram's head and a split's pieces
 
 fn head(out: &mut [u8], number: u32) {
     let answer = write_head(out, number);
@@ -83,7 +83,49 @@ fn both_profiles(out: &mut [u8]) {
     }
 }
 
-// ---- windows, ACKs and splits
+/// Writes piece k of the data, with f's id, channel, order and reliable number.
+fn piece(out: &mut [u8], data: &[u8], mtu: u16, k: u32, f: Frame) -> usize {
+    let answer = write_piece(data, mtu, f.meta.id, k, f.channel, f.order, f.reliable, out);
+    line("piece", answer, |next| format!("next {next} {}", hex(&out[..next.min(24)])));
+    answer.unwrap_or(0)
+}
+
+/// Three pieces in one datagram; the longest piece; refusals, where others that come after them are due too; the largest numbers.
+fn all_pieces(out: &mut [u8]) {
+    let data: Vec<u8> = (b'A'..=b'Z').cycle().take(1441).collect();
+    let meta = FragmentMeta { id: 0x0708, ..FragmentMeta::default() };
+    let mut f = Frame { reliable: 0x0d0e0f, order: 0x0a0b0c, channel: 9, meta, ..Frame::default() };
+    let mut at = HEAD_BYTES;
+    head(&mut out[..67], 0);
+    for k in 0..4 {
+        at += piece(&mut out[at..67], &data[..3], 61, k, f);
+        f.reliable += 1;
+    }
+    println!("{}", hex(&out[..at]));
+    frames(Console, &out[..at]);
+    frames(Cpp, &out[..at]);
+    frame(Cpp, &out[..at], at - PIECE_HEADER - 1);
+    piece(out, &data[..1441], 1500, 0, f);
+    piece(out, &data[..1441], 1500, 1, f);
+    piece(&mut out[..20], &data[..3], 61, 2, f);
+    f.channel = 32;
+    piece(&mut out[..20], &data[..3], 61, 2, f);
+    piece(&mut out[..20], &data[..3], 61, 3, f);
+    piece(&mut out[..20], &data[..1024], 61, 1024, f);
+    piece(&mut out[..20], &data[..1025], 61, 1025, f);
+    piece(&mut out[..20], &data[..1440], 1500, 1, f);
+    piece(&mut out[..20], &data[..1025], 60, 1025, f);
+    piece(&mut out[..20], &data[..1], 1501, 1, f);
+    (f.channel, f.order) = (31, 1 << 24);
+    piece(&mut out[..21], &data[..3], 61, 2, f);
+    (f.order, f.reliable) = (f.order - 1, 1 << 24);
+    piece(&mut out[..21], &data[..3], 61, 2, f);
+    println!("{}", hex(&out[..24]));
+    f.reliable -= 1;
+    piece(&mut out[..21], &data[..3], 61, 2, f);
+}
+
+// ---- windows and ACKs
 
 fn window() {
     let mut w = ReliableWindow::new();
@@ -133,23 +175,6 @@ fn all_acks(out: &mut [u8]) {
     for room in [LIST_BYTES - 1, LIST_BYTES] {
         line("list", write_list(&mut out[..room], true, &longest), |s| format!("of {}", s.len()));
     }
-}
-
-fn piece(len: usize, mtu: u16, k: u32) {
-    let data = [0; 2000];
-    line("piece", split_piece(&data[..len], mtu, k), |p| {
-        let start = p.body.as_ptr() as usize - data.as_ptr() as usize;
-        format!("start {start} len {} count {} index {}", p.body.len(), p.count, p.index)
-    });
-}
-
-fn all_pieces() {
-    piece(1441, 1500, 0);
-    piece(1441, 1500, 1);
-    piece(1441, 1500, 2);
-    piece(1440, 1500, 0);
-    piece(1441, 60, 0);
-    piece(2000, 61, 0);
 }
 
 // ---- the receiver
@@ -402,9 +427,9 @@ fn main() {
     let mut receiver = Receiver { queue: RecvQueue::BLANK, records: [CellRecord::UNUSED; CELLS], store: [0; STORE], joined: [0; STORE] };
     all_frames(&mut out);
     both_profiles(&mut out);
+    all_pieces(&mut out);
     window();
     all_acks(&mut out);
-    all_pieces();
     all_receiving(&mut receiver, &mut out);
     cpp_receiving(&mut receiver, &mut out);
     unfinished(&mut receiver, Console, &mut out);

@@ -19,6 +19,8 @@ pub const MAX_DATAGRAM: usize = 1500;
 pub const MAX_BODY: usize = 8191;
 /// A datagram's head; its frames begin here.
 pub const HEAD_BYTES: usize = 4;
+/// The header of a frame that `write_piece` writes; at most mtu - 60 bytes follow.
+pub const PIECE_HEADER: usize = 20;
 /// How many numbers a window can lack.
 pub const MAX_MISSING: usize = 2048;
 /// Outputs that always have room: for the unsent, for the missing, for any list,
@@ -209,7 +211,7 @@ pub fn restore(queue: &mut RecvQueue, records: &mut [CellRecord], store: &mut [u
     refused(number, ())
 }
 
-// ---- frames and a datagram's head
+// ---- frames, a datagram's head and a split's pieces
 
 /// Where a piece stands in its message.
 #[repr(C)]
@@ -273,7 +275,32 @@ pub fn write_head(out: &mut [u8], number: u32) -> Result<(), Refused> {
     refused(unsafe { linked::poghduka_write_head(out.as_mut_ptr(), out.len(), number) }, ())
 }
 
-// ---- windows, ACKs and splits
+/// Writes piece k, from 0, of the data split for this mtu as a frame of kind 3 at the output's start: `PIECE_HEADER` bytes, then mtu - 60
+/// bytes of the data, or for the last piece what is left of them; how many bytes were written. The frame is the same under both profiles.
+///
+/// To send a message: data of at most mtu - 60 bytes is not split (17); `write_frame` writes it whole, as kind 3. Else call with k = 0, 1,
+/// 2 and so on as long as nothing is refused. 19 then says that every piece was written (16, 17 and 18 come for every k). At 12 call with
+/// the same k and another output. To put several pieces into one datagram, lend the rest of the output. A datagram of
+/// `HEAD_BYTES + PIECE_HEADER` and mtu - 60 bytes has room for one.
+///
+/// All pieces of a message have one id, which no other message has that may still be unfinished, one channel, and the channel's next order
+/// number. Each piece has a reliable number of its own. Refusals: 16 to 19, 15, 12.
+pub fn write_piece(
+    data: &[u8],
+    mtu: u16,
+    id: u16,
+    k: u32,
+    channel: u8,
+    order: u32,
+    reliable: u32,
+    out: &mut [u8],
+) -> Result<usize, Refused> {
+    let (bytes, len, room) = (data.as_ptr(), data.len(), out.len());
+    let w = unsafe { linked::poghduka_write_piece(bytes, len, mtu, id, k, channel, order, reliable, out.as_mut_ptr(), room) };
+    refused(w.number, w.next)
+}
+
+// ---- windows and ACKs
 
 /// Where the next record of an ACK or NACK stands, and how many are left.
 #[repr(C)]
@@ -288,14 +315,6 @@ pub struct AckCursor {
 pub enum Record {
     Single(u32),
     Range(u32, u32),
-}
-
-/// Piece k of a split: its part of the data, and the count and index that its frame carries.
-#[derive(Clone, Copy, Debug, PartialEq, Eq)]
-pub struct Piece<'a> {
-    pub body: &'a [u8],
-    pub count: u32,
-    pub index: u32,
 }
 
 impl ReliableWindow {
@@ -334,12 +353,6 @@ pub fn read_ack_record(s: &[u8], records: AckCursor) -> Result<Option<(Record, A
     let r = unsafe { linked::poghduka_read_ack_record(s.as_ptr(), s.len(), records) };
     let record = if r.range { Record::Range(r.first, r.last) } else { Record::Single(r.first) };
     refused(r.number, if r.found { Some((record, r.records)) } else { None })
-}
-
-/// Piece k, from 0, of the data split for this mtu. Refusals: 16 to 19.
-pub fn split_piece(data: &[u8], mtu: u16, k: u32) -> Result<Piece<'_>, Refused> {
-    let r = unsafe { linked::poghduka_split_piece(data.as_ptr(), data.len(), mtu, k) };
-    refused(r.number, Piece { body: &data[r.start..r.start + r.len], count: r.count, index: r.index })
 }
 
 // ---- what the libraries have: a slice is a pointer and a length
@@ -435,15 +448,6 @@ mod linked {
         pub records: AckCursor,
     }
 
-    #[repr(C)]
-    pub struct SplitPiece {
-        pub number: u32,
-        pub start: usize,
-        pub len: usize,
-        pub count: u32,
-        pub index: u32,
-    }
-
     extern "C" {
         pub fn poghduka_make_new(
             queue: *mut RecvQueue,
@@ -512,6 +516,18 @@ mod linked {
             len: usize,
         ) -> FrameWritten;
         pub fn poghduka_write_head(out: *mut u8, out_len: usize, number: u32) -> u32;
+        pub fn poghduka_write_piece(
+            data: *const u8,
+            data_len: usize,
+            mtu: u16,
+            id: u16,
+            k: u32,
+            channel: u8,
+            order: u32,
+            reliable: u32,
+            out: *mut u8,
+            out_len: usize,
+        ) -> FrameWritten;
 
         pub fn poghduka_window_new() -> ReliableWindow;
         pub fn poghduka_window_insert(window: ReliableWindow, n: u32) -> WindowInsert;
@@ -519,6 +535,5 @@ mod linked {
         pub fn poghduka_write_list(out: *mut u8, out_len: usize, nack: bool, numbers: *const u32, numbers_len: usize) -> AckWritten;
         pub fn poghduka_read_ack_header(s: *const u8, len: usize) -> AckHeaderFound;
         pub fn poghduka_read_ack_record(s: *const u8, len: usize, records: AckCursor) -> AckRecordFound;
-        pub fn poghduka_split_piece(data: *const u8, len: usize, mtu: u16, k: u32) -> SplitPiece;
     }
 }

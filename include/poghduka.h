@@ -3,8 +3,8 @@
  * Three static libraries have them. Each stands alone, and needs memcpy and memset:
  *
  *     exports_queue     the receiver: make_new, receive, take, drop_unfinished, write_unsent, write_missing, save, restore
- *     exports_frames    frames and a datagram's head: read_frames, read_frame, write_frame, write_head
- *     exports           windows, ACKs and splits: window_*, write_list, read_ack_*, split_piece
+ *     exports_frames    frames, a datagram's head and a split's pieces: read_frames, read_frame, write_frame, write_head, write_piece
+ *     exports           windows and ACKs: window_*, write_list, read_ack_*
  *
  *     bindings/libraries.sh       proves and compiles them, into target/staticlib
  *     cc -std=c11 -Iinclude main.c -Ltarget/staticlib -lexports_queue -lexports_frames -lexports
@@ -83,6 +83,7 @@ enum {
     POGHDUKA_MAX_DATAGRAM = 1500,
     POGHDUKA_MAX_BODY = 8191,      /* of a frame that is written */
     POGHDUKA_HEAD_BYTES = 4,       /* a datagram's head; its frames begin here */
+    POGHDUKA_PIECE_HEADER = 20,    /* the header of a frame that write_piece writes; at most mtu - 60 bytes follow */
     POGHDUKA_MAX_MISSING = 2048,   /* numbers that a window can lack */
     POGHDUKA_UNSENT_BYTES = 4099,  /* an output that always has room for the unsent, */
     POGHDUKA_MISSING_BYTES = 4784, /* for the missing, */
@@ -202,7 +203,7 @@ PoghdukaQueueSaved poghduka_save(const PoghdukaRecvQueue *queue, const PoghdukaC
 uint32_t poghduka_restore(PoghdukaRecvQueue *queue, PoghdukaCellRecord *records, size_t cells, uint8_t *store, size_t store_len,
                           const uint8_t *image, size_t image_len);
 
-/* ---- frames and a datagram's head: library exports_frames */
+/* ---- frames, a datagram's head and a split's pieces: library exports_frames */
 
 /* Where a piece stands in its message. */
 typedef struct {
@@ -261,7 +262,19 @@ PoghdukaFrameWritten poghduka_write_frame(uint32_t profile, uint8_t *out, size_t
 /* Writes 84 and the number, four bytes. Refusals: 13, 12. */
 uint32_t poghduka_write_head(uint8_t *out, size_t out_len, uint32_t number);
 
-/* ---- windows, ACKs and splits: library exports */
+/* Writes piece k, from 0, of the data split for this mtu as a frame of kind 3 at the output's start: the header, POGHDUKA_PIECE_HEADER
+ * bytes, then mtu - 60 bytes of the data, or for the last piece what is left of them. `next` is how many bytes were written. The frame is
+ * the same under both profiles.
+ * To send a message: data of at most mtu - 60 bytes is not split (17); poghduka_write_frame writes it whole, as kind 3. Else call with
+ * k = 0, 1, 2 and so on as long as nothing is refused. 19 then says that every piece was written (16, 17 and 18 come for every k). At 12
+ * call with the same k and another output. To put several pieces into one datagram, lend the rest of the output, from `next` on. A datagram
+ * of POGHDUKA_HEAD_BYTES + POGHDUKA_PIECE_HEADER + mtu - 60 bytes has room for one.
+ * All pieces of a message have one id, which no other message has that may still be unfinished, one channel, and the channel's next order
+ * number. Each piece has a reliable number of its own. Refusals: 16, 17, 18, 19, 15, 12. */
+PoghdukaFrameWritten poghduka_write_piece(const uint8_t *data, size_t data_len, uint16_t mtu, uint16_t id, uint32_t k, uint8_t channel,
+                                          uint32_t order, uint32_t reliable, uint8_t *out, size_t out_len);
+
+/* ---- windows and ACKs: library exports */
 
 typedef struct {
     uint32_t number;
@@ -290,15 +303,6 @@ typedef struct {
     PoghdukaAckCursor records; /* after this record */
 } PoghdukaAckRecordFound;
 
-/* The piece's bytes are `len` of the data from `start` on; its frame carries count and index. */
-typedef struct {
-    uint32_t number;
-    size_t start;
-    size_t len;
-    uint32_t count;
-    uint32_t index;
-} PoghdukaSplitPiece;
-
 /* A window that has accepted nothing. */
 PoghdukaReliableWindow poghduka_window_new(void);
 
@@ -316,9 +320,6 @@ PoghdukaAckHeaderFound poghduka_read_ack_header(const uint8_t *s, size_t len);
 
 /* The record that the cursor stands at; begin with the header's, go on with each record's. Refusals: 1, 10, 11. */
 PoghdukaAckRecordFound poghduka_read_ack_record(const uint8_t *s, size_t len, PoghdukaAckCursor records);
-
-/* Piece k, from 0, of the data split for this mtu. Refusals: 16, 17, 18, 19. */
-PoghdukaSplitPiece poghduka_split_piece(const uint8_t *data, size_t len, uint16_t mtu, uint32_t k);
 
 /* ---- the layout */
 
@@ -418,12 +419,6 @@ POGHDUKA_FIELD(PoghdukaAckRecordFound, range, 5);
 POGHDUKA_FIELD(PoghdukaAckRecordFound, first, 8);
 POGHDUKA_FIELD(PoghdukaAckRecordFound, last, 12);
 POGHDUKA_FIELD(PoghdukaAckRecordFound, records, 16);
-
-POGHDUKA_SIZE(PoghdukaSplitPiece, 32);
-POGHDUKA_FIELD(PoghdukaSplitPiece, start, 8);
-POGHDUKA_FIELD(PoghdukaSplitPiece, len, 16);
-POGHDUKA_FIELD(PoghdukaSplitPiece, count, 24);
-POGHDUKA_FIELD(PoghdukaSplitPiece, index, 28);
 
 #ifdef __cplusplus
 }

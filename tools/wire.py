@@ -2,10 +2,10 @@
 """Makes stdin and stdout of the programs replay_frames, replay_acks, replay_windows and replay_missing: their items, and the lines that
 they must print.
 
-The answers come from this file's own reading and writing of frames, acknowledgements, windows and splits, which shares nothing with the
-Rattle code. It was written from the sentences of document 01 and of request 2 (profiles) alone, in the readings that docs/DECISIONS.md
-lists: for frames, acknowledgements and windows before their Rattle code was looked at; the missing list of raw windows by a hand that had
-seen none of its Rattle code; for splits by the hand that had written that crate, in another way.
+The answers come from this file's own reading and writing of frames, acknowledgements, windows and pieces, which shares nothing with the
+Rattle code. It was written from the sentences of document 01 and of requests 2 (profiles) and 6 (pieces) alone, in the readings that
+docs/DECISIONS.md lists: for frames, acknowledgements and windows before their Rattle code was looked at; the missing list of raw windows by
+a hand that had seen none of its Rattle code; for pieces by a hand that had read that crate, in another way.
 The items are the bench lines, the limits, damaged bytes, and random ones from a fixed seed, so that a second run makes the same files.
 
 An item is a tag (1 byte), a length (16 bits) and a payload; every number of a payload is big-endian. Each answer is one line: a word, document
@@ -20,6 +20,10 @@ import random
 LIMIT_24 = 1 << 24      # numbers have 24 bits
 MAX_CHANNEL = 31
 MAX_FRAGS = 1024
+MIN_MTU, MAX_MTU = 61, 1500
+OVERHEAD = 60           # what a chunk is less than the mtu
+LONGEST = MAX_MTU - OVERHEAD    # the longest chunk
+PIECE_HEADER = 20
 REACH = 2048            # a window's places above its low
 MAX_LIST = 2048
 MAX_BODY = 8191
@@ -222,7 +226,30 @@ def write_list(out, nack, numbers):
     return store(out, 0, list_bytes(nack, numbers))
 
 
-# ---- the window, and a split
+# ---- a piece
+
+def piece_frame(data, mtu, ident, k, channel, order, reliable):
+    """Document 01, "Piece k of a split": the frame that carries it, and its body."""
+    if not MIN_MTU <= mtu <= MAX_MTU:
+        raise Refused(16)
+    chunk = mtu - OVERHEAD
+    if len(data) <= chunk:
+        raise Refused(17)
+    bodies = [data[start:start + chunk] for start in range(0, len(data), chunk)]
+    if len(bodies) > MAX_FRAGS:
+        raise Refused(18)
+    if k >= len(bodies):
+        raise Refused(19)
+    f = Frame(kind=3, reliable=reliable, order=order, channel=channel, piece=1, count=len(bodies), id=ident, index=k)
+    return f, bodies[k]
+
+
+def write_piece(out, *asked):
+    """Request 6: "writes the frame of kind 3. Its numbers are those of the split, then those of the writer"; how many bytes it takes."""
+    return write_frame(CONSOLE, out, 0, *piece_frame(*asked))
+
+
+# ---- the window
 
 class Window:
     """The numbers below low are accepted, low is not, and above it those of a set are."""
@@ -273,21 +300,6 @@ class RawWindow:
         empty where no place is set and where low is 2^24 or more"."""
         highest = max((n for n in self.places() if self.accepted(n)), default=self.low)
         return [n for n in range(self.low, min(highest, LIMIT_24)) if not self.accepted(n)]
-
-
-def split_piece(length, mtu, k):
-    """Where piece k starts and how long it is, and the count and index that it carries."""
-    if not 61 <= mtu <= 1500:
-        raise Refused(16)
-    chunk = mtu - 60
-    if length <= chunk:
-        raise Refused(17)
-    starts = range(0, length, chunk)
-    if len(starts) > MAX_FRAGS:
-        raise Refused(18)
-    if k >= len(starts):
-        raise Refused(19)
-    return starts[k], min(chunk, length - starts[k]), len(starts), k
 
 
 # ---- items, each with the lines that it must give
@@ -384,7 +396,7 @@ class Items:
 
 
 class Frames(Items):
-    READ, WRITE, HEAD, SPLIT, LONG = range(1, 6)
+    READ, WRITE, HEAD, PIECE, LONG = range(1, 6)
 
     def read_lines(self, s, at, profile):
         body = None
@@ -417,16 +429,27 @@ class Frames(Items):
     def head(self, room, number):
         self.add(self.HEAD, number16(room) + number32(number), self.written("head", room, lambda out: write_head(out, number) or []))
 
-    def split(self, length, mtu, k):
-        part = b""
+    def piece(self, length, mtu, k, ident=0, channel=0, order=0, reliable=0, room=MAX_MTU):
+        data = bytes(pattern(length, DATA_SEED))
+        payload = b"".join(number16(n) for n in (room, length, mtu, ident)) + number32(k)
+        payload += bytes([channel]) + number32(order) + number32(reliable)
+        line = self.written("piece", room, lambda out: [write_piece(out, data, mtu, ident, k, channel, order, reliable)])
+        self.add(self.PIECE, payload, line)
 
-        def call():
-            nonlocal part
-            values = split_piece(length, mtu, k)
-            part = pattern(length, DATA_SEED)[values[0]:values[0] + values[1]]
-            return values
-        line = answer("piece", call)
-        self.add(self.SPLIT, number16(length) + number16(mtu) + number32(k), line + shown(part))
+    def message(self, length, mtu, ident, channel, order, reliable):
+        """Every piece of a message, and one more: read again here, the bodies join to the data."""
+        data = bytes(pattern(length, DATA_SEED))
+        joined, k = b"", 0
+        while len(joined) < length:
+            self.piece(length, mtu, k, ident, channel, order, reliable + k)
+            out = bytearray(MAX_MTU)
+            end = write_piece(out, data, mtu, ident, k, channel, order, reliable + k)
+            f, start, _, after = read_frame(CONSOLE, out, 0)
+            assert (f.index, after) == (k, end)
+            joined += out[start:after]
+            k += 1
+        assert joined == data and f.count == k
+        self.piece(length, mtu, k, ident, channel, order, reliable + k)
 
 
 class Acks(Items):
@@ -517,9 +540,9 @@ def bench_lines(frames, acks, windows):
     for numbers in ([0], [0, 1], [3, 5, 6, 7]):
         acks.write(0, numbers)
     for k in (0, 1, 2):
-        frames.split(1441, 1500, k)
-    frames.split(1440, 1500, 0)
-    frames.split(1441, 60, 0)
+        frames.piece(LONGEST + 1, MAX_MTU, k)
+    frames.piece(LONGEST, MAX_MTU, 0)
+    frames.piece(LONGEST + 1, MIN_MTU - 1, 0)
     # the datagrams of the program `trace`, whose frames begin at place 4
     frames.read(bytes.fromhex("84000000 60 0008 000000 010000 00 42"), 4)
     frames.read(bytes.fromhex("84010000 60 0008 010000 000000 00 41"), 4)
@@ -809,18 +832,47 @@ def missing_rooms(missing, rng):
             missing.fitting(LIMIT_24 - rng.randrange(1, 2200), shape, seed32(rng), over)
 
 
-def split_limits(frames):
-    for mtu in (0, 59, 60, 61, 1500, 1501, 65535):
-        for length in (0, 1, 2, 1439, 1440, 1441, 2881):
-            frames.split(length, mtu, 1)
-    for length, k in ((1024, 0), (1024, 1023), (1024, 1024), (1024, 2 ** 32 - 1), (1025, 0), (1025, 2000)):
-        frames.split(length, 61, k)
-    for length, mtu, k in ((2880, 1500, 1), (2880, 1500, 2), (65535, 1500, 45), (65535, 1500, 46), (65535, 124, 1023), (65535, 123, 0)):
-        frames.split(length, mtu, k)
+def piece_limits(frames):
+    for mtu in (0, MIN_MTU - 2, MIN_MTU - 1, MIN_MTU, MAX_MTU, MAX_MTU + 1, 65535):
+        for length in (0, 1, 2, LONGEST - 1, LONGEST, LONGEST + 1, 2 * LONGEST + 1):
+            frames.piece(length, mtu, 1)
+    last = MAX_FRAGS - 1
+    for length, k in ((MAX_FRAGS, 0), (MAX_FRAGS, last), (MAX_FRAGS, MAX_FRAGS), (MAX_FRAGS, 2 ** 32 - 1), (MAX_FRAGS + 1, 0),
+                      (MAX_FRAGS + 1, 2000)):
+        frames.piece(length, MIN_MTU, k)
+    for length, k in ((2 * LONGEST, 1), (2 * LONGEST, 2), (65535, 65535 // LONGEST), (65535, 65535 // LONGEST + 1)):
+        frames.piece(length, MAX_MTU, k)
+    # the shortest chunk that 65,535 bytes can be split by, and one shorter
+    chunk = -(-65535 // MAX_FRAGS)
+    frames.piece(65535, chunk + OVERHEAD, last)
+    frames.piece(65535, chunk - 1 + OVERHEAD, 0)
     # 16 before 17, 17 before 19, 18 before 19
-    frames.split(0, 60, 9)
-    frames.split(100, 1500, 9)
-    frames.split(65535, 61, 2 ** 32 - 1)
+    frames.piece(0, MIN_MTU - 1, 9)
+    frames.piece(100, MAX_MTU, 9)
+    frames.piece(65535, MIN_MTU, 2 ** 32 - 1)
+    for ident in (1, 255, 256, 65535):
+        frames.piece(LONGEST + 1, MAX_MTU, 1, ident)
+    # the last piece as long as the others
+    frames.message(120, 100, 65535, 31, LIMIT_24 - 1, LIMIT_24 - 4)
+
+
+def piece_writer_limits(frames):
+    """The writer's numbers: each of the split's comes before 15 and 12, and 15 before 12."""
+    two, most = (LONGEST + 1, MAX_MTU), (MAX_FRAGS, MIN_MTU)
+    for length, mtu, k in ((LONGEST + 1, MIN_MTU - 1, 0), (LONGEST, MAX_MTU, 0), (MAX_FRAGS + 1, MIN_MTU, 0), (*two, 2), (*two, 1)):
+        for room in (0, MAX_MTU):
+            frames.piece(length, mtu, k, 65535, 32, LIMIT_24, LIMIT_24, room)
+        frames.piece(length, mtu, k, room=0)
+    values = {"channel": (31, 32, 255), "order": (LIMIT_24 - 1, LIMIT_24, 2 ** 32 - 1), "reliable": (LIMIT_24 - 1, LIMIT_24, 2 ** 32 - 1)}
+    for name in values:
+        for value in values[name]:
+            for length, mtu, k in ((*two, 1), (*most, MAX_FRAGS - 1), (2, MIN_MTU, 2)):
+                frames.piece(length, mtu, k, 65535, **{name: value})
+            frames.piece(*two, 1, room=PIECE_HEADER, **{name: value})
+    for length, mtu, k, body in ((*two, 0, LONGEST), (*two, 1, 1), (*most, MAX_FRAGS - 1, 1), (100, 37 + OVERHEAD, 2, 26)):
+        whole = PIECE_HEADER + body
+        for room in (0, 1, PIECE_HEADER - 1, PIECE_HEADER, whole - 1, whole, whole + 1):
+            frames.piece(length, mtu, k, 0xABCD, 31, 0x090807, 0x030201, room)
 
 
 # ---- damaged bytes, and random items
@@ -882,11 +934,24 @@ def random_frames(frames, rng, profile=CONSOLE):
         frames.read(rng.randbytes(rng.randrange(40)), rng.randrange(6), profile)
 
 
-def random_splits(frames, rng):
+def random_sender(rng):
+    """An id, a channel, an order and a reliable number that a sender may have."""
+    limit = rng.choice((5, LIMIT_24 - MAX_FRAGS))
+    return rng.randrange(65536), rng.randrange(32), rng.randrange(limit), rng.randrange(limit)
+
+
+def random_pieces(frames, rng, numbers):
+    """The numbers have a generator of their own: what rng draws next makes the items of other programs."""
     for _ in range(60):
-        mtu = rng.choice((rng.randrange(61, 200), rng.randrange(61, 1501)))
+        mtu = rng.choice((rng.randrange(MIN_MTU, 200), rng.randrange(MIN_MTU, MAX_MTU + 1)))
         length = rng.choice((rng.randrange(400), rng.randrange(65536)))
-        frames.split(length, mtu, rng.choice((0, length // (mtu - 60), rng.randrange(60))))
+        chunk = mtu - OVERHEAD
+        k = rng.choice((0, length // chunk, rng.randrange(60)))
+        ident, channel, order, reliable = random_sender(numbers)
+        room = numbers.choice((MAX_MTU, PIECE_HEADER + chunk, numbers.randrange(PIECE_HEADER + chunk)))
+        frames.piece(length, mtu, k, ident, channel, order, reliable, room)
+    for mtu, most in ((MIN_MTU, 20), (62, 30), (100, 500), (576, 5000), (MAX_MTU, 20000), (MAX_MTU - 1, 14400)):
+        frames.message(numbers.randrange(2 * (mtu - OVERHEAD), most), mtu, *random_sender(numbers))
 
 
 def random_acks(acks, rng):
@@ -927,9 +992,10 @@ def main():
     bench_lines(frames, acks, windows)
     frame_limits(frames)
     over_limits(frames)
-    split_limits(frames)
+    piece_limits(frames)
+    piece_writer_limits(frames)
     random_frames(frames, rng)
-    random_splits(frames, rng)
+    random_pieces(frames, rng, random.Random(4))
     profiles(frames)
     random_frames(frames, random.Random(2), CPP)
     ack_limits(acks)

@@ -1,5 +1,5 @@
 //! Frames and datagrams as values: in document 01's bytes for ours, and as the original's own structs.
-use rak_rs::oracle::{FragmentMeta, Frame, FramePacket, Reliability};
+use rak_rs::oracle::{meta_of, FragmentMeta, Frame, FramePacket, Reliability};
 
 #[derive(Clone, Debug, Default, PartialEq)]
 pub struct Fields {
@@ -56,6 +56,21 @@ impl Fields {
             out.extend_from_slice(&index.to_be_bytes());
         }
         out.extend_from_slice(&self.body);
+    }
+
+    /// What the original's frame carries, by its own table of kinds.
+    pub fn of(f: &Frame) -> Fields {
+        let r = f.reliability;
+        let carried = |has: bool, n: Option<u32>| if has { n.unwrap_or(0) } else { 0 };
+        Fields {
+            kind: r.to_flags() >> 5,
+            reliable: carried(r.is_reliable(), f.reliable_index),
+            sequence: carried(r.is_sequenced(), f.sequence_index),
+            order: carried(r.is_ordered(), f.order_index),
+            channel: if r.is_ordered() { f.order_channel.unwrap_or(0) } else { 0 },
+            piece: meta_of(f),
+            body: f.body.clone(),
+        }
     }
 
     pub fn size(&self) -> usize {

@@ -50,8 +50,17 @@ fn split(len: usize, mtu: u16) {
         Ok(Err(e)) => format!("{e:?}"),
         Err(_) => "panics".to_string(),
     };
-    let number = ours::split_piece(&vec![0; len], mtu, 0).err().unwrap_or(0);
+    let number = ours::write_piece(&vec![0; len], mtu, 0, 0, 0, 0, 0, &mut [0; ours::MAX_DATAGRAM]).err().unwrap_or(0);
     say(&format!("split of {len} bytes at mtu {mtu}"), original, number.to_string());
+}
+
+/// The last piece of two bytes.
+fn last_piece() {
+    let data = [0x41, 0x42];
+    let original = &FragmentQueue::split(&data, 7, 61).unwrap()[1];
+    let mut out = [0; ours::MAX_DATAGRAM];
+    let n = ours::write_piece(&data, 61, 7, 1, 2, 3, 4, &mut out).unwrap();
+    say("split of 41 42 at mtu 61, id 7; piece 1 on channel 2, order number 3, reliable number 4", format!("{original:?}"), hex(&out[..n]));
 }
 
 /// One frame of kind 3 on channel 0, its body one byte.
@@ -135,5 +144,6 @@ pub fn all() {
         split(len, mtu);
     }
     let _ = std::panic::take_hook();
+    last_piece();
     receivers();
 }

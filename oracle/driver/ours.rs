@@ -3,8 +3,11 @@
 #[path = "../../bindings/poghduka.rs"]
 mod poghduka;
 
-pub use poghduka::{FramesRead, Piece, Received as Report, ReliableWindow};
-use poghduka::{CellRecord, Profile, RecvQueue, Refused, CELL_BYTES, HEAD_BYTES, IMAGE_BYTES, IMAGE_CELL_BYTES, LIST_BYTES, MAX_MISSING};
+pub use poghduka::{FramesRead, Received as Report, ReliableWindow, HEAD_BYTES, MAX_DATAGRAM};
+/// (For speed/.)
+#[allow(unused_imports)]
+pub use poghduka::PIECE_HEADER;
+use poghduka::{CellRecord, Profile, RecvQueue, Refused, CELL_BYTES, IMAGE_BYTES, IMAGE_CELL_BYTES, LIST_BYTES, MAX_MISSING};
 
 fn number(Refused(number): Refused) -> u32 {
     number
@@ -51,8 +54,9 @@ pub fn write_list_into(out: &mut [u8], nack: bool, numbers: &[u32]) -> usize {
     poghduka::write_list(out, nack, numbers).map_or(0, |s| s.len())
 }
 
-pub fn split_piece(buffer: &[u8], mtu: u16, k: u32) -> Result<Piece<'_>, u32> {
-    poghduka::split_piece(buffer, mtu, k).map_err(number)
+/// How many bytes of the output the frame of piece k takes.
+pub fn write_piece(data: &[u8], mtu: u16, id: u16, k: u32, channel: u8, order: u32, reliable: u32, out: &mut [u8]) -> Result<usize, u32> {
+    poghduka::write_piece(data, mtu, id, k, channel, order, reliable, out).map_err(number)
 }
 
 /// How long an image of so many cells may be. (For speed/.)

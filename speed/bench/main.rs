@@ -13,6 +13,7 @@ mod original;
 #[allow(dead_code)]
 mod ours;
 mod picture;
+mod pieces;
 #[path = "../../oracle/driver/random.rs"]
 #[allow(dead_code)]
 mod random;
@@ -95,6 +96,7 @@ fn main() {
     single::all(rounds);
     missing::all(rounds);
     images::all(rounds);
+    pieces::all(rounds);
     let date = std::env::var("SPEED_DATE").unwrap_or_default();
     let run = format!("{date}, {}, {rounds} rounds of {datagrams} datagrams", machine());
     std::fs::write(path, picture::svg(&run, &rows)).expect("the picture is written");

@@ -17,6 +17,7 @@ use Rattle.ack.specs.Records as records
 use Rattle.ack.specs.Write as ack
 use Rattle.window.specs.Places as places
 use Rattle.window.specs.Window as window
+use Rattle.frame_write.specs.Valid as written
 use Rattle.split.specs.Split as split
 use Rattle.bare.specs.Frame as line
 use Rattle.bare.specs.Bare as bare
@@ -53,7 +54,9 @@ unfolding if_true if_lt if_le if_eq be16 be32 le24 be16_bytes le24_bytes put and
     ack.written_of
     places.bit places.place_set places.set_place places.clear_place
     window.new_window window.accepted window.advance window.accept window.insert_of
-    split.chunks_of split.split_piece_of
+    split.chunks_of split.part_length split.split_of split.on_split split.write_piece_of
+    written.within_limits written.size_of written.by_frame_case written.write_frame_of written.fields_ok written.number_ok
+    written.channel_ok written.meta_ok
     line.carries_reliable line.in_limits bare.new bare.seen_before bare.accept_reliable bare.drop_in bare.step
 bench-lines =
     record {
@@ -66,9 +69,9 @@ bench-lines =
       ack_0 = (refl, refl);
       ack_0_1 = (refl, refl);
       ack_3_5_6_7 = (refl, refl);
-      split_1441 = (refl, refl, refl);
-      split_1440 = λ k. refl;
-      mtu_60 = λ n k. refl;
+      split_1441 = (refl, refl, refl, λ id. (refl, refl, refl));
+      split_1440 = λ room id k channel order reliable. refl;
+      mtu_60 = λ room n id k channel order reliable. refl;
       index_2_of_2 = piece-dropped;
       bare_index_2_of_2 = λ p id. (refl, refl);
     }

@@ -1,6 +1,6 @@
 -- Document 01, "Bench lines": the starred lines as one list, over the definitions that the calls' promises cite. Each field stands under
 -- its line.
-use Rattle.std.specs.Prelude.{ℕ, ◌≡◌, true, false, List, [], ◌∷◌, length, replicate}
+use Rattle.std.specs.Prelude.{ℕ, ◌+◌, ◌≡◌, true, false, List, [], ◌∷◌, length, replicate}
 use Rattle.base.specs.Answer.{Answer, refused, gives}
 use Rattle.reliability.specs.declared.Profile.{Profile}
 use Rattle.reliability.specs.declared.Profile.TheVariants.{Console}
@@ -9,7 +9,7 @@ use Rattle.frame.specs.declared.Placed.{Placed}
 use Rattle.frame.specs.Read.{read_frame_of, body_of}
 use Rattle.ack.specs.Write.{write_list_of, written_of}
 use Rattle.window.specs.Window.{new_window, insert_of}
-use Rattle.split.specs.Split.{split_piece_of}
+use Rattle.split.specs.Split.{count, part_length, piece_header, write_piece_of}
 use Rattle.bare.specs.Frame as line
 use Rattle.bare.specs.Bare.{new, step}
 use Rattle.receiver.specs.Receive.{Report, receive_of}
@@ -20,7 +20,7 @@ use Rattle.receiver.specs.Claim.{Start, begun}
 abbrev pub ReadsAs : List ℕ → Frame → List ℕ → Type 0
 ReadsAs s f body = (p : Placed) × (read_frame_of Console s 0 ≡ gives (p, length s)) × (p.frame ≡ f) × (body_of s p ≡ body)
 
--- a frame that is no piece_of3
+-- a frame that is no piece
 abbrev pub whole_frame : ℕ → ℕ → ℕ → ℕ → ℕ → Frame
 whole_frame kind reliable sequence order channel =
     record {
@@ -43,14 +43,14 @@ AckIs numbers bytes =
 abbrev pub reported : Receiver → List ℕ → Answer Report
 reported x d = (receive_of x.queue x.records x.store d).answer
 
--- a datagram with one frame, a piece_of3 of kind 3 in channel 0 of count 2 and index 2, whose id and body's byte are given
+-- a datagram with one frame, a piece of kind 3 in channel 0 of count 2 and index 2, whose id and body's byte are given
 abbrev pub with_piece : ℕ → ℕ → ℕ → List ℕ
 with_piece id₁ id₂ byte =
     0x84 ∷ 0x00 ∷ 0x00 ∷ 0x00
     ∷ 0x70 ∷ 0x00 ∷ 0x08 ∷ 0x00 ∷ 0x00 ∷ 0x00 ∷ 0x00 ∷ 0x00 ∷ 0x00 ∷ 0x00
     ∷ 0x00 ∷ 0x00 ∷ 0x00 ∷ 0x02 ∷ id₁ ∷ id₂ ∷ 0x00 ∷ 0x00 ∷ 0x00 ∷ 0x02 ∷ byte ∷ []
 
--- a piece_of3 of kind 3 with these piece_of3 fields
+-- a piece of kind 3 with these piece fields
 abbrev pub piece_of3 : ℕ → ℕ → ℕ → line.Frame
 piece_of3 count id index =
     record {
@@ -87,15 +87,16 @@ pub record BenchLines : Type 0 where
   -- "{3,5,6,7}: `C0 00 02 01 03 00 00 00 05 00 00 07 00 00`."
   pub ack_3_5_6_7 :
       AckIs (3 ∷ 5 ∷ 6 ∷ 7 ∷ []) (0xC0 ∷ 0x00 ∷ 0x02 ∷ 0x01 ∷ 0x03 ∷ 0x00 ∷ 0x00 ∷ 0x00 ∷ 0x05 ∷ 0x00 ∷ 0x00 ∷ 0x07 ∷ 0x00 ∷ 0x00 ∷ [])
-  -- "1,441 bytes at mtu 1,500: pieces 1,440 and 1;": there is no third
-  pub split_1441 :
-      (split_piece_of 1441 1500 0 ≡ gives (record { start = 0; len = 1440; count = 2; index = 0 }))
-      × (split_piece_of 1441 1500 1 ≡ gives (record { start = 1440; len = 1; count = 2; index = 1 }))
-      × (split_piece_of 1441 1500 2 ≡ refused 19)
-  -- "1,440: 17;": whichever piece_of3 is asked for
-  pub split_1440 : (k : ℕ) → split_piece_of 1440 1500 k ≡ refused 17
-  -- "mtu 60: 16.": whatever the data
-  pub mtu_60 : (n k : ℕ) → split_piece_of n 60 k ≡ refused 16
+  -- "1,441 bytes at mtu 1,500: pieces 1,440 and 1;" by request 6's call, under any id. There are two pieces, each answer is the header more
+  -- than the piece, and there is no third
+  pub split_1441 : (count 1441 1500 ≡ 2) × (part_length 1441 1500 0 ≡ 1440) × (part_length 1441 1500 1 ≡ 1)
+      × ((id : ℕ) → (write_piece_of 1500 1441 1500 id 0 0 0 0 ≡ gives (piece_header + 1440))
+      × (write_piece_of 1500 1441 1500 id 1 0 0 0 ≡ gives (piece_header + 1))
+      × (write_piece_of 1500 1441 1500 id 2 0 0 0 ≡ refused 19))
+  -- "1,440: 17;": whichever piece is asked for, and whatever else
+  pub split_1440 : (room id k channel order reliable : ℕ) → write_piece_of room 1440 1500 id k channel order reliable ≡ refused 17
+  -- "mtu 60: 16.": whatever the data, and all else
+  pub mtu_60 : (room n id k channel order reliable : ℕ) → write_piece_of room n 60 id k channel order reliable ≡ refused 16
   -- "Piece index 2 of count 2: dropped.": by a receiver just made, of either profile and any number of cells
   pub index_2_of_2 : (s : Start) (id₁ id₂ byte : ℕ) → reported (begun s) (with_piece id₁ id₂ byte)
       ≡ gives (record { ready = 0; dropped = 1; left = 0 })

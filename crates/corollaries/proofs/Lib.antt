@@ -3,3 +3,9 @@ pub mod UnsentAfter
 pub mod Corollaries
 pub mod Teeth
 pub mod ImageTeeth
+pub mod PieceFrames
+pub mod PieceFeeds
+pub mod PieceFollows
+pub mod HeldAbove
+pub mod PiecesJoin
+pub mod PiecesByExample

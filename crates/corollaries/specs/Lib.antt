@@ -1,3 +1,4 @@
 pub mod Refusals
 pub mod Wrong
 pub mod Sequenced
+pub mod Pieces

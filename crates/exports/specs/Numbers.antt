@@ -10,12 +10,10 @@ use Rattle.ack.specs.Records.{first_of, last_of}
 use Rattle.ack.specs.declared.Header.{Header}
 use Rattle.ack.specs.declared.Step.{Step}
 use Rattle.ack.specs.Read.{cursor}
-use Rattle.split.specs.declared.Fragment.{Fragment}
 use Rattle.exports.specs.declared.WindowInsert.{WindowInsert}
 use Rattle.exports.specs.declared.AckWritten.{AckWritten}
 use Rattle.exports.specs.declared.AckHeaderFound.{AckHeaderFound}
 use Rattle.exports.specs.declared.AckRecordFound.{AckRecordFound}
-use Rattle.exports.specs.declared.SplitPiece.{SplitPiece}
 
 abbrev pub number_of : {A : Type 0} → Answer A → ℕ
 number_of (refused number) = number
@@ -51,10 +49,3 @@ abbrev pub record_told : Answer (Option Step) → AckRecordFound
 record_told (refused number) = no_record number
 record_told (gives (Some step)) = found_told step.«record» step.records
 record_told (gives None) = no_record 0
-
-abbrev pub no_piece : ℕ → SplitPiece
-no_piece number = record { number = number; start = 0; len = 0; count = 0; index = 0 }
-
-abbrev pub piece_told : Answer Fragment → SplitPiece
-piece_told (refused number) = no_piece number
-piece_told (gives f) = record { number = 0; start = f.start; len = f.len; count = f.count; index = f.index }

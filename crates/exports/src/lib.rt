@@ -1,5 +1,5 @@
-// Windows, ACKs and splits for programs in other languages, under plain names: the static library `exports_c` hands them on, and links into
-// Rust or C. Such a function can't answer a Result. It answers document 01's refusal number, or 0 where nothing is refused, and the values
+// Windows and ACKs for programs in other languages, under plain names: the static library `exports_c` hands them on, and links into Rust
+// or C. Such a function can't answer a Result. It answers document 01's refusal number, or 0 where nothing is refused, and the values
 // beside it, which are 0 on a refusal. Each promise says by the called function's own definition what all the numbers are.
 
 #![tactic(auto)]
@@ -11,12 +11,10 @@ ghost use Rattle.window.specs.Window.{new_window, insert_of};
 ghost use Rattle.window.specs.Missing as Missing;
 ghost use Rattle.ack.specs.Read.{read_header_of, read_record_of};
 ghost use Rattle.ack.specs.Write.{write_list_of, written_of};
-ghost use Rattle.split.specs.Split.{split_piece_of};
-ghost use Rattle.exports.specs.Numbers.{number_of, insert_told, ack_told, header_told, found_told, record_told, piece_told};
+ghost use Rattle.exports.specs.Numbers.{number_of, insert_told, ack_told, header_told, found_told, record_told};
 
 use ack::{AckCursor, Header, Record, Step};
 use base::Refusal;
-use split::Fragment;
 use window::ReliableWindow;
 
 // In this struct and those below C lays out a number, 0 or the refusal's, beside the values: so they are no `Result` and no `Option`.
@@ -125,44 +123,6 @@ impl From<Result<Option<Step>, Refusal>> for AckRecordFound {
     }
 }
 
-// The piece's bytes are those from `start` on, `len` of them.
-#[repr(C)]
-#[derive(Clone, Copy, Debug, Default, PartialEq, Eq)]
-pub struct SplitPiece {
-    pub number: u32,
-    pub start: usize,
-    pub len: usize,
-    pub count: u32,
-    pub index: u32,
-}
-
-impl From<Result<Fragment, Refusal>> for SplitPiece {
-    ghost from_gives = { λ r x. x ≡ piece_told (answer r) };
-
-    fn from(r: Result<Fragment, Refusal>) -> SplitPiece {
-        match r {
-            Ok(
-                Fragment {
-                    start,
-                    len,
-                    count,
-                    index,
-                },
-            ) => SplitPiece {
-                number: 0,
-                start,
-                len,
-                count,
-                index,
-            },
-            Err(e) => SplitPiece {
-                number: e.into(),
-                ..SplitPiece::default()
-            },
-        }
-    }
-}
-
 // What a call answers that gives no values: for C, a number alone.
 pub fn number_of(r: Result<(), Refusal>) -> u32
     ensures { result ≡ number_of (answer r) }
@@ -207,11 +167,4 @@ pub fn poghduka_read_ack_record(s: &[u8], records: AckCursor) -> AckRecordFound
     ensures { result ≡ record_told (read_record_of s.now records) }
 {
     ack::read_record(s, records).into()
-}
-
-// Piece k of the split of the buffer at this mtu.
-pub fn poghduka_split_piece(buffer: &[u8], mtu: u16, k: u32) -> SplitPiece
-    ensures { result ≡ piece_told (split_piece_of (length buffer.now) mtu k) }
-{
-    split::split_piece(buffer, mtu, k).into()
 }

@@ -9,11 +9,10 @@ ghost use Rattle.window.specs.Window.{new_window, insert_of};
 ghost use Rattle.window.specs.Missing as Missing;
 ghost use Rattle.ack.specs.Read.{read_header_of, read_record_of};
 ghost use Rattle.ack.specs.Write.{write_list_of, written_of};
-ghost use Rattle.split.specs.Split.{split_piece_of};
-ghost use Rattle.exports.specs.Numbers.{insert_told, ack_told, header_told, record_told, piece_told};
+ghost use Rattle.exports.specs.Numbers.{insert_told, ack_told, header_told, record_told};
 
 use ack::AckCursor;
-use exports::{AckHeaderFound, AckRecordFound, AckWritten, SplitPiece, WindowInsert};
+use exports::{AckHeaderFound, AckRecordFound, AckWritten, WindowInsert};
 use window::ReliableWindow;
 
 #[unsafe(no_mangle)]
@@ -58,12 +57,4 @@ pub extern "C" fn poghduka_read_ack_record(s: &[u8], records: AckCursor) -> AckR
     ensures { result ≡ record_told (read_record_of s.now records) }
 {
     exports::poghduka_read_ack_record(s, records)
-}
-
-// Piece k of the split of the buffer at this mtu.
-#[unsafe(no_mangle)]
-pub extern "C" fn poghduka_split_piece(buffer: &[u8], mtu: u16, k: u32) -> SplitPiece
-    ensures { result ≡ piece_told (split_piece_of (length buffer.now) mtu k) }
-{
-    exports::poghduka_split_piece(buffer, mtu, k)
 }

@@ -1,5 +1,5 @@
 -- What the exported functions on frames return: the number of the refusal, or 0 where nothing is refused, and the values beside it, which
--- are 0 on a refusal. They take the profile as a number (document 02, request 5: "0 console, 1 C++").
+-- are 0 on a refusal. A profile is a number to them (document 02, request 5: "0 console, 1 C++").
 use Rattle.std.specs.Prelude.{ℕ, false}
 use Rattle.base.specs.Answer.{Answer, refused, gives}
 use Rattle.base.specs.If.{if_lt}

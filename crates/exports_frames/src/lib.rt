@@ -1,4 +1,4 @@
-// Frames and a datagram's head for programs in other languages, as `exports` has windows, ACKs and splits: the static library
+// Frames, a datagram's head and a split's pieces for programs in other languages, as `exports` has windows and ACKs: the static library
 // `exports_frames_c` hands them on. Each promise says by the called function's own definition what all the numbers are, and what is left of
 // the output. A profile is a number here, 0 console and 1 C++; every other is refused with 9.
 
@@ -14,6 +14,7 @@ ghost use Rattle.frame.specs.Frames.{read_frames_of};
 ghost use Rattle.frame.specs.Read.{read_frame_of};
 ghost use Rattle.frame_write.specs.Valid.{write_frame_of, frame_written_of};
 ghost use Rattle.frame_write.specs.Head.{write_head_of, head_written_of};
+ghost use Rattle.split.specs.Split.{write_piece_of, piece_written_of};
 ghost use Rattle.exports.specs.Numbers.{number_of};
 ghost use Rattle.exports_frames.specs.Frames.{under_profile, frame_told, frames_told, written_told};
 
@@ -140,4 +141,21 @@ pub fn poghduka_write_head(out: &mut [u8], number: u32) -> u32
     ensures out_after { out.new ≡ head_written_of out.old number }
 {
     exports::number_of(frame_write::write_head(out, number))
+}
+
+// Writes piece k of the split of the buffer at the start of the output: a frame of kind 3, the same in both profiles.
+pub fn poghduka_write_piece(
+    buffer: &[u8],
+    mtu: u16,
+    id: u16,
+    k: u32,
+    channel: u8,
+    order: u32,
+    reliable: u32,
+    out: &mut [u8],
+) -> FrameWritten
+    ensures value { result ≡ written_told (write_piece_of (length out.old) (length buffer.now) mtu id k channel order reliable) }
+    ensures out_after { out.new ≡ piece_written_of out.old buffer.now mtu id k channel order reliable }
+{
+    split::write_piece(buffer, mtu, id, k, channel, order, reliable, out).into()
 }

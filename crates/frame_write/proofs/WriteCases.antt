@@ -2,9 +2,10 @@
 -- Assumes nothing.
 use mathlib.Core.Path.{◌≡◌, ◌∙◌, sym, refl}
 use mathlib.Core.Bool.{Bool, true, false}
-use mathlib.Core.Logic.{inl, inr}
+use mathlib.Core.Logic.{◌↔◌, inl, inr}
 use mathlib.Core.List.{List, [], ◌∷◌, ◌++◌}
 use Prim.Native.Nat.{ℕ, ◌+◌, ◌-◌, ◌*◌, ◌/◌, ◌%◌, ◌<◌, ◌≤◌}
+use native.Mathlib.Decide.{dec_lt}
 use native.Mathlib.Omega.{arith}
 use lib.Dec.{leb}
 use lib.ListN.{length, take, drop, length-drop}
@@ -12,7 +13,7 @@ use lib.Seq.{take_all}
 use Rattle.std.specs.Prelude.{Option, Some, None, Result, Ok, Err}
 use Rattle.std.specs.Result.{is_ok}
 use Rattle.std.proofs.lemmas.Bool.Decides.{leb_tells}
-use Rattle.base.specs.Answer.{refused, gives}
+use Rattle.base.specs.Answer.{Answer, refused, gives}
 use Rattle.base.specs.Bytes.{be16_bytes, le24_bytes}
 use Rattle.base.specs.Limits.{max_body}
 use Rattle.base.specs.Put.{Run}
@@ -97,6 +98,42 @@ module _ {A : Type 0} (p : Profile) (room at : ℕ) (f : Frame) (n : ℕ) (x y z
   pub has_room : within_limits p f n ≡ true → at + size_of p f n ≤ room → z ≡ by_frame_case p room at f n x y z
   unfolding by_frame_case
   has_room e h = true-yes _ _ _ _ e (lt_no _ _ _ _ _ h refl)
+
+-- 15 is given exactly where the frame is not within its limits.
+pub over-exactly : (p : Profile) (room at : ℕ) (f : Frame) (n : ℕ)
+    → (write_frame_of p room at f n ≡ refused 15) ↔ (within_limits p f n ≡ false)
+unfolding write_frame_of
+over-exactly p room at f n = (
+  λ e. only (within_limits p f n) refl (dec_lt room (at + size_of p f n)) e,
+  λ i. sym (over-limit p room at f n _ _ _ i),
+)
+  where
+    only : (t : Bool) → within_limits p f n ≡ t → Dec (room < at + size_of p f n) → write_frame_of p room at f n ≡ refused 15
+        → within_limits p f n ≡ false
+    only false i r e = i
+    only true i (yes r) e =
+        let z : ◌≡◌ {A = Answer ℕ} (refused 12) (refused 15) = no_room p room at f n _ _ _ i r ∙ e in
+        let other : ◌≡◌ {A = ℕ} 12 15 = cc in
+        absurd (omega arith)
+    only true i (no r) e =
+        let z : gives (at + size_of p f n) ≡ refused 15 = has_room p room at f n _ _ _ i (omega arith) ∙ e in
+        absurd cc
+
+-- A refused frame writes nothing.
+pub refused-writes-nothing : (p : Profile) (out : List ℕ) (at : ℕ) (f : Frame) (body : List ℕ) (number : ℕ)
+    → write_frame_of p (length out) at f (length body) ≡ refused number → frame_written_of p out at f body ≡ out
+unfolding write_frame_of frame_written_of
+refused-writes-nothing p out at f body number e =
+    go (within_limits p f (length body)) refl (dec_lt (length out) (at + size_of p f (length body)))
+  where
+    go : (t : Bool) → within_limits p f (length body) ≡ t → Dec (length out < at + size_of p f (length body))
+        → frame_written_of p out at f body ≡ out
+    go false i r = sym (over-limit p (length out) at f (length body) _ _ _ i)
+    go true i (yes r) = sym (no_room p (length out) at f (length body) _ _ _ i r)
+    go true i (no r) =
+        let z : gives (at + size_of p f (length body)) ≡ refused number = has_room p (length out) at f (length body) _ _ _ i (omega arith)
+        ∙ e in
+        absurd cc
 
 module _ (p : Profile) (room at : ℕ) (f : Frame) (n : ℕ) (t : Bool) (i : t ≡ within_limits p f n) where
   pub answer-over : t ≡ false → refused 15 ≡ write_frame_of p room at f n

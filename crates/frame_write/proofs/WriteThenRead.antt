@@ -14,7 +14,7 @@ use Rattle.std.proofs.lemmas.Option.{none-some}
 use Rattle.base.specs.Answer.{refused, gives}
 use Rattle.base.specs.Bytes.{be16, be16_bytes, be32_bytes, le24_bytes}
 use Rattle.base.specs.If.{if_true}
-use Rattle.base.specs.Limits.{numbers24, max_ord_chans}
+use Rattle.base.specs.Limits.{numbers16, numbers24, max_ord_chans}
 use Rattle.base.specs.Put.{put, and_then}
 use Rattle.base.proofs.Ifs.{lt_no}
 use Rattle.base.proofs.Puts.{length-put}
@@ -73,7 +73,7 @@ module _ (s : List ℕ) (at q : ℕ) (off : Option ℕ) (x : ℕ) (place : (n : 
 meta-eq : (l m : FragmentMeta) → l.count ≡ m.count → l.id ≡ m.id → l.index ≡ m.index → l ≡ m
 meta-eq l m a b c = λ j. record { count = a j; id = b j; index = c j }
 
-meta-back : (s : List ℕ) (p : ℕ) (b : Bool) (m : FragmentMeta) → MetaFits b m → m.id < 65536 → Stands s p (meta_bytes b m) → meta_at b s p
+meta-back : (s : List ℕ) (p : ℕ) (b : Bool) (m : FragmentMeta) → MetaFits b m → m.id < numbers16 → Stands s p (meta_bytes b m) → meta_at b s p
     ≡ m
 unfolding meta_bytes be32_bytes be16_bytes and_then if_true
 meta-back s p true m w d a =
@@ -146,7 +146,7 @@ module _ (p : Profile) (s : List ℕ) (at : ℕ) (f : Frame) (n : ℕ) (w : With
         channel-back s at (at + 3 + length nr + length ns + length no) k.channel f.channel (λ n i. omega (arith, o.channel n i)) c b4,
       )
 
-  header-back : f.meta.id < 65536 → frame_at p s at ≡ f
+  header-back : f.meta.id < numbers16 → frame_at p s at ≡ f
   unfolding frame_at
   header-back d =
       let k : KindFields = fields_of p f.kind in
@@ -158,31 +158,28 @@ module _ (p : Profile) (s : List ℕ) (at : ℕ) (f : Frame) (n : ℕ) (w : With
       rw (flags-back, kind-back, piece_back)
       (frame-eq _ f refl b.0 b.1 b.2 b.3 refl (meta-back s (at + k.header) f.piece f.meta w.meta d m))
 
-  placed-back : f.meta.id < 65536 → placed_at p s at ≡ placed_of p at f n
+  placed-back : f.meta.id < numbers16 → placed_at p s at ≡ placed_of p at f n
   unfolding placed_at
   placed-back d = rw (flags-back, kind-back, piece_back, header-back d, len-back)
 
--- ---- a frame that is written where there is room
-module _ (p : Profile) (out : List ℕ) (at : ℕ) (f : Frame) (body : List ℕ) (e : within_limits p f (length body) ≡ true)
-    (room : at + size_of p f (length body) ≤ length out) where
-  stored : Stands (put out at (frame_bytes p f body)) at (frame_bytes p f body)
-  stored = put-stands out at (frame_bytes p f body) (rw frame-wide room)
-
-  read_back : f.meta.id < 65536
-      → read_frame_of p (put out at (frame_bytes p f body)) at ≡ gives (placed_of p at f (length body), at + size_of p f (length body))
+-- ---- a frame whose bytes stand in a list
+module _ (p : Profile) (s : List ℕ) (at : ℕ) (f : Frame) (body : List ℕ) (there : Stands s at (frame_bytes p f body))
+    (fits : at + size_of p f (length body) ≤ length s) where
+  -- where it is within its limits, it is read at that place
+  pub stands-read : within_limits p f (length body) ≡ true → f.meta.id < numbers16
+      → read_frame_of p s at ≡ gives (placed_of p at f (length body), at + size_of p f (length body))
   unfolding read_frame_of frame_bytes size_of
-  read_back d =
-      let s : List ℕ = put out at (frame_bytes p f body) in
+  stands-read e d =
       let x : placed_at p s at ≡ placed_of p at f (length body) =
-      placed-back p s at f (length body) (within p f (length body) e) (stands-first s at (header_bytes p f (length body)) body stored) d in
-      sym (lt_no _ _ _ _ _ (rw (x, length-put) (omega arith)) (rw x (rw add_assoc)))
+      placed-back p s at f (length body) (within p f (length body) e) (stands-first s at (header_bytes p f (length body)) body there) d in
+      sym (lt_no _ _ _ _ _ (rw x (omega arith)) (rw x (rw add_assoc)))
 
-  body_back : body_of (put out at (frame_bytes p f body)) (placed_of p at f (length body)) ≡ body
+  -- and its body is the one that stands there
+  pub stands-body : body_of s (placed_of p at f (length body)) ≡ body
   unfolding frame_bytes size_of
-  body_back =
-      let s : List ℕ = put out at (frame_bytes p f body) in
-      let b = stands-next s at (header_bytes p f (length body)) body stored in
-      stands-there s _ body (rw header-wide at b) (rw length-put (omega arith))
+  stands-body =
+      let b = stands-next s at (header_bytes p f (length body)) body there in
+      stands-there s _ body (rw header-wide at b) (omega arith)
 
 -- ---- what it means that `write_frame` accepts a frame
 pub record Accepted (p : Profile) (out : List ℕ) (at : ℕ) (f : Frame) (body : List ℕ) (next : ℕ) : Type 0 where
@@ -214,10 +211,13 @@ accepted p out at f body next e = go (within_limits p f (length body)) refl (dec
 -- Writing then reading gives the frame back, under either profile: at any place of any output, what `write_frame` wrote is read there as
 -- a frame with the same header values, whose body is the body, and the place after it is the one that the writer returned. (An id is a u16
 -- in the code.)
-pub write-then-read : (p : Profile) (out : List ℕ) (at : ℕ) (f : Frame) (body : List ℕ) (next : ℕ) → f.meta.id < 65536
+pub write-then-read : (p : Profile) (out : List ℕ) (at : ℕ) (f : Frame) (body : List ℕ) (next : ℕ) → f.meta.id < numbers16
     → write_frame_of p (length out) at f (length body) ≡ gives next
     → (read_frame_of p (frame_written_of p out at f body) at ≡ gives (placed_of p at f (length body), next))
     × (body_of (frame_written_of p out at f body) (placed_of p at f (length body)) ≡ body)
 write-then-read p out at f body next d e =
     let a = accepted p out at f body next e in
-    rw (a.written, a.place) (read_back p out at f body a.limits a.room d, body_back p out at f body a.limits a.room)
+    let s : List ℕ = put out at (frame_bytes p f body) in
+    let there : Stands s at (frame_bytes p f body) = put-stands out at (frame_bytes p f body) (rw frame-wide a.room) in
+    let fits : at + size_of p f (length body) ≤ length s = rw length-put a.room in
+    rw (a.written, a.place) (stands-read p s at f body there fits a.limits d, stands-body p s at f body there fits)

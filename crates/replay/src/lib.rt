@@ -7,6 +7,7 @@
 ghost use Rattle.std.specs.Prelude.{◌≡◌, min, length, ◌==◌};
 ghost use Rattle.base.specs.Refusals.{number_of};
 ghost use Rattle.replay.specs.Fronts.{IsPrefixLen};
+ghost use Rattle.replay.specs.Patterns.{pattern_from};
 ghost use Rattle.replay.specs.Sums.{mixed_with, checksum_of, summed_with, sum_of};
 ghost use Rattle.replay.specs.Lines.{given_beside};
 ghost use Rattle.replay.specs.Tallies.{counted_in};
@@ -27,6 +28,20 @@ pub fn within<T>(s: &[T], n: usize) -> usize
     ensures value { result ≡ min n (length s.now) }
 {
     n.min(s.len())
+}
+
+// ---- a pattern
+
+// A pattern whose bytes repeat only after 65,536, so that it is seen where a body, or a part of some data, is from.
+pub fn fill(out: &mut [u8], seed: u16)
+    ensures { out.new ≡ pattern_from (length out.old) seed }
+{
+    let mut x = seed;
+    for byte in out.iter_mut() {
+        x = x.wrapping_mul(5).wrapping_add(1);
+        let [high, _] = x.to_be_bytes();
+        *byte = high;
+    }
 }
 
 // ---- the tally

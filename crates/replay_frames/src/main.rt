@@ -1,15 +1,15 @@
-// Replays stored items on frames, a datagram's head and splits, read from standard input, and prints every answer.
+// Replays stored items on frames, a datagram's head and pieces, read from standard input, and prints every answer.
 //
 // Items and lines are as crate `replay` has them, every number big-endian. The output of an item that writes is as long as its payload
 // says, its bytes EE before; the line ends with all of the output, also after a refusal.
 //
 // The items and the expected output were made by tools/wire.py, which has its own reading and writing, written from the sentences of
-// document 01 and of document 02, 2/13 (the C++ profile), and not from this code: the two agree only where both say what the documents
-// say.
+// document 01 and of document 02, 2/13 (the C++ profile) and 6/13 (pieces), and not from this code: the two agree only where both say what
+// the documents say.
 
 #![tactic(auto)]
 
-use exports_frames::FrameFound;
+use exports_frames::{FrameFound, FrameWritten};
 use frame::{FragmentMeta, Frame};
 use std::io;
 
@@ -37,8 +37,8 @@ enum Item {
     Write,
     // output (2), number (4)
     Head,
-    // length (2) of the data, mtu (2), k (4)
-    Split,
+    // output (2), length (2) of the data, mtu (2), id (2), k (4), channel (1), order number (4), reliable number (4)
+    Piece,
     // profile (4), length (2), bytes: Read, from place 0, of a pattern that long whose first bytes are the given ones
     Long,
 }
@@ -51,20 +51,10 @@ impl TryFrom<u8> for Item {
             1 => Ok(Item::Read),
             2 => Ok(Item::Write),
             3 => Ok(Item::Head),
-            4 => Ok(Item::Split),
+            4 => Ok(Item::Piece),
             5 => Ok(Item::Long),
             _ => Err(tag),
         }
-    }
-}
-
-// Makes a body, the data of a split, or the bytes of a long frame: a pattern whose bytes repeat only after 65,536.
-fn fill(out: &mut [u8], seed: u16) {
-    let mut x = seed;
-    for byte in out.iter_mut() {
-        x = x.wrapping_mul(5).wrapping_add(1);
-        let [high, _] = x.to_be_bytes();
-        *byte = high;
     }
 }
 
@@ -122,7 +112,7 @@ fn read_item(rt: &impl Print, p: &[u8]) {
 fn long_item(rt: &impl Print, p: &[u8]) {
     let mut data = [0u8; DATA];
     let s = front(&mut data, p, 4);
-    fill(s, DATA_SEED);
+    replay::fill(s, DATA_SEED);
     base::put_all(s, 0, replay::part(p, 6, p.len()));
     read(rt, base::be32_at(p, 0), s, 0);
 }
@@ -143,18 +133,22 @@ fn frame_of(p: &[u8]) -> Frame {
     }
 }
 
+fn show_written(rt: &impl Print, word: &[u8], written: FrameWritten, out: &[u8]) {
+    let number = u64::from(written.number);
+    let values = [written.next as u64];
+    replay::line_with(rt, word, number, replay::given(number, &values), out);
+}
+
 fn write_item(rt: &impl Print, p: &[u8]) {
     let mut data = [0u8; DATA];
     let body = front(&mut data, p, 33);
-    fill(body, base::be16_at(p, 35));
+    replay::fill(body, base::be16_at(p, 35));
     let mut space = [0xEEu8; OUTPUT];
     let out = front(&mut space, p, 4);
     let at = usize::from(base::be16_at(p, 6));
     let profile = base::be32_at(p, 0);
     let written = exports_frames::poghduka_write_frame(profile, out, at, frame_of(p), body);
-    let number = u64::from(written.number);
-    let values = [written.next as u64];
-    replay::line_with(rt, b"write", number, replay::given(number, &values), out);
+    show_written(rt, b"write", written, out);
 }
 
 fn head_item(rt: &impl Print, p: &[u8]) {
@@ -164,22 +158,23 @@ fn head_item(rt: &impl Print, p: &[u8]) {
     replay::line_with(rt, b"head", u64::from(number), &[], out);
 }
 
-fn split_item(rt: &impl Print, p: &[u8]) {
-    let mut data = [0u8; DATA];
-    let buffer = front(&mut data, p, 0);
-    fill(buffer, DATA_SEED);
-    let mtu = base::be16_at(p, 2);
-    let k = base::be32_at(p, 4);
-    let piece = exports::poghduka_split_piece(buffer, mtu, k);
-    let number = u64::from(piece.number);
-    let values = [
-        piece.start as u64,
-        piece.len as u64,
-        u64::from(piece.count),
-        u64::from(piece.index),
-    ];
-    let body = split::split_part(buffer, mtu, k);
-    replay::line_with(rt, b"piece", number, replay::given(number, &values), body);
+fn piece_item(rt: &impl Print, p: &[u8]) {
+    let mut bytes = [0u8; DATA];
+    let data = front(&mut bytes, p, 2);
+    replay::fill(data, DATA_SEED);
+    let mut space = [0xEEu8; OUTPUT];
+    let out = front(&mut space, p, 0);
+    let written = exports_frames::poghduka_write_piece(
+        data,
+        base::be16_at(p, 4),
+        base::be16_at(p, 6),
+        base::be32_at(p, 8),
+        base::byte(p, 12),
+        base::be32_at(p, 13),
+        base::be32_at(p, 17),
+        out,
+    );
+    show_written(rt, b"piece", written, out);
 }
 
 // An unknown tag gives no answer.
@@ -188,7 +183,7 @@ fn replay_item(rt: &impl Print, tag: u8, p: &[u8]) {
         Ok(Item::Read) => read_item(rt, p),
         Ok(Item::Write) => write_item(rt, p),
         Ok(Item::Head) => head_item(rt, p),
-        Ok(Item::Split) => split_item(rt, p),
+        Ok(Item::Piece) => piece_item(rt, p),
         Ok(Item::Long) => long_item(rt, p),
         Err(_) => {}
     }

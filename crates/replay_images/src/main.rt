@@ -85,7 +85,7 @@ impl<'a> Images<'a> {
     fn make_new(&mut self, cells: u16, profile: u16) -> Result<(), Refusal> {
         let cells = usize::from(cells);
         self.trials.lend(cells, base::CELL_BYTES * cells);
-        let profile = Profile::try_from(u32::from(profile)).map_err(|_| Refusal::NotSound)?;
+        let profile = Profile::try_from(u32::from(profile))?;
         self.trials.lent.make_new(profile)
     }
 

@@ -5,8 +5,9 @@
 #![tactic(auto)]
 
 use base::Refusal;
+use frame::{FragmentMeta, Frame};
+use reliability::{Profile, Reliability};
 use replay::Tally;
-use split::Fragment;
 use std::io;
 use window::ReliableWindow;
 
@@ -53,7 +54,7 @@ fn window_item(p: &[u8], t: &mut Tally) {
     }
 }
 
-// Room for every list's ACK: the longest has 8,195 bytes.
+// Room for every list's ACK, of which the longest has 8,195 bytes, and for every piece's frame.
 const OUTPUT: usize = 8300;
 
 // The numbers stand three bytes apart.
@@ -71,24 +72,59 @@ fn list_item(p: &[u8]) -> bool {
     ack::write_list(&mut out, false, &list[..n]).is_ok_and(|len| replay::part(&out, 0, len) == ack)
 }
 
+// What the sender puts into each frame, beside what the split says.
+const ID: u16 = 0xABCD;
+
+const CHANNEL: u8 = 31;
+
+const ORDER: u32 = 0x090807;
+
+const RELIABLE: u32 = 0x030201;
+
+// Piece k of a message, at the start of the output.
+fn write_piece(data: &[u8], mtu: u16, k: u32, out: &mut [u8]) -> Result<usize, Refusal> {
+    split::write_piece(data, mtu, ID, k, CHANNEL, ORDER, RELIABLE, out)
+}
+
+// Is piece `index` of so many written as one frame, of kind 3, and this part of the data its body?
+fn piece_right(data: &[u8], mtu: u16, count: u32, index: u32, part: &[u8]) -> bool {
+    let mut out = [0u8; OUTPUT];
+    let frame = Frame {
+        kind: Reliability::ReliableOrd.into(),
+        reliable: RELIABLE,
+        sequence: 0,
+        order: ORDER,
+        channel: CHANNEL,
+        piece: true,
+        meta: FragmentMeta {
+            count,
+            id: ID,
+            index,
+        },
+    };
+    let written = write_piece(data, mtu, index, &mut out);
+    frame::read_frame(Profile::Console, &out, 0).is_ok_and(|(placed, next)| {
+        written == Ok(next)
+            && placed.frame == frame
+            && replay::part(&out, placed.start, next) == part
+    })
+}
+
 // All pieces up to the last but one have the first one's length, and after the last there is none. (`as usize`: u32 has no From to it.)
 fn pieces_right(data: &[u8], mtu: u16, count: u32, first: usize, last: usize) -> bool {
     (0..count).all(|index| {
-        let piece = Fragment {
-            start: first.saturating_mul(index as usize),
-            len: if index < count - 1 { first } else { last },
-            count,
-            index,
-        };
-        split::split_piece(data, mtu, index) == Ok(piece)
-    }) && split::split_piece(data, mtu, count) == Err(Refusal::BeyondLast)
+        let start = first.saturating_mul(index as usize);
+        let len = if index < count - 1 { first } else { last };
+        let part = replay::part(data, start, start.saturating_add(len));
+        piece_right(data, mtu, count, index, part)
+    }) && write_piece(data, mtu, count, &mut [0u8; OUTPUT]) == Err(Refusal::BeyondLast)
 }
 
 fn split_right(data: &[u8], p: &[u8]) -> bool {
     let mtu = base::be16_at(p, 4);
     let count = u32::from(base::be16_at(p, 6));
     if count == 0 {
-        return split::split_piece(data, mtu, 0) == Err(Refusal::FitsOneChunk);
+        return write_piece(data, mtu, 0, &mut [0u8; OUTPUT]) == Err(Refusal::FitsOneChunk);
     }
     let first = usize::from(base::be16_at(p, 8));
     let last = usize::from(base::be16_at(p, 10));
@@ -98,9 +134,10 @@ fn split_right(data: &[u8], p: &[u8]) -> bool {
 // The longest data that an item may ask for.
 const DATA: usize = 65536;
 
-// Where the pieces lie doesn't depend on the bytes. (`as usize`: u32 has no From to it.)
+// (`as usize`: u32 has no From to it.)
 fn split_item(p: &[u8]) -> bool {
-    let data = [0u8; DATA];
+    let mut data = [0u8; DATA];
+    replay::fill(&mut data, 0);
     let n = replay::within(&data, base::be32_at(p, 0) as usize);
     split_right(&data[..n], p)
 }

@@ -1,10 +1,8 @@
 -- How many chunks of c bytes hold n bytes, and where the k-th starts.
 -- Assumes nothing.
-use lib.ListN.{length, take}
-use mathlib.Core.List.{List, [], ◌∷◌}
-use mathlib.Core.Path.{◌≡◌, ap}
-use Prim.Native.Nat.{ℕ, suc, ◌+◌, ◌-◌, ◌*◌, ◌/◌, ◌<◌, ◌≤◌, zero, min}
-use native.Mathlib.Nat.{le-div_iff_mul-le, lt-div-mul-add, suc-mul, zero-min, min-zero, suc-min-suc}
+use mathlib.Core.Path.{◌≡◌}
+use Prim.Native.Nat.{ℕ, suc, ◌+◌, ◌-◌, ◌*◌, ◌/◌, ◌<◌, ◌≤◌}
+use native.Mathlib.Nat.{le-div_iff_mul-le, lt-div-mul-add, suc-mul}
 use native.Mathlib.Decide.{dec_lt}
 use native.Mathlib.Omega.{arith}
 use Rattle.std.proofs.lemmas.Grind.{div_ceil_times}
@@ -43,9 +41,3 @@ module _ (n c : ℕ) (pos : 0 < c) where
   pub two-or-more : c < n → 2 ≤ chunks_of n c
   unfolding chunks_of
   two-or-more h = (le-div_iff_mul-le pos).1 (omega arith)
-
--- a count that stops at the end of the list takes no less
-pub take_min : (c : ℕ) (l : List ℕ) → take (min c (length l)) l ≡ take c l
-take_min zero l = rw zero-min
-take_min (suc c) [] = rw min-zero
-take_min (suc c) (a ∷ l) = rw suc-min-suc (ap (λ (t : List ℕ). a ∷ t) (take_min c l))
