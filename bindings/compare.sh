@@ -1,8 +1,8 @@
 #!/bin/sh
 # usage: bindings/compare.sh [RECORDING ..]
 #
-# Builds the static libraries (libraries.sh) and the program `trace` (`rt run` in crates/trace), then with gcc and rustc the C and the Rust
-# programs of this folder, all under target/bindings.
+# Builds the static libraries (libraries.sh), sees by `nm` that they need no name from outside but memcpy and memset, builds the program
+# `trace` (`rt run` in crates/trace), then with gcc and rustc the C and the Rust programs of this folder, all under target/bindings.
 # fields.c and fields.rs make every call and must both print fields.txt. The examples of README.md must print the same. replay.c and
 # replay.rs must print, byte for byte, what `trace` prints on each recording (crates/trace/stdin where none is named); so must replay.c
 # where it stops after every 5 datagrams, saves the receiver, and goes on from the image.
@@ -15,6 +15,12 @@ TRACE="$ROOT/crates/trace"
 [ $# -gt 0 ] || set -- "$TRACE/stdin"
 
 "$HERE/libraries.sh"
+for c in exports exports_frames exports_queue; do
+  nm -u "$LIBS/lib$c.a" > "$B/$c.needs"
+  [ $c = exports_frames ] && may='^$' || may='^mem(cpy|set)$'
+  awk -v c=$c -v may="$may" '/ U / && $2 !~ may { print c " needs " $2; wrong = 1 } END { exit wrong }' "$B/$c.needs"
+done
+echo "libraries: from outside exports_frames needs nothing, the others memcpy and memset"
 (cd "$TRACE" && rt run < stdin) > "$B/stored.txt" 2> "$B/trace.log" || { tail -n 20 "$B/trace.log"; exit 1; }
 cmp "$TRACE/stdout" "$B/stored.txt"
 cp "$HERE"/*.c "$HERE"/*.rs "$B"

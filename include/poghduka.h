@@ -20,7 +20,7 @@
  * Memory that a call may write overlaps nothing else that the same call is lent.
  * A bool is 0 or 1. The padding of a returned struct has no meaning.
  *
- * Stack, measured and not proved: up to 10,000 bytes a call where the receiver has at most 32 cells (a restore up to 30,000), up to 300,000
+ * Stack, measured and not proved: up to 10,000 bytes a call where the receiver has at most 32 cells (a restore up to 30,000), up to 320,000
  * where it has more.
  *
  * Refusals. A refused call changes nothing that it was lent. It returns its number, and 0 in every field beside the number (only a window

@@ -2,7 +2,7 @@
 
 #![tactic(auto)]
 
-ghost use Rattle.std.specs.Prelude.{◌≡◌, ◌∷◌, [], get_or};
+ghost use Rattle.std.specs.Prelude.{◌≡◌, ◌≤◌, ◌∷◌, [], length, take, get_or};
 ghost use Rattle.base.specs.Bytes.{be16, be32, be64, le24, be16_bytes, be32_bytes, be64_bytes, le24_bytes};
 ghost use Rattle.base.specs.Put.{Run};
 
@@ -96,7 +96,6 @@ pub fn le24_at(s: &[u8], p: usize) -> u32
 
 // Each writer stores its elements from place p on, as far as the slice goes, and returns the place after them. No struct holds both: one
 // that borrows `out` would have to promise at each method that its borrow is the one that came in, and no call would be plainer.
-// Its copies are std's: a loop copies a body of 1,400 bytes in less (3 to 6 % of a datagram's time), but a small frame 3 to 14 ns slower.
 pub fn put_all<T: Copy>(out: &mut [T], p: usize, xs: &[T]) -> usize
     ensures { Run p xs.now out.old result out.new }
 {
@@ -106,11 +105,32 @@ pub fn put_all<T: Copy>(out: &mut [T], p: usize, xs: &[T]) -> usize
     // Where all fits the copy is as long as the caller's array: a few moves, where that length is known when it is compiled.
     let room = out.len() - p;
     if xs.len() <= room {
-        out[p..p + xs.len()].copy_from_slice(xs);
+        copy_all(&mut out[p..p + xs.len()], xs);
         return p + xs.len();
     }
-    out[p..p + room].copy_from_slice(&xs[..room]);
+    copy_front(&mut out[p..p + room], xs);
     p + room
+}
+
+// One slice over another of its length. A loop without a branch, as this one, is compiled to moves of many bytes at a time. (Not by std's
+// `copy_from_slice`: it is compiled to a call of `memmove`, and the archives for C would need that name from outside.)
+fn copy_all<T: Copy>(to: &mut [T], from: &[T])
+    requires { length to.old ≡ length from.now }
+    ensures { to.new ≡ from.now }
+{
+    for (i, x) in from.iter().enumerate() {
+        to[i] = *x;
+    }
+}
+
+// As many as there is room for. (Never inlined: of a caller's own array the loop would be a call of `memcpy`, and the archive of frames
+// needs no name from outside. It is rare.)
+#[inline(never)]
+fn copy_front<T: Copy>(to: &mut [T], from: &[T])
+    requires { length to.old ≤ length from.now }
+    ensures { to.new ≡ take (length to.old) from.now }
+{
+    copy_all(to, &from[..to.len()]);
 }
 
 #[tactic(auto, unfolding(crate::specs::Put::put, crate::specs::Put::after, crate::specs::If::if_lt, crate::specs::If::if_true))]

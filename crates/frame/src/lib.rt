@@ -19,7 +19,7 @@ pub use read::read_frame;
 const START_SIZE: usize = 3;
 
 // The bytes of a piece's count, id and index.
-const META_SIZE: usize = 10;
+pub const META_SIZE: usize = 10;
 
 // What a byte of flags is made of: the kind, in its top three bits, and whether the frame is a piece.
 pub const KIND_UNIT: u8 = 32;

@@ -36,7 +36,7 @@ use Rattle.recv_queue.specs.Records.{Converted}
 use Rattle.recv_queue.specs.Answers.{received}
 
 -- how many records a call works on
-abbrev Enough : RecvQueue → List Cell → List ℕ → List ℕ → ℕ → Type 0
+abbrev pub Enough : RecvQueue → List Cell → List ℕ → List ℕ → ℕ → Type 0
 Enough q rs st d k = k ≡ receive_needs (profile_in q) (last_used rs) (length rs) (length st) d
 
 -- `needed`, where the lengths fit, of the count of the frames read, and where they do not

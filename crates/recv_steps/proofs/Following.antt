@@ -18,6 +18,7 @@ use Rattle.row_slots.proofs.Meaning.{slots-in-length}
 use Rattle.row_slots.proofs.Tests.{held_rows}
 use Rattle.receiver.specs.declared.Nexts.{Nexts}
 use Rattle.receiver.specs.Parts.{next_at}
+use Rattle.receiver.proofs.NextsSet.{profile-raised}
 use Rattle.recv_steps.specs.declared.Tally.{Tally}
 use Rattle.recv_steps.specs.Work.{work_of}
 use Rattle.recv_steps.specs.CountChanges.{made_one, risen, CanCount, Rises}
@@ -59,6 +60,7 @@ pub record Following (c : ℕ) (left₀ : ℕ) (x₀ : Tally) (ns₀ : Nexts) (r
   pub counts : CanCount left x
   pub rises : Rises left ns
   pub long : length rs ≡ length rs₀
+  pub profile : ns.profile ≡ ns₀.profile
   pub is : (a : ℕ → Bool) (store d : List ℕ) → cascade left c (work_of a x ns rs store d)
       ≡ cascade left₀ c (work_of a x₀ ns₀ rs₀ store d)
   pub fits : (d : List ℕ) → AllFit d rs₀ → AllFit d rs
@@ -72,6 +74,7 @@ following-begins c x ns ns₀ rs lt le v r e left el = rw el (record {
   counts = counts-fewer x (length rs) (max_cells + 1) (omega arith) v;
   rises = rw e (rises-risen ns (length rs) c lt (rises_fewer ns (length rs + 1) (max_cells + 1) (omega arith) r));
   long = refl;
+  profile = refl;
   is = λ a store d. refl;
   fits = λ d v. v;
 })
@@ -92,6 +95,7 @@ module _ (c left₀ : ℕ) (x₀ : Tally) (ns₀ : Nexts) (rs₀ : List Row) (le
     counts = rw ey (counts-made x (left - 1) (counts-fewer x (left - 1 + 1) left (omega arith) f.counts));
     rises = rw em (rises-risen ns (left - 1) c lt (rises_fewer ns (left - 1 + 1) left (omega arith) f.rises));
     long = long ∙ f.long;
+    profile = (m []).profile ∙ f.profile;
     is = λ a store d. step a store d left pos (f.is a store d);
     fits = λ d v. (m d).fits (f.fits d v);
   })
@@ -144,6 +148,9 @@ module _ (c : ℕ) (x y : Tally) (ns ns₀ ns' : Nexts) (rs rs' : List Row) (lt 
   same : length ns'.channels ≡ length ns.channels
   same = f.rises.long ∙ sym v.long
 
+  profile-same : ns'.profile ≡ ns.profile
+  profile-same = f.profile ∙ (ap (λ (z : Nexts). z.profile) e ∙ profile-raised ns c (next_at ns c + 1))
+
   pub follows-stops : (n : ℕ) → n ≡ next_at ns' c → {k : ℕ} → k ≡ c → (b : Bool) → b ≡ any (bears (held_as k n)) (cells_in rs')
       → b ≡ false → (rs'' : List Row) → rs'' ≡ change_rows (bears (held_as k n)) (mark_row 3 y.turn) rs'
       → (d : List ℕ) → Moves d (follows c) x ns rs y ns' rs''
@@ -154,6 +161,7 @@ module _ (c : ℕ) (x y : Tally) (ns ns₀ ns' : Nexts) (rs rs' : List Row) (lt 
         is = λ a store. following-ends c (length rs) x ns₀ rs left y ns' rs' f n en b (rw ek at eb) t a store d ∙ begun a store d;
         fits = f.fits d;
         long = same;
+        profile = profile-same;
       })
 
   pub follows-done : left ≤ 0 → (d : List ℕ) → Moves d (follows c) x ns rs y ns' rs'
@@ -161,4 +169,5 @@ module _ (c : ℕ) (x y : Tally) (ns ns₀ ns' : Nexts) (rs rs' : List Row) (lt 
     is = λ a store. following-done c (length rs) x ns₀ rs left y ns' rs' f le a store d ∙ begun a store d;
     fits = f.fits d;
     long = same;
+    profile = profile-same;
   }

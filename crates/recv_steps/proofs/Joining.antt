@@ -106,11 +106,17 @@ module _ (x : Tally) (ns : Nexts) (rs : List Row) (p : Placed) (n : ℕ) (d : Li
     is = λ a store. (m d).is a store ∙ rw (there a store true (eq-eqb n p.frame.meta.count e));
     fits = (m d).fits;
     long = (m d).long;
+    profile = (m d).profile;
   }
 
   pub kept-waits : (n ≡ p.frame.meta.count → ⊥) → Moves d (kept (frame_in d p)) x ns rs x ns rs
   unfolding kept
-  kept-waits ne = record { is = λ a store. rw (there a store false (ne_eqb n p.frame.meta.count ne)); fits = λ v. v; long = refl }
+  kept-waits ne = record {
+    is = λ a store. rw (there a store false (ne_eqb n p.frame.meta.count ne));
+    fits = λ v. v;
+    long = refl;
+    profile = refl;
+  }
 
 -- ---- step 3
 
@@ -175,6 +181,7 @@ module _ (x : Tally) (ns : Nexts) (rs : List Row) (p : Placed) (e : p.frame.piec
     is = λ a store. (moves-drop d x ns rs).is a store ∙ rw (clashing d s store ∙ t);
     fits = λ z. z;
     long = refl;
+    profile = refl;
   })
 
   -- The id's pieces are made as old as this one, and it is put.
@@ -194,7 +201,7 @@ module _ (x : Tally) (ns : Nexts) (rs : List Row) (p : Placed) (e : p.frame.piec
     unfolding piece work_of
     piece-puts t y ns' rs' m d s v =
         let n = moves-then d (renew (frame_in d p)) (put_piece (frame_in d p)) x x y ns ns ns' rs rs₁ rs' renewing (m d s sane beside) in
-        record { is = λ a store. n.is a store ∙ rw (clashing d s store ∙ t); fits = n.fits; long = n.long }
+        record { is = λ a store. n.is a store ∙ rw (clashing d s store ∙ t); fits = n.fits; long = n.long; profile = n.profile }
       where
         renewing : Moves d (renew (frame_in d p)) x ns rs x ns rs₁
         renewing = unfold work_of renew frame_in in moves-place d x ns rs rs₁ (λ w. renewed p.frame.meta.id w.state.slots)

@@ -10,5 +10,6 @@ pub mod Numbering
 pub mod Passing
 pub mod Beginning
 pub mod Receiving
+pub mod CoreSettled
 pub mod ReceivingAccepted
 pub mod ReceivingRows

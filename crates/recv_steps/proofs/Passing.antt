@@ -100,6 +100,7 @@ pub record Going (f : Profile) (w₀ : ReliableWindow) (ns₀ : Nexts) (rs₀ : 
         ≡ accept_all w₀ (frames_in ns₀.profile d)
     pub end : end_of ns₀.profile d min_datagram ≡ end_of f d at
     pub nexts : length ns.channels ≡ max_ord_chans
+    pub profile : ns.profile ≡ ns₀.profile
     pub turn : x.turn ≤ high at
     pub ready : x.ready ≤ high at
     pub dropped : x.dropped ≤ high at
@@ -118,6 +119,7 @@ going-begins f u ns rs turn₀ d e v by = record {
   reaches = rw e;
   end = rw e;
   nexts = v.nexts;
+  profile = refl;
   turn = let p = v.first in omega arith;
   ready = omega arith;
   dropped = omega arith;
@@ -180,6 +182,7 @@ module _ (f : Profile) (w₀ : ReliableWindow) (ns₀ : Nexts) (rs₀ : List Row
       -- The frame is worked on, whatever comes of it.
       module _ (v' : ReliableWindow) (y : Tally) (ns' : Nexts) (rs' : List Row)
           (long : length rs' ≡ length rs) (many : length ns'.channels ≡ length ns.channels)
+          (stays : ns'.profile ≡ ns.profile)
           (one : (store : List ℕ) → work v' ns' rs' y store d ≡ frame (work v ns rs x store d) (frame_in d p))
           (goes : accept_all v (frame_in d p ∷ rest f d next) ≡ accept_all v' (rest f d next))
           (fits' : AllFit d rs') where
@@ -217,7 +220,7 @@ module _ (f : Profile) (w₀ : ReliableWindow) (ns₀ : Nexts) (rs₀ : List Row
         raised : (k : Tally → ℕ) → k y ≤ k x + (1 + max_cells) → k x ≤ high at → k y ≤ high next
         raised k a b = let w = read_whole f d at p next read in let l : at + 1 ≤ next = omega arith in omega arith
 
-        going-goes : Going f w₀ ns₀ rs₀ turn₀ d v' ns' rs' y next
+        pub going-goes : Going f w₀ ns₀ rs₀ turn₀ d v' ns' rs' y next
         going-goes = record {
           begun = g.begun;
           bytes = g.bytes;
@@ -229,6 +232,7 @@ module _ (f : Profile) (w₀ : ReliableWindow) (ns₀ : Nexts) (rs₀ : List Row
           reaches = sym goes ∙ (ap (accept_all v) (sym more) ∙ g.reaches);
           end = g.end ∙ end_more f d at p next read;
           nexts = many ∙ g.nexts;
+          profile = stays ∙ g.profile;
           turn = raised (λ (z : Tally). z.turn) turned g.turn;
           ready = raised (λ (z : Tally). z.ready) readied g.ready;
           dropped = raised (λ (z : Tally). z.dropped) lost g.dropped;
@@ -242,7 +246,7 @@ module _ (f : Profile) (w₀ : ReliableWindow) (ns₀ : Nexts) (rs₀ : List Row
           → Going f w₀ ns₀ rs₀ turn₀ d v' ns' rs' y next
       going-keeps v' sized e y ns' rs' long steps =
           let m = steps d going-stands going-sane in
-          going-goes v' y ns' rs' long m.long
+          going-goes v' y ns' rs' long m.long m.profile
           (number-keeps v p going-readable.reliable d x ns rs y ns' rs' sized v' m e)
           (number-goes v p going-readable.reliable d (rest f d next) v' e)
           (m.fits g.fits)
@@ -252,7 +256,7 @@ module _ (f : Profile) (w₀ : ReliableWindow) (ns₀ : Nexts) (rs₀ : List Row
           → refuse (number_of n) v' ≡ number_in v p → (y : Tally) → y ≡ dropped_one x
           → Going f w₀ ns₀ rs₀ turn₀ d v' ns rs y next
       going-drops n ne v' e y ey =
-          rw ey (going-goes v' (dropped_one x) ns rs refl refl
+          rw ey (going-goes v' (dropped_one x) ns rs refl refl refl
           (number-drops v p going-readable.reliable d x ns rs (number_of n) v'
           (λ z. ne (five-beyond n z)) e)
           (number-skips v p going-readable.reliable d (rest f d next) (number_of n) v'
@@ -268,6 +272,7 @@ module _ (f : Profile) (w₀ : ReliableWindow) (ns₀ : Nexts) (rs₀ : List Row
       reaches = sym g.reaches ∙ (ap (accept_all v) none_left ∙ taken);
       end = e ∙ (unfold bytes_left in rw (g.end, end-cut f d at (number_of n) cut));
       nexts = g.nexts;
+      profile = g.profile;
     }
       where
         cut : read_frame_of f d at ≡ refused (number_of n)

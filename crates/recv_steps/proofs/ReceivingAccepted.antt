@@ -14,12 +14,14 @@ use Rattle.base.specs.Answer.{gives}
 use Rattle.base.specs.Bytes.{le24}
 use Rattle.base.specs.declared.refusal.Refusal.{Refusal}
 use Rattle.base.specs.declared.refusal.Refusal.TheVariants.{CellsFull, ReliableBeyond}
+use Rattle.base.specs.Refusals.{answer_by}
 use Rattle.base.specs.Limits.{numbers24, max_ord_chans}
 use Rattle.base.specs.Lists.{count_of}
 use Rattle.window.specs.Window as Window
 use Rattle.window.specs.declared.ReliableWindow.{ReliableWindow}
 use Rattle.cells.specs.Cell.{released_use}
 use Rattle.cells.specs.Datagram.{Work, begin, grow, frames, datagram, end}
+use Rattle.cells.proofs.Profile.{datagram-profile}
 use Rattle.cells.specs.Records.{first_cell}
 use Rattle.cells.specs.Store.{cell_size, cells_of, store_of}
 use Rattle.rows.specs.declared.Row.{Row}
@@ -36,14 +38,16 @@ use Rattle.receiver.specs.Queue.{profile_in}
 use Rattle.receiver.specs.Receive.{datagram_number, frames_in, bytes_left, accept_all, state_of, queue_after, accepted_result, receive_of}
 use Rattle.receiver.proofs.Receives.{store_is}
 use Rattle.recv_channel.specs.Advance.{advanced_all}
-use Rattle.recv_lent.specs.Settled.{with_number}
-use Rattle.recv_lent.proofs.Settles.{core-settled}
+use Rattle.recv_lent.specs.Settled.{with_number, settled_of}
+use Rattle.recv_lent.proofs.Settles.{accepted-settled}
 use Rattle.recv_steps.specs.declared.Framed.{Framed}
 use Rattle.recv_steps.specs.declared.Received.{Received}
 use Rattle.recv_steps.specs.Work.{work_of}
 use Rattle.recv_steps.specs.Frames.{begun_tally, Passes, Ran}
-use Rattle.recv_steps.specs.Outcome.{report_of, received_rows, found_in_frames, rows_left, rows_outcome}
+use Rattle.recv_steps.specs.Outcome.{report_of, found_in_frames, rows_left}
 use Rattle.recv_steps.specs.Receives.{Receives, begun_rows}
+use Rattle.recv_steps.specs.Core.{copies_kept, core_left, core_outcome}
+use Rattle.recv_steps.proofs.CoreSettled.{part-settled}
 use Rattle.recv_steps.proofs.Beginning.{begun-work}
 use Rattle.recv_steps.specs.Receives.{Numbered}
 use Rattle.recv_steps.proofs.Receiving.{accepted-is, refused-7, refused-8, refuses-worked}
@@ -137,25 +141,41 @@ module _ (q : RecvQueue) (rows : List Row) (st d : List ℕ) {ascends : Bool} {n
         store-is-flushed = es₂ ∙ (all-flushed d rs₁ st ran.fits store-left
             ∙ sym (accepted-store rs₁ st d after (unfold work_of in refl) ran.fits store-left))
 
-        queue-is : q' ≡ queue_after q (datagram_number d) v (next_at ns₁) (newest_at ns₁)
-        queue-is = eq ∙ (ap (λ (m : ℕ). with_number (advanced_all q ns₁) v m ascends) n.is
-            ∙ core-settled q channels unsent (datagram_number d) small n.fresh n.near n.room v ns₁
-            ran.nexts ascends n.rising)
+        -- the receiver that the definition leaves, and its nexts
+        abbrev given : RecvQueue
+        given = queue_after q (datagram_number d) v (next_at ns₁) (newest_at ns₁)
+
+        given-is : with_number (advanced_all q ns₁) v (datagram_number d) ascends ≡ given
+        given-is = accepted-settled q channels unsent (datagram_number d) small n.fresh n.near n.room v ns₁ ran.nexts ascends n.rising
+
+        profile-kept : ns₁.profile ≡ profile_in q
+        unfolding work work_of state_of
+        profile-kept = ap (λ (z : Work). z.state.profile) done
+            ∙ datagram-profile (state_of q (cells_in rows) st) (frames_in (profile_in q) d)
+
+        nexts-are : ns₁ ≡ nexts_of given
+        unfolding nexts_of with_number advanced_all queue_after profile_in
+        nexts-are = λ i. record { channels = (given-is i).channels; newest = (given-is i).newest; profile = profile-kept i }
 
         left_is : fr.left ≡ bytes_left (profile_in q) d
         left_is = ran.end ∙ ap (λ p. bytes_left p d) profile-is
 
-        result-is : received_rows (Ok (acceptance fr)) q' rs₂ st₂ ≡ rows_outcome rows (accepted_result q st d v after)
-        result-is = unfold received_rows rows_outcome rows_left report_of accepted_result work_of in λ i. record {
+        -- What the core leaves is what it is to leave.
+        core-says : core_left (Ok (acceptance fr)) v ns₁ ascends rs₂ st₂ ≡ core_outcome q rows (accepted_result q st d v after)
+        core-says = unfold core_left core_outcome copies_kept rows_left report_of accepted_result work_of queue_after in λ i. record {
           answer = gives (record { ready = fr.counts.ready; dropped = fr.counts.dropped; left = left_is i });
-          queue = queue-is i;
+          copies = some (record { reliables = v; nexts = nexts-are i; rising = n.rising i });
           rows = rows_are i;
           store = store-is-flushed i;
         }
 
         pub is-accepted : fr.counts.full ≡ false → Receives q rows st d (Ok (acceptance fr)) q' rs₂ st₂
-        is-accepted ne = record { is = rw defined result-is }
+        is-accepted ne = rw settled-is (part-settled q rows st d (Ok (acceptance fr)) v ns₁ ascends rs₂ st₂ unsent small
+            (core-says ∙ sym (ap (core_outcome q rows) defined)))
           where
+            settled-is : q' ≡ settled_of q (answer_by report_of (Ok (acceptance fr))) v ns₁ ascends (datagram_number d)
+            settled-is = unfold settled_of in eq ∙ ap (λ (m : ℕ). with_number (advanced_all q ns₁) v m ascends) n.is
+
             defined : receive_of q (cells_in rows) st d ≡ accepted_result q st d v after
             defined = n.goes ∙ accepted-is q (cells_in rows) st d v reaches (unfold work in sym full_is ∙ ne)
                 ∙ (unfold work in rw done)

@@ -65,7 +65,7 @@ module _ (q : RecvQueue) (cells : ℕ) (rows : List Row) (st d : List ℕ) where
   abbrev Nine : Type 0
   Nine = received_rows (Err NotSound) q rows st ≡ receive_rows_of q cells rows st d
 
-  nine : receive_first q cells (cells_in rows) st d ≡ refused_result q (cells_in rows) st 9 → Nine
+  pub nine : receive_first q cells (cells_in rows) st d ≡ refused_result q (cells_in rows) st 9 → Nine
   nine e = unfold received_rows receive_rows_of rows_outcome in rw e (unfold refused_result rows_left found_in_frames in refl)
 
   pub lengths_not : {l : Bool} → l ≡ lengths cells (length st) → l ≡ false → Nine

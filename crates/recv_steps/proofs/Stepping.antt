@@ -43,17 +43,17 @@ module _ (p k : Placed) (ek : k ≡ p) (lim : Limited k) (x y : Tally) (ns ns' :
       → (d : List ℕ) → Stands d p → Sane d x ns rs → Moves d (limited (frame_in d p)) x ns rs y ns' rs'
   unfolding limited keep_in frame_in
   limited-piece q m = rw (← ek) (λ d s v. let n = m d s v in
-      record { is = λ a store. n.is a store ∙ rw (lim d, q); fits = n.fits; long = n.long })
+      record { is = λ a store. n.is a store ∙ rw (lim d, q); fits = n.fits; long = n.long; profile = n.profile })
 
   pub limited-whole : k.frame.piece ≡ false → ((d : List ℕ) → Stands d k → Moves d (by_fate whole (frame_in d k)) x ns rs y ns' rs')
       → (d : List ℕ) → Stands d p → Sane d x ns rs → Moves d (limited (frame_in d p)) x ns rs y ns' rs'
   unfolding limited keep_in frame_in by_fate
   limited-whole q m = rw (← ek) (λ d s v. let n = m d s in
-      record { is = λ a store. n.is a store ∙ rw (lim d, q); fits = n.fits; long = n.long })
+      record { is = λ a store. n.is a store ∙ rw (lim d, q); fits = n.fits; long = n.long; profile = n.profile })
 
 pub limited-drops : (p : Placed) → ((d : List ℕ) → in_limits (frame_in d p) ≡ false)
     → (x y : Tally) (ns : Nexts) (rs : List Row) → y ≡ dropped_one x → (d : List ℕ) → Stands d p → Sane d x ns rs
     → Moves d (limited (frame_in d p)) x ns rs y ns rs
 unfolding limited
 limited-drops p e x y ns rs ey d s v =
-    rw ey (record { is = λ a store. (moves-drop d x ns rs).is a store ∙ rw (e d); fits = λ z. z; long = refl })
+    rw ey (record { is = λ a store. (moves-drop d x ns rs).is a store ∙ rw (e d); fits = λ z. z; long = refl; profile = refl })

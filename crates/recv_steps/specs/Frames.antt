@@ -36,8 +36,8 @@ pub record Begun (w : ReliableWindow) (ns : Nexts) (rs : List Row) (turn : ℕ) 
 abbrev pub begun_tally : ℕ → Tally
 begun_tally turn = record { turn = turn; ready = 0; dropped = 0; full = false }
 
--- What holds when they are done: the working state is that of the definition, so is the window of reliable numbers, and there is a next for
--- each channel.
+-- What holds when they are done: the working state is that of the definition, so is the window of reliable numbers, there is a next for
+-- each channel, and the profile stays.
 pub record Passes (w : ReliableWindow) (ns : Nexts) (rs : List Row) (turn : ℕ) (d : List ℕ) (y : Tally) (left : ℕ)
     (w' : ReliableWindow) (ns' : Nexts) (rs' : List Row) : Type 0 where
   pub is : (store : List ℕ) → work_of (accepted w') y ns' rs' store d
@@ -46,6 +46,7 @@ pub record Passes (w : ReliableWindow) (ns : Nexts) (rs : List Row) (turn : ℕ)
   pub reaches : accept_all w (frames_in ns.profile d) ≡ some w'
   pub end : left ≡ bytes_left ns.profile d
   pub nexts : length ns'.channels ≡ max_ord_chans
+  pub profile : ns'.profile ≡ ns.profile
 
 -- what the frames come to, with the window, the nexts and the rows afterwards: 7 where a number is beyond reach
 unfoldable pub Ran : ReliableWindow → Nexts → List Row → ℕ → List ℕ → Result Framed Refusal → ReliableWindow → Nexts → List Row → Type 0

@@ -4,4 +4,5 @@ pub mod Placing
 pub mod Moves
 pub mod Frames
 pub mod Outcome
+pub mod Core
 pub mod Receives

@@ -21,13 +21,14 @@ pub record Changes (d : List ℕ) (g : List Slot → List Slot) (rs rs' : List R
   pub is : (store : List ℕ) → slots_in rs' store d ≡ g (slots_in rs store d)
   pub fits : AllFit d rs → AllFit d rs'
 
--- x, ns and rs become y, ns' and rs': the working state is changed by g, whatever numbers were accepted, the rows still fit, and
--- the channels are as many
+-- x, ns and rs become y, ns' and rs': the working state is changed by g, whatever numbers were accepted, the rows still fit, the
+-- channels are as many, and the profile stays
 pub record Moves (d : List ℕ) (g : Work → Work) (x : Tally) (ns : Nexts) (rs : List Row) (y : Tally) (ns' : Nexts) (rs' : List Row)
     : Type 0 where
   pub is : (a : ℕ → Bool) (store : List ℕ) → work_of a y ns' rs' store d ≡ g (work_of a x ns rs store d)
   pub fits : AllFit d rs → AllFit d rs'
   pub long : length ns'.channels ≡ length ns.channels
+  pub profile : ns'.profile ≡ ns.profile
 
 -- what steps 2 to 4 ask of the rows rs, the nexts ns and the counts x: not more rows than cells, and no number wraps, even if all held
 -- messages follow

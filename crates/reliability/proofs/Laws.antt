@@ -165,7 +165,7 @@ refused-told n m e = go (dec_lt n profiles)
         let same : refused m ≡ refused 9 = e ∙ sym (lt_no n profiles _ _ _ (omega arith) refl) in
         (omega arith, cc)
 
-console-else : (n : ℕ) → (n ≡ 1 → ⊥) → Console ≡ profile_of n
+pub console-else : (n : ℕ) → (n ≡ 1 → ⊥) → Console ≡ profile_of n
 unfolding profile_of
 console-else n e = sym (ap (λ b. cond b Cpp Console) (ne_eqb n 1 e))
 

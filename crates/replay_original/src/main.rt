@@ -137,8 +137,8 @@ const DATA: usize = 65536;
 // (`as usize`: u32 has no From to it.)
 fn split_item(p: &[u8]) -> bool {
     let mut data = [0u8; DATA];
-    replay::fill(&mut data, 0);
     let n = replay::within(&data, base::be32_at(p, 0) as usize);
+    replay::fill(&mut data[..n], 0);
     split_right(&data[..n], p)
 }
 

@@ -32,7 +32,7 @@ module _ (p : Cell → Bool) where
   unfolding index_of cells_in
   index-more r rows = ap (cond (p (cell_of r)) 0) (omega arith)
 
-  index-none : index_of p (cells_in []) ≡ 0
+  pub index-none : index_of p (cells_in []) ≡ 0
   unfolding index_of cells_in
   index-none = refl
 

@@ -104,7 +104,8 @@ module _ (rows : List Row) (next : ℕ → ℕ) (seen : List ℕ) (greatest : �
         (eqb (at + length run - at) (cell_at rows at).count) ≡ true
     row-due e y = let m : at + length run - at ≡ length run = omega arith in rw (m, ← row_cell rows at q) (sym e ∙ y)
 
-    goes-run : {k m : ℕ} {b d f : Bool} {v : List ℕ} → (r.cell.used ≡ 0 → ⊥) → b ≡ (limits r.cell && ahead_of_next next r.cell) → b ≡ true
+    pub goes-run : {k m : ℕ} {b d f : Bool} {v : List ℕ} → (r.cell.used ≡ 0 → ⊥)
+        → b ≡ (limits r.cell && ahead_of_next next r.cell) → b ≡ true
         → d ≡ cond (eqb r.cell.used 1) (not (eqb (length run) r.cell.count)) (eqb (length run) r.cell.count) → d ≡ true
         → k ≡ key_part r.cell → f ≡ is_fresh seen greatest k → f ≡ true → v ≡ noted seen k → m ≡ max greatest k → Going rows next v m last
     goes-run u w y e z k f t n m =

@@ -68,7 +68,7 @@ fn goes_on(r: &Row, s: &Row) -> bool
 {
     let a = &r.cell;
     let d = &s.cell;
-    if a.count == 1 {
+    if (a.count == 1) | (a.used == cells::UNUSED) {
         return false;
     }
     let mate = is_mate(a, d);

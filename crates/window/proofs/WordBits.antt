@@ -42,7 +42,7 @@ module _ (bits : List ℕ) where
   places-small n (suc c) = omega (arith, pow-suc 2 c, places-small (suc n) c, place-small n)
 
   -- those of the first a, and above them those of the others
-  places-join : (n a c : ℕ) → places_from bits n (a + c) ≡ places_from bits (n + a) c * 2 ^ a + places_from bits n a
+  pub places-join : (n a c : ℕ) → places_from bits n (a + c) ≡ places_from bits (n + a) c * 2 ^ a + places_from bits n a
   unfolding places_from
   places-join n zero c = rw (zero-add, add-zero, mul-one, add-zero)
   places-join n (suc a) c =

@@ -1,5 +1,6 @@
 use mathlib.Core.Path.{◌∙◌}
 use native.Mathlib.Omega.{arith}
+use borrow.Author.Rules.{rules}
 use Rattle.recv_steps.proofs.Beginning.{few_rows, may_begin}
 use Rattle.recv_steps.proofs.ReceivingAccepted.{number-small, beyond-reach, ran_out, is-accepted}
 use Rattle.recv_steps.proofs.steps.datagram.receive.receive_frames.Goals as goal
@@ -21,7 +22,7 @@ returns-in-Ok c =
     let begun = c.begin-turn.ensures in
     let left = c.refuse.ensures in
     rw left.is (ran_out _ _ _ _ n c.nexts_of-nexts.ensures _ _ begun.turn begun.rows _ _ _ _
-    c.frames.ensures _ c.in-Ok.is c.if-framed.true (c.frames.auto.rows ∙ c.begin-turn.auto.rows) left.rows)
+    c.frames.ensures _ c.in-Ok.is (search rules) (c.frames.auto.rows ∙ c.begin-turn.auto.rows) left.rows)
 
 pub returns-in-Err : goal.returns-in-Err
 returns-in-Err c =
@@ -36,4 +37,4 @@ returns c =
     let begun = c.begin-turn.ensures in
     is-accepted _ _ _ _ n c.nexts_of-nexts.ensures _ _ begun.turn begun.rows _ _ _ _
     c.frames.ensures _ c.in-Ok.is (c.frames.auto.rows ∙ c.begin-turn.auto.rows) (number-small _ c.type_inv.datagram) n.channels
-    (omega arith) c.settle.ensures.rows c.settle.ensures.store c.settle-2.ensures c.if-framed.false
+    (omega arith) c.settle.ensures.rows c.settle.ensures.store c.settle-2.ensures (search rules)
