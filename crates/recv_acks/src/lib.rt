@@ -18,7 +18,7 @@ use receiver::RecvQueue;
 pub fn write_unsent(queue: &mut RecvQueue, out: &mut [u8]) -> Result<usize, Refusal>
     ensures { wrote result queue.new out.new ≡ write_unsent_of queue.old out.old }
 {
-    let ascending = sound_queue::sound_queue(queue)?;
+    let ascending = sound_queue::check_queue(queue)?;
     let len = write_numbers(out, &queue.unsent[..queue.pending as usize], ascending)?;
     queue.pending = 0;
     Ok(len)
@@ -29,7 +29,7 @@ pub fn write_unsent(queue: &mut RecvQueue, out: &mut [u8]) -> Result<usize, Refu
 pub fn write_missing(queue: &RecvQueue, out: &mut [u8]) -> Result<usize, Refusal>
     ensures { wrote result queue.now out.new ≡ write_missing_of queue.now out.old }
 {
-    sound_queue::sound_queue(queue)?;
+    sound_queue::check_queue(queue)?;
     // (An array, as there is no heap: a window has no more places.)
     let mut list = [0u32; base::MAX_LIST];
     let m = queue.datagrams.missing(&mut list);

@@ -1,5 +1,5 @@
 // A channel's record, advanced in place. Document 01: "thin function on a channel record lent by &mut: next order number moved past ready
-// messages, after the by-value core". Receive works on a copy of the nexts and memories (`nexts_of`); the records are then moved to those
+// messages, after the by-value core". Receive works on a copy of the nexts and memories (`copy_nexts`); the records are then moved to those
 // that it comes to.
 
 #![tactic(auto)]
@@ -8,11 +8,14 @@ ghost use Rattle.std.specs.Prelude.{◌≡◌};
 ghost use Rattle.receiver.specs.Parts.{channel_with, nexts_of};
 ghost use Rattle.recv_channel.specs.Advance.{advanced_all};
 
+mod lists;
+
+pub use lists::{advance_all, nexts_of};
 use receiver::{Channel, Nexts, RecvQueue};
 
-// The copy. (A `From` could stand only in `receiver`, away from `advance_all`, which takes the copy back: the two are read together.)
+// The copy. (A `From` could stand only in `receiver`, away from `advance_to`, which takes the copy back: the two are read together.)
 #[tactic(auto, unfolding(receiver::specs::Parts::nexts_of, receiver::specs::Queue::profile_in))]
-pub fn nexts_of(queue: &RecvQueue) -> Nexts
+pub fn copy_nexts(queue: &RecvQueue) -> Nexts
     ensures { result ≡ nexts_of queue.now }
 {
     Nexts {
@@ -54,7 +57,7 @@ fn advance_each(
 
 // Every record of the receiver, and its own memory. It keeps its profile.
 #[tactic(auto, unfolding(crate::specs::Advance::advanced_all))]
-pub fn advance_all(queue: &mut RecvQueue, nexts: &Nexts)
+pub fn advance_to(queue: &mut RecvQueue, nexts: &Nexts)
     ensures { queue.new ≡ advanced_all queue.old nexts.now }
 {
     advance_each(&mut queue.channels, &nexts.channels);

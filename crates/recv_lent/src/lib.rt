@@ -43,6 +43,6 @@ pub fn settle(
 )
     ensures { queue.new ≡ with_number (advanced_all queue.old nexts.now) reliables.now number ascending }
 {
-    recv_channel::advance_all(queue, nexts);
+    recv_channel::advance_to(queue, nexts);
     accept(queue, reliables, number, ascending);
 }

@@ -9,6 +9,9 @@ ghost use Rattle.bare.specs.Bare.{memory_of, older};
 ghost use Rattle.receiver.specs.Parts.{newest_at, with_newest};
 ghost use Rattle.recv_memory.specs.Remembered.{memory_number, remembered};
 
+mod lists;
+
+pub use lists::{is_older, profile_for, remember};
 use receiver::{Channel, Nexts};
 use reliability::{Profile, Reliability};
 
@@ -22,18 +25,18 @@ enum Memory {
 
 // "at or below it": is the sequence number no newer than what its memory holds?
 #[tactic(auto, unfolding(bare::specs::Bare::older))]
-pub fn is_older(nexts: &Nexts, kind: u8, channel: u8, sequence: u32) -> bool
+pub fn is_older_in(nexts: &Nexts, kind: u8, channel: u8, sequence: u32) -> bool
     ensures { result ≡ older (newest_at nexts.now) (memory_of nexts.now.profile kind channel) sequence }
 {
-    sequence < newest_at(nexts, memory_of(nexts, kind, channel))
+    sequence < newest_at(nexts, memory_of(nexts.profile, kind, channel))
 }
 
 // Its memory holds the sequence number from now on. One of 2^24 or more is none, and a memory past the last is not there.
 #[tactic(auto, unfolding(crate::specs::Remembered::remembered, base::specs::If::if_lt, base::specs::If::if_true))]
-pub fn remember(nexts: &mut Nexts, kind: u8, channel: u8, sequence: u32)
+pub fn remember_in(nexts: &mut Nexts, kind: u8, channel: u8, sequence: u32)
     ensures { nexts.new ≡ remembered (memory_of nexts.old.profile kind channel) sequence nexts.old }
 {
-    let memory = memory_of(nexts, kind, channel);
+    let memory = memory_of(nexts.profile, kind, channel);
     if sequence < base::NUMBERS_24 {
         set_newest(nexts, memory, sequence + 1);
     }
@@ -42,13 +45,13 @@ pub fn remember(nexts: &mut Nexts, kind: u8, channel: u8, sequence: u32)
 // Kind 1 goes by its channel's memory, kind 4 by the receiver's own, or in the C++ profile by its channel's. (The kind is a frame's number:
 // the open functions answer for any kind, and a `Reliability` would ask more of their callers.)
 #[tactic(auto, unfolding(bare::specs::Bare::memory_of))]
-fn memory_of(nexts: &Nexts, kind: u8, channel: u8) -> Memory
-    ensures { memory_number result ≡ memory_of nexts.now.profile kind channel }
+fn memory_of(profile: Profile, kind: u8, channel: u8) -> Memory
+    ensures { memory_number result ≡ memory_of profile kind channel }
 {
     if kind == u8::from(Reliability::UnreliableSeq) {
         return Memory::Of(channel);
     }
-    match nexts.profile {
+    match profile {
         Profile::Console => Memory::Own,
         Profile::Cpp => Memory::Of(channel),
     }

@@ -50,7 +50,7 @@ fn receive_in(
 {
     let k = rows.len();
     super::convert(&records[..k], rows);
-    let received = recv_steps::receive_rows(queue, rows, records.len(), store, datagram)?;
+    let received = recv_steps::receive_over(queue, rows, records.len(), store, datagram)?;
     super::convert(rows, &mut records[..k]);
     Ok(received)
 }

@@ -26,7 +26,7 @@ fn take_in(
 {
     let k = rows.len();
     super::convert(&records[..k], rows);
-    let given = recv_take::take_rows(queue, rows, records.len(), store, joined)?;
+    let given = recv_take::take_over(queue, rows, records.len(), store, joined)?;
     super::free_where(&mut records[..k], |c| row_tests::is_ready(c, given.turn));
     Ok(given.taken)
 }

@@ -79,7 +79,7 @@ fn restored(rows: &mut [Row], image: &[u8]) -> Option<RecvQueue>
 fn is_sound(queue: &RecvQueue, rows: &[Row]) -> bool
     ensures { result ≡ (sound_queue queue.now && sound_cells (cells_in rows.now) (next_of queue.now)) }
 {
-    sound_queue::sound_queue(queue).is_ok() && sound_cells::sound_cells(rows, &queue.channels)
+    sound_queue::check_queue(queue).is_ok() && sound_cells::are_sound(rows, &queue.channels)
 }
 
 // ---- numbers

@@ -13,3 +13,4 @@ pub mod Receiving
 pub mod CoreSettled
 pub mod ReceivingAccepted
 pub mod ReceivingRows
+pub mod ByParts

@@ -4,5 +4,6 @@ pub mod Placing
 pub mod Moves
 pub mod Frames
 pub mod Outcome
+pub mod ByParts
 pub mod Core
 pub mod Receives

@@ -18,6 +18,7 @@ ghost use Rattle.receiver.specs.Parts.{next_at};
 ghost use Rattle.recv_steps.specs.Placing.{row_for, Stands, ReadablePlaced, Limited};
 ghost use Rattle.recv_steps.specs.Moves.{Changes};
 
+use base::Refusal;
 use cells::CellRecord;
 use frame::Placed;
 use receiver::Nexts;
@@ -26,7 +27,8 @@ use rows::Row;
 
 mod steps;
 
-pub use steps::datagram::receive::receive_rows;
+pub use steps::datagram::parts::receive_rows;
+pub use steps::datagram::receive::receive_over;
 
 // What an accepted datagram comes to: how many messages were made ready and how many frames dropped, and the bytes left.
 #[derive(Clone, Copy, Debug, PartialEq, Eq)]
@@ -34,6 +36,15 @@ pub struct Received {
     pub ready: u32,
     pub dropped: u32,
     pub left: usize,
+}
+
+// What a receive comes to whose receiver is lent by its parts: the answer; the low number of the window of reliable numbers; and whether the
+// unsent numbers ascended before, which is told only where the datagram is accepted.
+#[derive(Clone, Copy, Debug, PartialEq, Eq)]
+pub struct PassedRows {
+    pub answer: Result<Received, Refusal>,
+    pub low: u32,
+    pub ascending: bool,
 }
 
 // What a datagram's frames count. turn: that of the next message made ready. full: a body found no cell. (A flag, and no refusal at once: a
@@ -216,7 +227,7 @@ fn fate_of(rows: &[Row], nexts: &Nexts, kept: KeptFrame) -> Course
             Course::Early
         }
         Reliability::UnreliableSeq | Reliability::ReliableSeq => {
-            if recv_memory::is_older(nexts, f.kind, f.channel, f.sequence) {
+            if recv_memory::is_older_in(nexts, f.kind, f.channel, f.sequence) {
                 return Course::Late;
             }
             Course::Newer

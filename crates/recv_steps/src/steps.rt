@@ -93,7 +93,7 @@ fn whole(rows: &mut [Row], nexts: &mut Nexts, s: Tally, kept: KeptFrame) -> Tall
         Course::Due => ready_due(rows, nexts, s, kept),
         Course::Newer => {
             let f = kept.placed.frame;
-            recv_memory::remember(nexts, f.kind, f.channel, f.sequence);
+            recv_memory::remember_in(nexts, f.kind, f.channel, f.sequence);
             ready(rows, s, kept)
         }
         Course::Free => ready(rows, s, kept),
@@ -132,7 +132,7 @@ fn joins(rows: &mut [Row], nexts: &mut Nexts, s: Tally, kept: KeptFrame) -> Tall
         }
         Course::Newer => {
             let f = kept.placed.frame;
-            recv_memory::remember(nexts, f.kind, f.channel, f.sequence);
+            recv_memory::remember_in(nexts, f.kind, f.channel, f.sequence);
             turn_ready(rows, s, id)
         }
         Course::Free => turn_ready(rows, s, id),

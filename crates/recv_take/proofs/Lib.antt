@@ -2,3 +2,4 @@ pub mod Pieces
 pub mod Turns
 pub mod Calls
 pub mod First
+pub mod ByParts

@@ -2,11 +2,12 @@
 
 #![tactic(auto)]
 
-ghost use Rattle.std.specs.Prelude.{◌≡◌, ◌<◌, length};
+ghost use Rattle.std.specs.Prelude.{◌≡◌, ◌<◌, length, take};
 ghost use Rattle.cells.specs.Cell.{ready_as, at};
 ghost use Rattle.cells.specs.Records.{index_of};
 ghost use Rattle.rows.specs.Rows.{cell_of, cells_in, whole_row};
 ghost use Rattle.receiver.specs.Take.{take_of};
+ghost use Rattle.recv_parts.specs.Parts.{queue_of};
 ghost use Rattle.recv_take.specs.Outcome.{taken_rows, earliest_turn, outcome_at, take_rows_of};
 ghost use Rattle.recv_take.specs.Pieces.{Takeable, take_turn};
 
@@ -16,6 +17,7 @@ use base::Refusal;
 use cells::CellRecord;
 use message::Message;
 use receiver::RecvQueue;
+use recv_parts::Heads;
 use rows::Row;
 
 // Where a message's bytes stand: in its cell, a part of the store, or at the front of the joining buffer.
@@ -41,11 +43,34 @@ pub struct TakenRows {
     pub turn: u32,
 }
 
+// Take over the first k rows, which are the first of so many cells' records, of a receiver that is lent by its parts: arrays of any length,
+// since a take asks of the receiver only whether it is sound. The refusals are those of `take_over`.
+#[tactic(auto, using(crate::proofs::ByParts::parts_take))]
+pub fn take_rows(
+    h: Heads,
+    dbits: &[u8],
+    rbits: &[u8],
+    nexts: &[u32],
+    unsent: &[u32],
+    rows: &[Row],
+    k: usize,
+    cells: usize,
+    store: &[u8],
+    joined: &mut [u8],
+) -> Result<TakenRows, Refusal>
+    ensures { taken_rows result joined.new
+        ≡ take_rows_of (queue_of h dbits.now rbits.now nexts.now unsent.now) cells
+        (take k rows.now) store.now joined.old }
+{
+    let queue = recv_parts::queue_of(h, dbits, rbits, nexts, unsent);
+    take_over(&queue, &rows[..k.min(rows.len())], cells, store, joined)
+}
+
 // Take over rows, which are the first of so many cells' records; they are only read. Refusals: 9 (NotSound), 20 (NoneReady), 12 (NoRoom).
 // (`cells` stands beside the rows, and the lengths are tested although `take` did so before it loaded rows: an open function tells itself
 // what it refuses, fewer cells than rows and lengths that do not fit.)
 #[tactic(auto, using(crate::proofs::First::ways), unfolding(cells::specs::Sound::lengths))]
-pub fn take_rows(
+pub fn take_over(
     queue: &RecvQueue,
     rows: &[Row],
     cells: usize,

@@ -27,5 +27,5 @@ pub fn is_sound(queue: &RecvQueue, rows: &[Row], store: &[u8]) -> bool
     if !lengths_fit(rows.len(), store.len()) {
         return false;
     }
-    sound_queue::sound_queue(queue).is_ok() && sound_cells::sound_cells(rows, &queue.channels)
+    sound_queue::check_queue(queue).is_ok() && sound_cells::are_sound(rows, &queue.channels)
 }

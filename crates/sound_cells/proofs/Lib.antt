@@ -10,3 +10,4 @@ pub mod EntryCases
 pub mod Seen
 pub mod Ordered
 pub mod OrderCases
+pub mod ByParts

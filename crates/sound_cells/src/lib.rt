@@ -16,7 +16,7 @@ use rows::Row;
 
 mod order;
 
-pub use order::sound_cells;
+pub use order::{are_sound, sound_cells};
 
 const MAX_KIND: u32 = 7;
 

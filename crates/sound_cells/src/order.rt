@@ -14,7 +14,7 @@ use rows::Row;
 
 mod entries;
 
-pub use entries::sound_cells;
+pub use entries::{are_sound, sound_cells};
 
 // (window tests its bits so, too, but in bytes.)
 #[tactic(auto, unfolding(crate::specs::Ordered::has_bit, window::specs::Places::bit))]

@@ -1,3 +1,4 @@
 pub mod Ascending
 pub mod Chains
 pub mod Rules
+pub mod ByParts

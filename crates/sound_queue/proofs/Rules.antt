@@ -198,7 +198,7 @@ unfolding next_of newest_of
 nexts_by_parts q long = sym (in_two q.channels q.newest long)
 
 module _ (q : RecvQueue) where
-  sound-is : sound_queue q ≡ (sound_values q && sound_numbers q.datagrams (unsent_of q))
+  pub sound-is : sound_queue q ≡ (sound_values q && sound_numbers q.datagrams (unsent_of q))
   unfolding sound_queue sound_unsent sound_values sound_numbers sound_number
   sound-is = and-six (sound_window q.datagrams) (sound_window q.reliables) (sound_nexts (next_of q)) (sound_memories (newest_of q))
       (sound_profile q.profile) (leb q.pending max_unsent) (sound_numbers q.datagrams (unsent_of q))

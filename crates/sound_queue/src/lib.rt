@@ -8,23 +8,39 @@ ghost use Rattle.base.specs.Lists.{every};
 ghost use Rattle.window.specs.Places.{place_set};
 ghost use Rattle.ack.specs.Write.{ascending};
 ghost use Rattle.cells.specs.Sound.{sound_nexts, sound_memories};
+ghost use Rattle.recv_parts.specs.Parts.{queue_of};
 ghost use Rattle.receiver.specs.Queue.{next_of, newest_of, differ, places_within, sound_window};
 ghost use Rattle.sound_queue.specs.Sound.{queue_sound_of, sound_values, nexts_within, joined};
 ghost use Rattle.sound_queue.specs.Sound.{sound_number, sound_numbers, numbers_sound_of};
 
 use base::Refusal;
 use receiver::{Channel, RecvQueue};
+use recv_parts::Heads;
 use window::ReliableWindow;
 
 // `NotSound`, or whether the unsent numbers ascend, as they do wherever they joined one by one. (`as usize`: u32 has no From to it.)
 #[tactic(auto, using(crate::proofs::Rules::whole))]
-pub fn sound_queue(queue: &RecvQueue) -> Result<bool, Refusal>
+pub fn check_queue(queue: &RecvQueue) -> Result<bool, Refusal>
     ensures { result ≡ queue_sound_of queue.now }
 {
     if !sound_values(queue) {
         return Err(Refusal::NotSound);
     }
     sound_numbers(&queue.datagrams, &queue.unsent[..queue.pending as usize])
+}
+
+// The same of a receiver that is lent by its parts, arrays of every length.
+#[tactic(auto, using(crate::proofs::ByParts::by_parts))]
+pub fn sound_queue(
+    h: Heads,
+    dbits: &[u8],
+    rbits: &[u8],
+    nexts: &[u32],
+    unsent: &[u32],
+) -> Result<bool, Refusal>
+    ensures { result ≡ queue_sound_of (queue_of h dbits.now rbits.now nexts.now unsent.now) }
+{
+    check_queue(&recv_parts::queue_of(h, dbits, rbits, nexts, unsent))
 }
 
 // All rules but those on the unsent numbers themselves.

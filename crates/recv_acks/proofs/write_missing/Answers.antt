@@ -13,4 +13,4 @@ slice_bounds-write_list-end c = sym (length-take-le _ _ (search (rules, missing-
 pub returns : goal.returns
 returns c = let written = c.write_list.ensures in
     let is = missing-first _ _ _ _ c.missing-m.ensures (search rules) in
-    missing-sound _ _ _ c.in_ok-sound_queue.ensures _ (rw is at written.result_value) _ (rw is at written.out_after)
+    missing-sound _ _ _ c.in_ok-check_queue.ensures _ (rw is at written.result_value) _ (rw is at written.out_after)

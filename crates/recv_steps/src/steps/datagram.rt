@@ -17,6 +17,7 @@ use receiver::Nexts;
 use rows::Row;
 use window::ReliableWindow;
 
+pub mod parts;
 pub mod receive;
 
 // What the frames begin with: the ready messages' turns are 0, 1, 2, .., all bodies stand in the store, and the open rows have grown older.

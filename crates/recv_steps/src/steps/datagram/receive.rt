@@ -12,7 +12,7 @@ use receiver::{Channel, RecvQueue};
 use rows::Row;
 
 // Receive on the rows, which stand for the first of so many records. Refusal 9, not sound: the slice lengths.
-pub fn receive_rows(
+pub fn receive_over(
     queue: &mut RecvQueue,
     rows: &mut [Row],
     cells: usize,
@@ -45,7 +45,7 @@ fn receive_first(
     ensures { Receives queue.old rows.old store.old datagram.now
         result queue.new rows.new store.new }
 {
-    let ascends = sound_queue::sound_queue(queue)?;
+    let ascends = sound_queue::check_queue(queue)?;
     check_cells(rows, &queue.channels)?;
     receive_sound(queue, rows, store, datagram, ascends)
 }
@@ -82,7 +82,7 @@ fn receive_frames(
         result queue.new rows.new store.new }
 {
     let mut reliables = queue.reliables;
-    let mut nexts = recv_channel::nexts_of(queue);
+    let mut nexts = recv_channel::copy_nexts(queue);
     let turn = super::begin(rows);
     let framed = match super::frames(rows, &mut reliables, &mut nexts, turn, datagram) {
         Ok(framed) if framed.counts.full => return refuse(rows, Refusal::CellsFull),
@@ -103,7 +103,7 @@ fn receive_frames(
 fn check_cells(rows: &[Row], channels: &[Channel]) -> Result<(), Refusal>
     ensures { result ≡ cells_of rows.now channels.now }
 {
-    if sound_cells::sound_cells(rows, channels) {
+    if sound_cells::are_sound(rows, channels) {
         return Ok(());
     }
     Err(Refusal::NotSound)

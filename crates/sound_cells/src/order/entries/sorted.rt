@@ -17,7 +17,7 @@ use rows::Row;
 
 mod tiers;
 
-pub use tiers::sound_cells;
+pub use tiers::{are_sound, sound_cells};
 
 // How long lists for so many rows are: the first entry is no row's.
 const FEW_ENTRIES: usize = FEW + 1;

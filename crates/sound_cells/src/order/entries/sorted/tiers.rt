@@ -3,6 +3,7 @@ ghost use Rattle.std.specs.Prelude.{◌≡◌};
 ghost use Rattle.cells.specs.Sound.{sound_cells};
 ghost use Rattle.rows.specs.Rows.{cells_in};
 ghost use Rattle.receiver.specs.Queue.{next_in};
+ghost use Rattle.recv_parts.specs.Parts.{next_at};
 
 use super::{FEW_ENTRIES, by_entries, by_lists};
 use crate::order::by_order;
@@ -27,11 +28,19 @@ fn by_size(rows: &[Row], channels: &[Channel]) -> bool
 // Are the cells' records sound beside these channels' next order numbers? The order of the rows tells it soonest, then sorted entries of
 // them. For these the slices are made anew: LLVM then keeps no copy of them in memory on the common path.
 #[tactic(auto, using(crate::proofs::EntryCases::told))]
-pub fn sound_cells(rows: &[Row], channels: &[Channel]) -> bool
+pub fn are_sound(rows: &[Row], channels: &[Channel]) -> bool
     ensures { result ≡ sound_cells (cells_in rows.now) (next_in channels.now) }
 {
     if by_order(rows, channels) {
         return true;
     }
     by_size(&rows[0..], &channels[0..])
+}
+
+// The same beside the nexts as numbers, a list of any length (recv_parts): what has no number is 0.
+#[tactic(auto, using(crate::proofs::ByParts::by_list))]
+pub fn sound_cells(rows: &[Row], nexts: &[u32]) -> bool
+    ensures { result ≡ sound_cells (cells_in rows.now) (next_at nexts.now) }
+{
+    are_sound(rows, &recv_parts::channels_of(nexts))
 }

@@ -2,8 +2,8 @@ use mathlib.Core.Path.{refl, sym, ◌∙◌}
 use native.Mathlib.Omega.{arith}
 use lib.Seq.{length-take-le}
 use Rattle.recv_steps.proofs.ReceivingRows.{store-room, store-fit, part-fit, lengths_not, no_row, too_many, received}
-use Rattle.recv_steps.proofs.steps.datagram.receive.receive_rows.Goals.{then-n-eq0-via-then-n-eq0, then-n-eq0-via-else-n-eq0+then-cells-n}
-use Rattle.recv_steps.proofs.steps.datagram.receive.receive_rows.Goals as goal
+use Rattle.recv_steps.proofs.steps.datagram.receive.receive_over.Goals.{then-n-eq0-via-then-n-eq0, then-n-eq0-via-else-n-eq0+then-cells-n}
+use Rattle.recv_steps.proofs.steps.datagram.receive.receive_over.Goals as goal
 
 pub returns-then-not-lengths_fit : goal.returns-then-not-lengths_fit
 returns-then-not-lengths_fit c = lengths_not _ _ _ _ _ c.lengths_fit.ensures c.if-not-lengths_fit.true

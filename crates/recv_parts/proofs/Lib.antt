@@ -1,0 +1,3 @@
+pub mod ByParts
+pub mod Laws
+pub mod Fits
